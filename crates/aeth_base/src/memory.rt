@@ -1,4 +1,6 @@
 // Want of memory.
+ghost use Rattle.std.specs.Prelude.{Some, codes};
+
 use std::alloc::{AllocError, AllocFailed};
 use std::error::Error;
 use std::fmt;
@@ -10,6 +12,8 @@ use std::fmt;
 pub struct NoMemory;
 
 impl fmt::Display for NoMemory {
+    ghost output = { λ _. Some (codes "out of memory") };
+
     fn fmt<W: fmt::Write>(&self, f: &mut fmt::Formatter<W>) -> fmt::Result {
         write!(f, "out of memory")
     }
