@@ -1,2 +1,4 @@
 pub mod Lists
+pub mod NameLemmas
 pub mod Numbers
+mod PathLemmas

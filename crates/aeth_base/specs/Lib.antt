@@ -1,2 +1,5 @@
 pub mod Answers
+pub mod Name
+pub mod NameBytes
 pub mod Number
+pub mod PathLinks

@@ -3,7 +3,7 @@
 ghost use Rattle.aeth_base.specs.Answers.{Gives};
 ghost use Rattle.std.specs.Prelude.{◌≡◌, length, nat_le, IfOk, Ok, Err, if◌then◌else◌};
 
-use crate::{NoMemory, ceil_div, push_number, read_number};
+use crate::{LinkId, Name, NoMemory, Path, ceil_div, push_number, read_number};
 use std::alloc::Global;
 use std::test::Fail;
 
@@ -77,4 +77,42 @@ fn a_reader_gives_its_value(rt: HostRuntime) -> Result<(), Fail> {
     );
     assert_eq!(rt; read_word(rt.alloc(), b"flits").is_err(), true);
     Ok(())
+}
+
+#[test]
+fn names_are_short_words(rt: HostRuntime) {
+    let longest = [b'z'; 32];
+    let words = [
+        b"a".as_slice(),
+        b"n_0".as_slice(),
+        b"9".as_slice(),
+        longest.as_slice(),
+    ];
+    for word in words {
+        assert_eq!(rt;
+            Name::new(word).map(|name| name.as_bytes().len()),
+            Some(word.len())
+        );
+    }
+    let too_long = [b'z'; 33];
+    let others = [
+        b"".as_slice(),
+        b"N0".as_slice(),
+        b"n-0".as_slice(),
+        too_long.as_slice(),
+    ];
+    for word in others {
+        assert_eq!(rt; Name::new(word).is_none(), true);
+    }
+}
+
+#[test]
+fn a_path_has_eight_links_at_most(rt: HostRuntime) {
+    let mut path = Path::empty();
+    for i in 0..8 {
+        assert!(rt; path.push(LinkId(10 + i)));
+    }
+    assert!(rt; !path.push(LinkId(18)));
+    assert_eq!(rt; path.len(), 8);
+    assert_eq!(rt; path.link(7), LinkId(17));
 }
