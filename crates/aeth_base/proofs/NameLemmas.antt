@@ -26,7 +26,7 @@ is_padded-written name zeros are_zeros short named =
       named = rw (take-append_seam name (drop (length name) zeros)) named;
     }
 
--- names of one length that are equal with their zeros are equal
+-- Names of one length that are equal with their zeros are equal.
 padded-same : (a b : List ℕ) → padded a ≡ padded b → length a ≡ length b → a ≡ b
 padded-same a b same len =
     sym (take-append_seam a (replicate (32 - length a) 0)) ∙ ap (take (length a)) same

@@ -11,30 +11,30 @@ use Rattle.std.proofs.lemmas.Bool.{both_ways}
 use Rattle.aeth_base.proofs.Numbers.{number_of-decimal, number_of-none}
 use Rattle.aeth_base.proofs.number.read_number.Goals as goal
 
--- what is said of the value, where there is one
+-- What is said of the value, where there is one.
 at_value : {T E : Type 0} (P : T → Type 0) (Q : E → Type 0) (r : Result T E) (x : T)
     → Some x ≡ result_ok r → MatchResult r P Q → P x
 at_value P Q (Ok y) x same said = subst P (sym (same_Some x y same)) said
 at_value P Q (Err e) x same said = absurd (none-some x (sym same))
 
--- what is said of the error, where there is no value
+-- What is said of the error, where there is no value.
 at_error : {T E : Type 0} (P : T → Type 0) (Q : E → Type 0) (r : Result T E)
     → None ≡ result_ok r → MatchResult r P Q → (e : E) × Q e
 at_error P Q (Ok y) same said = absurd (none-some y same)
 at_error P Q (Err e) same said = (e, said)
 
--- the decimal of a number is text
+-- The decimal of a number is text.
 utf8-decimal : (n : ℕ) (text : List ℕ) → n < 2 ^ 64 → text ≡ decimal n → IsUtf8 text
 utf8-decimal n text small is_text =
     IsUtf8-from_ascii text (subst IsAscii (sym is_text) (IsAscii-decimal n small))
 
--- what is parsed from the decimal of a number is the number
+-- What is parsed from the decimal of a number is the number.
 parsed-decimal : {E : Type 0} (text : List ℕ) (r : Result ℕ E) → ParsesUnsigned 64 10 text r
     → (n : ℕ) → n < 2 ^ 64 → text ≡ decimal n → Some n ≡ result_ok r
 parsed-decimal text r parsed n small is_text =
     sym (ap result_ok (parse-decimal 64 n text r small small is_text parsed))
 
--- what is parsed fits 64 bits
+-- What is parsed fits 64 bits.
 parsed-lt : {E : Type 0} (n : ℕ) (text : List ℕ) (r : Result ℕ E)
     → Some n ≡ result_ok r → ParsesUnsigned 64 10 text r → n < 2 ^ 64
 parsed-lt n text (Ok m) same parsed = omega (arith, same_Some n m same, parsed.0.1, parsed.1)

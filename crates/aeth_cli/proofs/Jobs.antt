@@ -1,0 +1,27 @@
+-- Laws of jobs: each has one text at most.
+use Rattle.std.proofs.Common.{◌≡◌, ◌∙◌, ◌⊎◌, ℕ, List, [], length, Option, Some, None, ap, refl, inl, inr, length-append, arith}
+use Rattle.aeth_io.specs.Sink.{AppendsProperPrefix}
+use Rattle.aeth_slots.specs.SlotSet.{Slots}
+use Rattle.aeth_slots.specs.Choice.{chosen}
+use Rattle.aeth_cli.specs.declared.command.Command.{Command}
+use Rattle.aeth_cli.specs.declared.command.Command.TheVariants.{ChooseSlots}
+use Rattle.aeth_cli.specs.Job.{Job, chosen_job, job_of}
+
+-- One of a job's texts is empty.
+abbrev pub HasOneText : Job → Type 0
+HasOneText asked = (asked.out ≡ []) ⊎ (asked.err ≡ [])
+
+chosen_job-one_text : (set : Option Slots) → HasOneText (chosen_job set)
+chosen_job-one_text None = inl refl
+chosen_job-one_text (Some set) = inr refl
+
+-- The job of each command has one text at most.
+pub job_of-one_text : (command : Option Command) → HasOneText (job_of command)
+job_of-one_text None = inl refl
+job_of-one_text (Some (ChooseSlots need gap free)) = chosen_job-one_text (chosen free need gap)
+
+-- A text of which a proper prefix was written isn't empty.
+pub cut_text-some : (before after : Option (List ℕ)) (text : List ℕ)
+    → AppendsProperPrefix before after text → text ≡ [] → ⊥
+cut_text-some before after text cut empty =
+    omega (arith, cut.proper.more, simp length-append at (ap length (cut.proper.joined ∙ empty)))

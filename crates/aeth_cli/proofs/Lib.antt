@@ -1,0 +1,3 @@
+mod Jobs
+mod Listing
+mod Reading

@@ -1,0 +1,4 @@
+pub mod Command
+pub mod Job
+pub mod Text
+pub mod Words

@@ -1,0 +1,78 @@
+// The worked examples, from the words to the bytes.
+use crate::run;
+use crate::status::{DONE, NOT_GRANTED, USAGE, WRITE_FAULT};
+use aeth_io::MemSink;
+use std::alloc::Global;
+use std::test::Fail;
+
+fn words_of(alloc: Global, line: &str) -> Result<Vec<String>, Fail> {
+    let mut words = Vec::new(alloc);
+    if line.is_empty() {
+        return Ok(words);
+    }
+    for word in line.split(' ') {
+        words.push(word.to_string(alloc)?)?;
+    }
+    Ok(words)
+}
+
+#[test]
+fn commands_answer(rt: HostRuntime) -> Result<(), Fail> {
+    let alloc = rt.alloc();
+    let rows = [
+        ("slots 8 2 4 0,1,2,3,4,5,6,7", DONE, "0,4\n", ""),
+        ("slots 8 1 4 1,2,6", DONE, "2,6\n", ""),
+        ("slots 1 1 1 0", DONE, "0\n", ""),
+        ("slots 8 1 4 1,2", NOT_GRANTED, "", "no slots\n"),
+        ("slots 8 1 8 -", NOT_GRANTED, "", "no slots\n"),
+        ("slots 4 5 4 0,1,2,3", NOT_GRANTED, "", "no slots\n"),
+        ("slots 4 1 0 0,1,2,3", NOT_GRANTED, "", "no slots\n"),
+        ("", USAGE, "", "usage\n"),
+        ("slot 8 1 4 1", USAGE, "", "usage\n"),
+        ("slots 8 1 4", USAGE, "", "usage\n"),
+        ("slots 8 1 4 1 2", USAGE, "", "usage\n"),
+        ("slots 8 1 4 ", USAGE, "", "usage\n"),
+        ("slots 08 1 4 1", USAGE, "", "usage\n"),
+        ("slots 0 1 4 -", USAGE, "", "usage\n"),
+        ("slots 65 1 1 0", USAGE, "", "usage\n"),
+        ("slots 8 0 4 1", USAGE, "", "usage\n"),
+        ("slots 8 65 4 1", USAGE, "", "usage\n"),
+        ("slots 8 1 4097 1", USAGE, "", "usage\n"),
+        ("slots 8 1 1 1,1", USAGE, "", "usage\n"),
+        ("slots 8 1 1 2,1", USAGE, "", "usage\n"),
+        ("slots 8 1 1 1,8", USAGE, "", "usage\n"),
+        ("slots 8 1 1 1,", USAGE, "", "usage\n"),
+    ];
+    for (line, status, on_out, on_err) in rows {
+        let mut out = MemSink::new(alloc, 64, 64, Vec::new(alloc))?;
+        let mut err = MemSink::new(alloc, 64, 64, Vec::new(alloc))?;
+        let words = words_of(alloc, line)?;
+        assert_eq!(rt; run(alloc, &words, &mut out, &mut err), status, "{line}");
+        assert_eq!(rt; out.bytes(), on_out.as_bytes(), "{line}");
+        assert_eq!(rt; err.bytes(), on_err.as_bytes(), "{line}");
+    }
+    Ok(())
+}
+
+#[test]
+fn a_sink_that_fails_has_a_part(rt: HostRuntime) -> Result<(), Fail> {
+    let alloc = rt.alloc();
+    // (words, most bytes a call on `out`, its failing call, failing call on `err`, then on `out`)
+    let rows = [
+        ("slots 8 2 4 0,1,2,3,4,5,6,7", 2, 1, 9, "0,"),
+        ("slots 8 1 4 1,2", 64, 9, 0, ""),
+    ];
+    for (line, most, out_call, err_call, on_out) in rows {
+        let mut out = MemSink::new(alloc, 64, most, vec![in alloc; out_call]?)?;
+        let mut err = MemSink::new(alloc, 64, 64, vec![in alloc; err_call]?)?;
+        let words = words_of(alloc, line)?;
+        assert_eq!(rt;
+            run(alloc, &words, &mut out, &mut err),
+            WRITE_FAULT,
+            "{line}"
+        );
+        assert_eq!(rt; out.bytes(), on_out.as_bytes(), "{line}");
+        assert_eq!(rt; err.bytes(), b"".as_slice(), "{line}");
+    }
+    Ok(())
+}

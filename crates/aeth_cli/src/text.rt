@@ -1,0 +1,23 @@
+// Texts that commands print.
+ghost use Rattle.aeth_cli.specs.Text.{list_text};
+ghost use Rattle.std.specs.Prelude.{◌≡◌, ◌++◌, OnOk};
+
+use crate::words::COMMA;
+use aeth_base::{NoMemory, push_number};
+use aeth_slots::SlotSet;
+
+/// Appends the slots, ascending, with commas between them.
+pub fn push_slots(text: &mut Vec<u8>, set: &SlotSet) -> Result<(), NoMemory>
+    ensures { OnOk result (text.new.items ≡ text.old.items ++ list_text set.now.slots) }
+{
+    let mut slots = set.iter();
+    let Some(first) = slots.next() else {
+        return Ok(());
+    };
+    push_number(text, u64::from(first))?;
+    for slot in slots {
+        text.push(COMMA)?;
+        push_number(text, u64::from(slot))?;
+    }
+    Ok(())
+}

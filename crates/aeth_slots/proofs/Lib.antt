@@ -1,0 +1,14 @@
+pub mod Lists
+pub mod Ascending
+pub mod SlotSetLemmas
+pub mod Sublists
+pub mod ChoiceLemmas
+mod Masks
+mod Lookups
+mod Rotation
+mod Counts
+mod Gaps
+mod Ways
+mod Rounds
+mod WaySearch
+mod RoundSearch

@@ -1,0 +1,66 @@
+-- Laws of slot sets: the slots of a set that was rotated or met, and equal sets.
+use Rattle.std.proofs.Common.{ℕ, ◌+◌, ◌%◌, ◌≡◌, ◌↔◌, true}
+use Rattle.std.proofs.Common.{eqb, List, [], ◌∷◌, map, Contains, sym}
+use Rattle.std.proofs.Common.{ap, subst, inl, inr, arith}
+use Rattle.std.specs.List.{list_any}
+use Rattle.std.proofs.lemmas.Bool.{eqb-true, eq-eqb}
+use Rattle.std.proofs.lemmas.Bool.{and_from, and_parts, or_cases, or_left, or_right}
+use Rattle.std.proofs.lemmas.Slice.Eq.{bytes_eq-Decides}
+use Rattle.std.specs.Bool.{Decides}
+use Rattle.aeth_slots.specs.SlotSet.{Slots, same_set, rotated}
+use Rattle.aeth_slots.specs.SlotSet.{common}
+use Rattle.aeth_slots.proofs.Lists.{Contains-nil, Contains-there, Contains-cases}
+use Rattle.aeth_slots.proofs.Lists.{Contains-map, map-Contains, Contains-filter, filter-Contains}
+use Rattle.aeth_slots.proofs.Ascending.{Contains-ascending, ascending-Contains}
+
+-- The slots of a rotated set are those that are so many on from a slot of the set.
+pub Contains-rotated : (by : ℕ) (set : Slots) (t : ℕ)
+    → Contains (rotated by set).slots
+    t ↔ ((s : ℕ) × Contains set.slots s × (t ≡ (s + by) % set.size))
+Contains-rotated by set t = (
+  (λ has. let found =
+      map-Contains (λ s. (s + by) % set.size) set.slots t
+      (ascending-Contains (map (λ s. (s + by) % set.size) set.slots) t has) in
+      (found.0, found.2, sym found.1)),
+  (λ (s, has, at). subst (λ (k : ℕ). Contains (rotated by set).slots k) (sym at)
+      (Contains-ascending (map (λ u. (u + by) % set.size) set.slots) ((s + by) % set.size)
+      (Contains-map (λ u. (u + by) % set.size) set.slots s has))),
+)
+
+-- The test by which two sets meet says that a slot is in the other set.
+pub list_any-Contains : (xs : List ℕ) (s : ℕ) → list_any (λ t. eqb t s) xs ≡ true → Contains xs s
+list_any-Contains [] s test = cc
+list_any-Contains (x ∷ xs) s test = elim (or_cases (eqb x s) _ test) [
+  | inl here ↦ (0, omega arith, eqb-true x s here)
+  | inr later ↦ Contains-there x xs s (list_any-Contains xs s later)
+]
+
+-- The test passes at each slot of the other set.
+pub Contains-list_any : (xs : List ℕ) (s : ℕ) → Contains xs s → list_any (λ t. eqb t s) xs ≡ true
+Contains-list_any [] s has = Contains-nil has
+Contains-list_any (x ∷ xs) s has = elim (Contains-cases x xs s has) [
+  | inl same ↦ or_left (eqb x s) _ (eq-eqb x s same)
+  | inr later ↦ or_right (eqb x s) _ (Contains-list_any xs s later)
+]
+
+-- The slots that two sets have in common are those that are in both.
+pub Contains-common : (set other : Slots) (s : ℕ)
+    → Contains (common set other).slots s ↔ (Contains set.slots s × Contains other.slots s)
+Contains-common set other s = (
+  (λ has. let found = filter-Contains (λ u. list_any (λ t. eqb t u) other.slots) set.slots s has in
+      (found.0, list_any-Contains other.slots s found.1)),
+  (λ (has, has'). Contains-filter (λ u. list_any (λ t. eqb t u) other.slots) set.slots s has
+      (Contains-list_any other.slots s has')),
+)
+
+-- The test of `==` says that two sets are equal.
+pub same_set-Decides : (set other : Slots) → Decides (same_set set other) (set ≡ other)
+same_set-Decides set other = (
+  (λ test. let (sizes, slots) = and_parts (eqb set.size other.size) _ test in
+      let size : set.size ≡ other.size = eqb-true set.size other.size sizes in
+      let same : set.slots ≡ other.slots = (bytes_eq-Decides set.slots other.slots).0 slots in
+      λ i. record { size = size i; slots = same i }),
+  (λ same. and_from (eqb set.size other.size) _
+      (eq-eqb set.size other.size (ap (λ (s : Slots). s.size) same))
+      ((bytes_eq-Decides set.slots other.slots).1 (ap (λ (s : Slots). s.slots) same))),
+)

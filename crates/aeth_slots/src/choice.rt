@@ -1,0 +1,149 @@
+// The choice of slots out of the free ones.
+//
+// From a slot to an end, the free slots from which the end is reached over at most so many
+// further slots are those from an earliest one on. The earliest ones are found from the end
+// backwards, each by one look-up, so a choice takes about the square of the table size in steps.
+ghost use Rattle.std.specs.Prelude.{◌≡◌, ◌+◌, ◌-◌, ◌<◌, ◌≤◌, ◌↔◌, [], ◌∷◌, List, ℕ, length, IsTrue};
+ghost use Rattle.std.specs.Prelude.{IsSome, IfSome, IfNone, Contains};
+ghost use Rattle.aeth_slots.specs.SlotSet.{IsSlotSet, Ascends};
+ghost use Rattle.aeth_slots.specs.Choice.{IsSuitable, IsChosen, chosen, subsets};
+ghost use Rattle.aeth_slots.specs.Ways.{IsWay, Reaches, ReachesWithin, IsEarliest, IsFewest};
+ghost use Rattle.aeth_slots.specs.Ways.{IsNextOnWay, IsFirstMember, IsLeastSize, AddsFirstWay};
+ghost use Rattle.aeth_slots.specs.Ways.{IsRound, HasRound, StartsWithin, IsFirstRound};
+
+use crate::{MAX_SIZE, SlotSet};
+
+/// The lexicographically first among the suitable subsets of least size: at least `need` slots,
+/// with no gap above `gap`. There is none exactly where the whole free set isn't suitable.
+pub fn choose(free: &SlotSet, need: u32, gap: u32) -> Option<SlotSet>
+    requires { 1 ≤ need }
+    ensures chosen { result ≡ chosen free.now need gap }
+    ensures some { IfSome result (IsChosen free.now need gap) }
+    ensures whole { IsSome result ↔ IsSuitable need gap free.now }
+{
+    if !free.suitable(need, gap) {
+        return None;
+    }
+    let more = least_size(free, gap).max(need) - 1;
+    let first = first_member(free, gap, more);
+    Some(first_round(free, gap, first, more))
+}
+
+/// The least number of slots of a round.
+fn least_size(free: &SlotSet, gap: u32) -> u32
+    requires { IsSuitable 1 gap free.now }
+    ensures { IsLeastSize free.now gap result }
+{
+    let size = free.size();
+    let mut least = free.count();
+
+    // A round ends below the size and at most a gap before its first slot one table later.
+    for first in 0..size.min(gap) {
+        if let Some(more) = fewest(free, first, gap) {
+            least = least.min(more + 1);
+        }
+    }
+    least
+}
+
+/// The least slot from which a round leads over `more` further slots.
+fn first_member(free: &SlotSet, gap: u32, more: u32) -> u32
+    requires { HasRound free.now gap (more + 1) }
+    ensures { IsFirstMember free.now gap more result }
+{
+    let size = free.size();
+    let mut first = 0;
+    while first < size && !starts(free, first, gap, more) {
+        first += 1;
+    }
+    first
+}
+
+/// Whether a round over at most `more` further slots starts there.
+fn starts(free: &SlotSet, first: u32, gap: u32, more: u32) -> bool
+    requires { first < free.now.size }
+    ensures { IsTrue result ↔ StartsWithin free.now gap more first }
+{
+    match fewest(free, first, gap) {
+        Some(count) => count <= more,
+        None => false,
+    }
+}
+
+/// The fewest further slots of a round from a first slot.
+fn fewest(free: &SlotSet, first: u32, gap: u32) -> Option<u32>
+    requires { first < free.now.size }
+    ensures some { IfSome result (IsFewest free.now.slots (first + free.now.size) gap first) }
+    ensures member { IsSome result → Contains free.now.slots first }
+    ensures none { IfNone result ((way : List ℕ) → IsRound free.now gap (first ∷ way) → ⊥) }
+{
+    let size = free.size();
+    if !free.has(first) {
+        return None;
+    }
+    let mut earliest = free.at_or_after((first + size).saturating_sub(gap))?;
+    for count in 0..size {
+        if earliest <= first {
+            return Some(count);
+        }
+        earliest = free.at_or_after(earliest.saturating_sub(gap))?;
+    }
+    None
+}
+
+/// The lexicographically first round from a first slot over `more` further slots.
+fn first_round(free: &SlotSet, gap: u32, first: u32, more: u32) -> SlotSet
+    requires { IsFirstMember free.now gap more first }
+    ensures size { result.size ≡ free.now.size }
+    ensures round { IsFirstRound free.now gap (more + 1) result.slots }
+{
+    let size = free.size();
+    let mut set = SlotSet::empty(size);
+    set.insert(first);
+    add_way(free, first + size, gap, first, more, &mut set);
+    set
+}
+
+/// Adds the lexicographically first way from a slot to the end over `count` slots.
+fn add_way(free: &SlotSet, end: u32, gap: u32, from: u32, count: u32, set: &mut SlotSet)
+    requires set { IsSlotSet free.now }
+    requires end { free.now.size ≤ end }
+    requires from { Contains free.now.slots from }
+    requires reaches { Reaches free.now.slots end gap from count }
+    requires size { set.old.size ≡ free.now.size }
+    requires below { Ascends 0 (from + 1) set.old.slots }
+    ensures size { set.new.size ≡ set.old.size }
+    ensures way { AddsFirstWay free.now.slots end gap from count set.old.slots set.new.slots }
+{
+    if count == 0 {
+        return;
+    }
+    if let Some(next) = next_slot(free, end, gap, from, count - 1) {
+        set.insert(next);
+        add_way(free, end, gap, next, count - 1, set);
+    }
+}
+
+/// The least free slot after `from` from which the end is reached over at most `more` slots.
+fn next_slot(free: &SlotSet, end: u32, gap: u32, from: u32, more: u32) -> Option<u32>
+    requires { from < MAX_SIZE }
+    ensures some { IfSome result (IsNextOnWay free.now.slots end gap from more) }
+    ensures none { IfNone result ((slot : ℕ) → Contains free.now.slots slot → from < slot
+        → ReachesWithin free.now.slots end gap slot more → ⊥) }
+{
+    let earliest = earliest(free, end, gap, more)?;
+    free.at_or_after(earliest.max(from + 1))
+}
+
+/// The free slot from which on each one reaches the end over at most `most` slots.
+fn earliest(free: &SlotSet, end: u32, gap: u32, most: u32) -> Option<u32>
+    ensures some { IfSome result (IsEarliest free.now.slots end gap most) }
+    ensures none { IfNone result ((from : ℕ) → Contains free.now.slots from
+        → ReachesWithin free.now.slots end gap from most → ⊥) }
+{
+    let mut earliest = free.at_or_after(end.saturating_sub(gap))?;
+    for _more in 0..most {
+        earliest = free.at_or_after(earliest.saturating_sub(gap))?;
+    }
+    Some(earliest)
+}
