@@ -4,13 +4,7 @@
 set -eu
 
 home=$(dirname -- "$(dirname -- "$(readlink -f -- "$0")")")
-"$home/aeth" slots 1 1 1 0 >/dev/null
-program=$home/crates/aeth/out/aeth
-
-instructions() {
-    valgrind --tool=callgrind --callgrind-out-file=/dev/null "$program" "$@" 2>&1 >/dev/null |
-        sed -n 's/.*Collected : //p'
-}
+. "$home/bench/instructions.sh"
 
 usage=$(instructions)
 printf '%4s  %-6s  %4s  %4s  %12s\n' SIZE FREE GAP NEED INSTRUCTIONS

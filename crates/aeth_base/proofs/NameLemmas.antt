@@ -1,5 +1,6 @@
 -- Laws of names: they lie padded in memory, and are equal where their bytes are.
-use Rattle.std.proofs.Common.{◌≡◌, ◌≤◌, ◌-◌, ◌++◌, ◌∙◌, ◌&&◌, ℕ, true, List, length, take, drop, eqb, refl, sym, ap, arith}
+use Rattle.std.proofs.Common.{◌≡◌, ◌≤◌, ◌-◌, ◌++◌, ◌∙◌, ◌&&◌, ℕ, true, List, length, take, drop}
+use Rattle.std.proofs.Common.{eqb, refl, sym, ap, arith}
 use Rattle.std.specs.Cmp.{both_ways}
 use Rattle.std.specs.Prelude.{replicate}
 use Rattle.std.specs.Str.{bytes_eq}

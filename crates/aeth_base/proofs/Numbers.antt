@@ -1,5 +1,6 @@
 -- Laws of `number_of`: it is the inverse of `decimal`.
-use Rattle.std.proofs.Common.{ℕ, ◌^◌, ◌<◌, ◌≡◌, ◌∙◌, Bool, true, false, ◌&&◌, cond, ltb, List, Some, None, refl, ap}
+use Rattle.std.proofs.Common.{ℕ, ◌^◌, ◌<◌, ◌≡◌, ◌∙◌, Bool, true, false, ◌&&◌, cond, ltb, List, Some}
+use Rattle.std.proofs.Common.{None, refl, ap}
 use Rattle.std.specs.Fmt.{decimal}
 use Rattle.std.specs.Str.{bytes_eq}
 use Rattle.std.specs.Str.Parse.{digits_value}

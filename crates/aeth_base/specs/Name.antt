@@ -1,6 +1,7 @@
 -- Names: which bytes are one.
 -- This project's own.
-use Rattle.std.specs.Prelude.{ℕ, Bool, List, Option, Some, None, length, nat_le, ◌==◌, ◌&&◌, ◌||◌, if◌then◌else◌}
+use Rattle.std.specs.Prelude.{ℕ, Bool, List, Option, Some, None, length, nat_le, ◌==◌, ◌&&◌, ◌||◌}
+use Rattle.std.specs.Prelude.{if◌then◌else◌}
 use Rattle.std.specs.List.{list_all}
 use Rattle.aeth_base.specs.declared.name.TheConstants.{MAX_NAME}
 

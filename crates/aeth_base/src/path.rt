@@ -1,7 +1,8 @@
 // Paths as short lists of links.
 ghost use Rattle.aeth_base.specs.declared.ids.LinkId.{LinkId};
 ghost use Rattle.std.specs.Bool.{OnFalse, OnTrue};
-ghost use Rattle.std.specs.Prelude.{◌≡◌, ◌<◌, ◌≤◌, ◌↔◌, ◌++◌, ◌∷◌, [], List, Some, length, slice_get, IsTrue};
+ghost use Rattle.std.specs.Prelude.{◌≡◌, ◌<◌, ◌≤◌, ◌↔◌, ◌++◌, ◌∷◌, [], List, Some, length};
+ghost use Rattle.std.specs.Prelude.{slice_get, IsTrue};
 
 use crate::LinkId;
 use std::marker::Model;

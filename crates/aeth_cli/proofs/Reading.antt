@@ -1,5 +1,7 @@
 -- Laws of a list of slots that is read piece by piece.
-use Rattle.std.proofs.Common.{◌≡◌, ◌∙◌, ℕ, ◌+◌, ◌-◌, ◌<◌, ◌≤◌, ◌++◌, List, [], ◌∷◌, length, drop, get_or, Bool, true, false, ◌&&◌, cond, eqb, leb, Option, Some, None, ap, sym, refl, append_assoc, append-nil}
+use Rattle.std.proofs.Common.{◌≡◌, ◌∙◌, ℕ, ◌+◌, ◌-◌, ◌<◌, ◌≤◌, ◌++◌, List, [], ◌∷◌, length, drop}
+use Rattle.std.proofs.Common.{get_or, Bool, true, false, ◌&&◌, cond, eqb, leb, Option, Some, None}
+use Rattle.std.proofs.Common.{ap, sym, refl, append_assoc, append-nil}
 use Rattle.std.specs.Option.{option_and_then, option_map}
 use Rattle.std.specs.List.{slice_split}
 use Rattle.std.specs.Prelude.{codes}

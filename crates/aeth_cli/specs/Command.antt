@@ -5,8 +5,9 @@ use Rattle.std.specs.Option.{option_and_then}
 use Rattle.std.specs.Str.{bytes_eq}
 use Rattle.aeth_slots.specs.declared.slot_set.TheConstants.{MAX_SIZE}
 use Rattle.aeth_cli.specs.declared.command.Command.{Command}
-use Rattle.aeth_cli.specs.declared.command.Command.TheVariants.{ChooseSlots}
-use Rattle.aeth_cli.specs.declared.command.TheConstants.{MAX_GAP}
+use Rattle.aeth_cli.specs.declared.command.Command.TheVariants.{ChooseSlots, BoundLatency}
+use Rattle.aeth_cli.specs.declared.command.TheConstants.{MAX_GAP, MIN_LINKS}
+use Rattle.aeth_server.specs.declared.limits.TheConstants.{MAX_PATH}
 use Rattle.aeth_cli.specs.Words.{number_within, slot_set_of}
 
 -- A value, and then what comes of it; none where there is none.
@@ -24,8 +25,20 @@ choose_slots_of size_word need_word gap_word free_word = do
   free ← slot_set_of size free_word
   Some (ChooseSlots need gap free)
 
+-- `server SIZE NEED LINKS SLOTS`: SIZE and NEED as for `slots`, LINKS from 2 to 8, SLOTS a list of
+-- slots.
+abbrev pub bound_latency_of : List ℕ → List ℕ → List ℕ → List ℕ → Option Command
+bound_latency_of size_word need_word links_word slots_word = do
+  size ← number_within 1 MAX_SIZE size_word
+  need ← number_within 1 MAX_SIZE need_word
+  links ← number_within MIN_LINKS MAX_PATH links_word
+  slots ← slot_set_of size slots_word
+  Some (BoundLatency need links slots)
+
 -- The command that the words are, if they are one.
 abbrev pub command_of : List (List ℕ) → Option Command
-command_of (name ∷ size ∷ need ∷ gap ∷ free ∷ []) =
-    if bytes_eq name (codes "slots") then choose_slots_of size need gap free else None
+command_of (name ∷ first ∷ second ∷ third ∷ fourth ∷ []) =
+    if bytes_eq name (codes "slots") then choose_slots_of first second third fourth
+    else if bytes_eq name (codes "server") then bound_latency_of first second third fourth
+    else None
 command_of words = None

@@ -1,13 +1,14 @@
 // The answer to the words: a status and two texts.
-ghost use Rattle.aeth_cli.specs.Job.{chosen_job, done, job, refused};
+ghost use Rattle.aeth_cli.specs.Job.{chosen_job, done, job, latency_job, refused};
 ghost use Rattle.aeth_slots.specs.Choice.{chosen};
 ghost use Rattle.std.specs.Prelude.{◌≡◌, ◌≤◌, IfOk, map, string_bytes};
 
 use crate::command::{Command, parse};
 use crate::status::{DONE, NOT_GRANTED, USAGE};
-use crate::text::push_slots;
+use crate::text::{latency_line, push_slots};
 use aeth_base::NoMemory;
-use aeth_slots::{SlotSet, choose};
+use aeth_server::MAX_PATH;
+use aeth_slots::{MAX_SIZE, SlotSet, choose};
 use std::alloc::Global;
 use std::marker::Model;
 
@@ -58,6 +59,7 @@ pub fn answer_to(alloc: Global, words: &[String]) -> Result<Answer, NoMemory>
     };
     match command {
         Command::ChooseSlots { need, gap, free } => chosen_slots(alloc, need, gap, &free),
+        Command::BoundLatency { need, links, slots } => bounded_latency(alloc, need, links, &slots),
     }
 }
 
@@ -72,4 +74,21 @@ fn chosen_slots(alloc: Global, need: u32, gap: u32, free: &SlotSet) -> Result<An
     push_slots(&mut text, &set)?;
     text.push(b'\n')?;
     Ok(Answer::done(alloc, text))
+}
+
+fn bounded_latency(
+    alloc: Global,
+    need: u32,
+    links: u32,
+    slots: &SlotSet,
+) -> Result<Answer, NoMemory>
+    requires least { 1 ≤ need }
+    requires most { need ≤ MAX_SIZE }
+    requires path { links ≤ MAX_PATH }
+    ensures { IfOk result (λ answer. answer ≡ latency_job need links slots.now) }
+{
+    if slots.count() < need {
+        return Answer::refused(alloc, NOT_GRANTED, "too few slots\n");
+    }
+    Ok(Answer::done(alloc, latency_line(alloc, need, links, slots)?))
 }

@@ -5,7 +5,7 @@ ghost use Rattle.aeth_io.specs.Sink.{AppendsProperPrefix, appended};
 ghost use Rattle.std.specs.Prelude.{◌≡◌, ◌≢◌, ◌<◌, ◌≤◌, ◌⊎◌, map, string_bytes};
 
 use crate::answer::answer_to;
-use crate::status::{OUT_OF_MEMORY, WRITE_FAULT};
+use crate::status::{OUT_OF_MEMORY, READ_FAULT, WRITE_FAULT};
 use aeth_io::{Sink, write_all};
 use std::alloc::Global;
 
@@ -15,17 +15,17 @@ use std::alloc::Global;
 /// What the clauses say of bytes holds of each sink that tells what was written; what they say of
 /// faults holds of every sink.
 pub fn run<O: Sink, E: Sink>(alloc: Global, words: &[String], out: &mut O, err: &mut E) -> u8
-    ensures statuses { result ≤ 6 }
+    ensures statuses { result ≤ OUT_OF_MEMORY }
 
-    // A status below 4 is the job's, and just the job's texts were written.
-    ensures status { result < 4 → result ≡ (job (map string_bytes words.now)).status }
-    ensures out { result < 4 →
+    // A status below that of a read fault is the job's, and just the job's texts were written.
+    ensures status { result < READ_FAULT → result ≡ (job (map string_bytes words.now)).status }
+    ensures out { result < READ_FAULT →
         O.written out.new ≡ appended (O.written out.old) (job (map string_bytes words.now)).out }
-    ensures err { result < 4 →
+    ensures err { result < READ_FAULT →
         E.written err.new ≡ appended (E.written err.old) (job (map string_bytes words.now)).err }
 
     // No file is read.
-    ensures no_read_fault { result ≢ 4 }
+    ensures no_read_fault { result ≢ READ_FAULT }
 
     // A sink failed: it has a proper prefix of its text, and the other has nothing.
     ensures write_fault { result ≡ WRITE_FAULT →

@@ -16,34 +16,50 @@ fn words_of(alloc: Global, line: &str) -> Result<Vec<String>, Fail> {
     Ok(words)
 }
 
+/// Words, status, and what is written to `out` and to `err`.
+const ROWS: [(&str, u8, &str, &str); 36] = [
+    ("slots 8 2 4 0,1,2,3,4,5,6,7", DONE, "0,4\n", ""),
+    ("slots 8 1 4 1,2,6", DONE, "2,6\n", ""),
+    ("slots 1 1 1 0", DONE, "0\n", ""),
+    ("slots 8 1 4 1,2", NOT_GRANTED, "", "no slots\n"),
+    ("slots 8 1 8 -", NOT_GRANTED, "", "no slots\n"),
+    ("slots 4 5 4 0,1,2,3", NOT_GRANTED, "", "no slots\n"),
+    ("slots 4 1 0 0,1,2,3", NOT_GRANTED, "", "no slots\n"),
+    ("server 8 2 3 0,4", DONE, "rate 4/8 latency 1 total 4\n", ""),
+    ("server 8 2 3 0,1", DONE, "rate 4/8 latency 4 total 7\n", ""),
+    ("server 8 2 3 0", NOT_GRANTED, "", "too few slots\n"),
+    (
+        "server 8 9 3 0,1,2,3,4,5,6,7",
+        NOT_GRANTED,
+        "",
+        "too few slots\n",
+    ),
+    ("server 8 1 3 -", NOT_GRANTED, "", "too few slots\n"),
+    ("", USAGE, "", "usage\n"),
+    ("server 8 2 1 0,4", USAGE, "", "usage\n"),
+    ("server 8 2 9 0,4", USAGE, "", "usage\n"),
+    ("server 8 0 3 0,4", USAGE, "", "usage\n"),
+    ("server 8 2 3 4,0", USAGE, "", "usage\n"),
+    ("slot 8 1 4 1", USAGE, "", "usage\n"),
+    ("slots 8 1 4", USAGE, "", "usage\n"),
+    ("slots 8 1 4 1 2", USAGE, "", "usage\n"),
+    ("slots 8 1 4 ", USAGE, "", "usage\n"),
+    ("slots 08 1 4 1", USAGE, "", "usage\n"),
+    ("slots 0 1 4 -", USAGE, "", "usage\n"),
+    ("slots 65 1 1 0", USAGE, "", "usage\n"),
+    ("slots 8 0 4 1", USAGE, "", "usage\n"),
+    ("slots 8 65 4 1", USAGE, "", "usage\n"),
+    ("slots 8 1 4097 1", USAGE, "", "usage\n"),
+    ("slots 8 1 1 1,1", USAGE, "", "usage\n"),
+    ("slots 8 1 1 2,1", USAGE, "", "usage\n"),
+    ("slots 8 1 1 1,8", USAGE, "", "usage\n"),
+    ("slots 8 1 1 1,", USAGE, "", "usage\n"),
+];
+
 #[test]
 fn commands_answer(rt: HostRuntime) -> Result<(), Fail> {
     let alloc = rt.alloc();
-    let rows = [
-        ("slots 8 2 4 0,1,2,3,4,5,6,7", DONE, "0,4\n", ""),
-        ("slots 8 1 4 1,2,6", DONE, "2,6\n", ""),
-        ("slots 1 1 1 0", DONE, "0\n", ""),
-        ("slots 8 1 4 1,2", NOT_GRANTED, "", "no slots\n"),
-        ("slots 8 1 8 -", NOT_GRANTED, "", "no slots\n"),
-        ("slots 4 5 4 0,1,2,3", NOT_GRANTED, "", "no slots\n"),
-        ("slots 4 1 0 0,1,2,3", NOT_GRANTED, "", "no slots\n"),
-        ("", USAGE, "", "usage\n"),
-        ("slot 8 1 4 1", USAGE, "", "usage\n"),
-        ("slots 8 1 4", USAGE, "", "usage\n"),
-        ("slots 8 1 4 1 2", USAGE, "", "usage\n"),
-        ("slots 8 1 4 ", USAGE, "", "usage\n"),
-        ("slots 08 1 4 1", USAGE, "", "usage\n"),
-        ("slots 0 1 4 -", USAGE, "", "usage\n"),
-        ("slots 65 1 1 0", USAGE, "", "usage\n"),
-        ("slots 8 0 4 1", USAGE, "", "usage\n"),
-        ("slots 8 65 4 1", USAGE, "", "usage\n"),
-        ("slots 8 1 4097 1", USAGE, "", "usage\n"),
-        ("slots 8 1 1 1,1", USAGE, "", "usage\n"),
-        ("slots 8 1 1 2,1", USAGE, "", "usage\n"),
-        ("slots 8 1 1 1,8", USAGE, "", "usage\n"),
-        ("slots 8 1 1 1,", USAGE, "", "usage\n"),
-    ];
-    for (line, status, on_out, on_err) in rows {
+    for (line, status, on_out, on_err) in ROWS {
         let mut out = MemSink::new(alloc, 64, 64, Vec::new(alloc))?;
         let mut err = MemSink::new(alloc, 64, 64, Vec::new(alloc))?;
         let words = words_of(alloc, line)?;

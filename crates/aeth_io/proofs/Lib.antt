@@ -1,1 +1,3 @@
+mod Files
+mod Reading
 pub mod Writing

@@ -1,5 +1,6 @@
 -- Laws of appended bytes, and of a text that is under way to a sink.
-use Rattle.std.proofs.Common.{◌≡◌, ◌-◌, ◌++◌, ◌∙◌, List, [], ℕ, length, take, drop, Option, Some, None, ap, refl, append-nil, length-append, append_assoc, arith}
+use Rattle.std.proofs.Common.{◌≡◌, ◌-◌, ◌++◌, ◌∙◌, List, [], ℕ, length, take, drop, Option, Some}
+use Rattle.std.proofs.Common.{None, ap, refl, append-nil, length-append, append_assoc, arith}
 use Rattle.std.proofs.lemmas.Grind.{common_steps}
 use Rattle.aeth_io.specs.Sink.{appended}
 

@@ -1,3 +1,5 @@
 pub mod Causes
+pub mod MemShelf
 pub mod MemSink
+pub mod Shelf
 pub mod Sink

@@ -1,11 +1,12 @@
 -- A sink in memory, and what one call on it does.
 -- This project's own.
-use Rattle.std.specs.Prelude.{ℕ, ◌+◌, ◌-◌, ◌||◌, ◌==◌, ◌++◌, nat_le, min, Bool, List, length, take, if◌then◌else◌}
+use Rattle.std.specs.Prelude.{ℕ, ◌+◌, ◌-◌, ◌||◌, ◌==◌, ◌++◌, nat_le, min, Bool, List, length, take}
+use Rattle.std.specs.Prelude.{if◌then◌else◌}
 use Rattle.std.specs.List.{list_any}
-use Rattle.aeth_io.specs.Causes.{GREATEST}
+use Rattle.aeth_io.specs.Causes.{one_more}
 
 -- What a sink in memory holds and how many bytes it takes, in all and at a call; the numbers of the
--- calls that fail, counted from 0; and how many calls were made, and how many failed.
+-- calls that fail, one_more from 0; and how many calls were made, and how many failed.
 pub record SinkState : Type 0 where
   pub bytes : List ℕ
   pub room : ℕ
@@ -13,10 +14,6 @@ pub record SinkState : Type 0 where
   pub fail : List ℕ
   pub calls : ℕ
   pub faults : ℕ
-
--- One more, up to the greatest number of a counter.
-abbrev pub counted : ℕ → ℕ
-counted n = min (n + 1) GREATEST
 
 -- The next call fails: its number is listed, or the room is used up.
 abbrev pub is_failing : SinkState → Bool
@@ -30,8 +27,8 @@ taken_of sink piece = min (min (length piece) sink.most) (sink.room - length sin
 abbrev pub after_write : SinkState → List ℕ → SinkState
 after_write sink piece =
     if is_failing sink
-    then record sink { calls = counted sink.calls; faults = counted sink.faults }
+    then record sink { calls = one_more sink.calls; faults = one_more sink.faults }
     else record sink {
       bytes = sink.bytes ++ take (taken_of sink piece) piece;
-      calls = counted sink.calls;
+      calls = one_more sink.calls;
     }

@@ -1,5 +1,6 @@
 // A sink over one of std's writers.
-ghost use Rattle.std.specs.Prelude.{◌≡◌, ℕ, None};
+ghost use Rattle.aeth_io.specs.Causes.{HasCause};
+ghost use Rattle.std.specs.Prelude.{◌≡◌, ◌≤◌, ◌⊎◌, ℕ, None, IfOk, OnOk, length};
 
 use crate::{Failed, Sink};
 use std::io::Write;
@@ -33,8 +34,16 @@ impl<W: Write + Drop> Sink for HostSink<W> {
 
     ghost faults = { λ sink. sink };
 
-    /// An error of the writer, and a write of no byte, raise the count of faults.
-    fn write(&mut self, piece: &[u8]) -> Result<usize, Failed> {
+    /// An error of the writer and a write of no byte raise the count of faults; nothing else does.
+    fn write(&mut self, piece: &[u8]) -> Result<usize, Failed>
+        ensures counts { OnOk result (self.new ≡ self.old) }
+
+        // And what holds of every sink, of one that tells no bytes.
+        ensures within { IfOk result (λ n. n ≤ length piece.now) }
+        ensures some { IfOk result (λ n. (length piece.now ≡ 0) ⊎ (1 ≤ n)) }
+        ensures cause { HasCause result self.old self.new }
+        ensures later { self.old ≤ self.new }
+    {
         match self.to.write(piece) {
             Ok(n) if n > 0 => Ok(n),
             _ => {

@@ -1,12 +1,18 @@
-//! Where bytes are written, with the faults of each place counted.
+//! Where bytes are read and written, with the faults of each place one_more.
 #![tactic(auto)]
 
+mod host_shelf;
 mod host_sink;
+mod mem_shelf;
 mod mem_sink;
+mod shelf;
 mod sink;
 #[cfg(test)]
 mod tests;
 
+pub use host_shelf::HostShelf;
 pub use host_sink::HostSink;
+pub use mem_shelf::MemShelf;
 pub use mem_sink::MemSink;
+pub use shelf::{MAX_FILE, ReadFail, Shelf, read_all};
 pub use sink::{Failed, Sink, write_all};

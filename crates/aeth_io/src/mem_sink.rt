@@ -2,7 +2,8 @@
 ghost use Rattle.aeth_io.specs.Causes.{HasCause};
 ghost use Rattle.aeth_io.specs.MemSink.{after_write, is_failing, taken_of};
 ghost use Rattle.aeth_io.specs.Sink.{appended};
-ghost use Rattle.std.specs.Prelude.{◌≡◌, ◌<◌, ◌≤◌, ◌⊎◌, [], length, take, Some, IfOk, OnErr, is_err};
+ghost use Rattle.std.specs.Prelude.{◌≡◌, ◌<◌, ◌≤◌, ◌⊎◌, [], length, take, Some, IfOk, OnErr};
+ghost use Rattle.std.specs.Prelude.{is_err};
 
 use crate::{Failed, Sink};
 use aeth_base::NoMemory;

@@ -1,7 +1,8 @@
 // A place for bytes, which may fail.
 ghost use Rattle.aeth_io.specs.Causes.{HasCause};
 ghost use Rattle.aeth_io.specs.Sink.{AppendsProperPrefix, appended};
-ghost use Rattle.std.specs.Prelude.{◌≡◌, ◌≤◌, ◌⊎◌, [], List, ℕ, Option, Some, codes, length, take, IfOk, OnOk, OnErr};
+ghost use Rattle.std.specs.Prelude.{◌≡◌, ◌≤◌, ◌⊎◌, [], List, ℕ, Option, Some, codes, length, take};
+ghost use Rattle.std.specs.Prelude.{IfOk, OnOk, OnErr};
 
 use std::error::Error;
 use std::fmt;

@@ -1,10 +1,12 @@
 // What no clause says: that the calls succeed, that `write_all` hands each call all that is left,
-// and what reaches the writer below a host sink.
-use crate::{Failed, HostSink, MemSink, write_all};
+// what reaches the writer below a host sink, and what a host shelf reads of a file.
+ghost use Rattle.std.specs.Prelude.{None};
+
+use crate::{Failed, HostShelf, HostSink, MemShelf, MemSink, ReadFail, Shelf, read_all, write_all};
 use std::alloc::Global;
-use std::io;
 use std::io::Write;
 use std::test::Fail;
+use std::{fs, io};
 
 /// A writer that takes two bytes a call; its third call fails, and its fourth takes nothing.
 #[derive(Drop)]
@@ -69,5 +71,77 @@ fn a_sink_in_memory_takes_what_it_should(rt: HostRuntime) -> Result<(), Fail> {
         );
         assert_eq!(rt; sink.bytes(), written.as_bytes(), "{text}");
     }
+    Ok(())
+}
+
+/// A shelf whose file never ends.
+#[derive(Drop)]
+struct Endless;
+
+impl Shelf for Endless {
+    ghost content = { λ _ _. None };
+
+    ghost faults = { λ _ _. 0 };
+
+    fn read(&mut self, _name: &str, _at: u64, into: &mut [u8]) -> Result<usize, Failed> {
+        Ok(into.len())
+    }
+}
+
+fn shelf_of(alloc: Global, fail: &[u64]) -> Result<MemShelf, Fail> {
+    let mut files = Vec::new(alloc);
+    for (name, bytes) in [("chip", "slots = 8"), ("empty", ""), ("chip", "slots = 9")] {
+        let bytes = Vec::from_slice(alloc, bytes.as_bytes())?;
+        files.push((name.to_string(alloc)?, bytes))?;
+    }
+    Ok(MemShelf::new(files, Vec::from_slice(alloc, fail)?))
+}
+
+#[test]
+fn a_shelf_in_memory_gives_its_files(rt: HostRuntime) -> Result<(), Fail> {
+    let alloc = rt.alloc();
+    // (failing calls, name, content; the second call is the one at the end)
+    let rows: [(&[u64], &str, Option<&str>); 6] = [
+        (&[], "chip", Some("slots = 8")),
+        (&[2], "chip", Some("slots = 8")),
+        (&[0], "chip", None),
+        (&[1], "chip", None),
+        (&[], "empty", Some("")),
+        (&[], "app", None),
+    ];
+    for (fail, name, content) in rows {
+        let mut shelf = shelf_of(alloc, fail)?;
+        match read_all(alloc, &mut shelf, name) {
+            Ok(text) => assert_eq!(rt; Some(text.as_slice()), content.map(|c| c.as_bytes())),
+            Err(fail) => {
+                assert_eq!(rt; fail, ReadFail::Fault);
+                assert_eq!(rt; content, None);
+            }
+        }
+    }
+    assert_eq!(rt;
+        read_all(alloc, &mut Endless, "chip").err(),
+        Some(ReadFail::TooLong)
+    );
+    Ok(())
+}
+
+#[test]
+fn a_host_shelf_reads_files(rt: HostRuntime) -> Result<(), Fail> {
+    let name = "aeth_io_host_shelf_test.txt";
+    let long = Vec::from_slice(rt.alloc(), &[b'x'; 20_000])?;
+    fs::write(&rt, name, long.as_slice())?;
+    let mut shelf = HostShelf::new(rt.clone()?);
+    let text = read_all(rt.alloc(), &mut shelf, name);
+    fs::remove_file(&rt, name)?;
+    assert_eq!(rt; text.ok().map(|text| text.len()), Some(20_000));
+    assert_eq!(rt;
+        read_all(rt.alloc(), &mut shelf, "no such file").err(),
+        Some(ReadFail::Fault)
+    );
+    assert_eq!(rt;
+        read_all(rt.alloc(), &mut shelf, "/").err(),
+        Some(ReadFail::Fault)
+    );
     Ok(())
 }

@@ -214,8 +214,8 @@ whole-suitable free need gap set is subset suitable =
 
 -- Some subset is suitable exactly where the whole set is.
 pub subset-suitable : (free : Slots) (need gap : ℕ) → IsSlotSet free
-    → ((set : Slots) × Contains (subsets free) set × IsSuitable need gap set) ↔ IsSuitable need gap
-    free
+    → ((set : Slots) × Contains (subsets free) set × IsSuitable need gap set)
+    ↔ IsSuitable need gap free
 subset-suitable free need gap is = (
   (λ (set, subset, suitable). whole-suitable free need gap set is subset suitable),
   (λ suitable. (free, subsets-itself free, suitable)),

@@ -36,8 +36,8 @@ length-ones_from mask at (suc n) =
     places-suc mask at n in
     let bit : bit_at mask at < 2 = bit_at-lt mask at in
     let cases : (v : Bool) → eqb (bit_at mask at) 1 ≡ v
-    → length (cond v (at ∷ ones_from mask (at + 1) n) (ones_from mask (at + 1) n)) ≡ ones
-    (mask / 2 ^ (at + 1) % 2 ^ n) + bit_at mask at =
+    → length (cond v (at ∷ ones_from mask (at + 1) n) (ones_from mask (at + 1) n))
+    ≡ ones (mask / 2 ^ (at + 1) % 2 ^ n) + bit_at mask at =
     elim [
       | true ↦ λ is. let one = eqb-true _ _ is in omega (arith, rest, one)
       | false ↦ λ is. let none : bit_at mask at ≡ 0 =

@@ -1,25 +1,20 @@
 -- Laws of look-ups in masks: the next slot after a place, and the first slot.
-use Rattle.std.proofs.Common.{ℕ, ◌+◌, ◌-◌, ◌*◌, ◌/◌, ◌%◌, ◌^◌, ◌<◌, ◌≤◌, ◌≡◌, ◌≢◌, ◌∙◌}
-use Rattle.std.proofs.Common.{[], ◌∷◌, Contains, sym}
-use Rattle.std.proofs.Common.{refl, ap, subst, inl, inr, arith, bit_and}
+use Rattle.std.proofs.Common.{ℕ, ◌+◌, ◌-◌, ◌*◌, ◌/◌, ◌%◌, ◌^◌, ◌<◌, ◌≤◌, ◌≡◌, ◌≢◌, ◌∙◌, [], ◌∷◌}
+use Rattle.std.proofs.Common.{Contains, sym, refl, ap, subst, inl, inr, arith, bit_and}
 use Rattle.std.specs.Int.{bit_at, bit_not, trailing_zeros, Width}
 use mir.Val.{bits}
 use Rattle.std.proofs.Math.Pow.{pow_mono}
 use Rattle.std.proofs.Math.Nat.{lt_of_lt_of_le, lt_of_le_of_lt}
 use Rattle.std.proofs.lemmas.Nat.{shr-shr, shr_le}
-use Rattle.std.proofs.lemmas.Nat.Bits.{bit_at-zero}
-use Rattle.std.proofs.lemmas.Nat.Bits.{bit_at_above}
-use Rattle.std.proofs.lemmas.Nat.Bits.{bit_at_clear_same, bit_at_clear_other, bit_at-trailing_zeros}
+use Rattle.std.proofs.lemmas.Nat.Bits.{bit_at-zero, bit_at_above, bit_at_clear_same}
+use Rattle.std.proofs.lemmas.Nat.Bits.{bit_at_clear_other, bit_at-trailing_zeros}
 use Rattle.std.proofs.lemmas.Bool.{cases_eq, cases_lt}
 use Rattle.aeth_slots.specs.Bits.{ones_from}
 use Rattle.aeth_slots.specs.SlotSet.{Slots, IsNextSlot}
 use Rattle.aeth_slots.proofs.Lists.{Contains-there, Contains-cases}
-use Rattle.aeth_slots.proofs.Ascending.{Ascends-from}
-use Rattle.aeth_slots.proofs.Ascending.{same_members}
-use Rattle.aeth_slots.proofs.Masks.{Ascends-mask, Contains-ones, IsView}
-use Rattle.aeth_slots.proofs.Masks.{member-view, ones-Contains}
-use Rattle.aeth_slots.proofs.Masks.{view-ascends, view-empty}
-use Rattle.aeth_slots.proofs.Masks.{view-member}
+use Rattle.aeth_slots.proofs.Ascending.{Ascends-from, same_members}
+use Rattle.aeth_slots.proofs.Masks.{Ascends-mask, Contains-ones, IsView, member-view, ones-Contains}
+use Rattle.aeth_slots.proofs.Masks.{view-ascends, view-empty, view-member}
 
 -- A bit of a mask that was shifted down.
 pub bit_at-shift : (mask s i : ℕ) → bit_at (mask / 2 ^ s) i ≡ bit_at mask (s + i)
@@ -93,10 +88,9 @@ next_slot_found w size mask from set view small most some =
 
 -- The list of a view is its least slot and the list of the mask without this slot's bit.
 pub first_slot_found : (w : Width) (size mask : ℕ) (set : Slots) → IsView size mask set
-    → mask < 2 ^ size
-    → size ≤ bits w → 0 < mask
-    → set.slots ≡ trailing_zeros w mask ∷ ones_from
-    (bit_and mask (bit_not w (1 * 2 ^ trailing_zeros w mask % 2 ^ bits w))) 0 size
+    → mask < 2 ^ size → size ≤ bits w → 0 < mask
+    → set.slots ≡ trailing_zeros w mask
+    ∷ ones_from (bit_and mask (bit_not w (1 * 2 ^ trailing_zeros w mask % 2 ^ bits w))) 0 size
 first_slot_found w size mask set view small most some =
     let first : ℕ = trailing_zeros w mask in
     let cleared : ℕ = bit_and mask (bit_not w (1 * 2 ^ first % 2 ^ bits w)) in

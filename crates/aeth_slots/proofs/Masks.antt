@@ -1,9 +1,8 @@
 -- Laws of masks: the list of a mask's ones, and the sets that masks stand for.
-use Rattle.std.proofs.Common.{ℕ, min, ◌+◌, ◌*◌, ◌/◌, ◌%◌, ◌^◌, ◌<◌, ◌≤◌, ◌≡◌, ◌↔◌, ◌∙◌}
-use Rattle.std.proofs.Common.{zero, suc, Bool, true, false, cond, eqb, List, [], ◌∷◌, Contains, sym}
-use Rattle.std.proofs.Common.{refl, ap, subst, inl, inr, arith, rules, IsTrue, bit_and, bit_or, w64}
-use Rattle.std.proofs.Common.{zero-add}
-use Rattle.std.specs.Int.{bit_at, Width}
+use Rattle.std.proofs.Common.{ℕ, min, ◌+◌, ◌*◌, ◌/◌, ◌%◌, ◌^◌, ◌<◌, ◌≤◌, ◌≡◌, ◌↔◌, ◌∙◌, zero, suc}
+use Rattle.std.proofs.Common.{Bool, true, false, cond, eqb, List, [], ◌∷◌, Contains, sym, refl, ap}
+use Rattle.std.proofs.Common.{subst, inl, inr, arith, rules, IsTrue, bit_and, bit_or, zero-add}
+use Rattle.std.specs.Int.{bit_at, Width, w64}
 use mir.Val.{bits}
 use Rattle.std.proofs.lemmas.Nat.{one_shl, or_lt, pow_below}
 use Rattle.std.proofs.lemmas.Nat.Bits.{bit_at-zero, shr_and_one, bit_at-lt, bit_at_and}
@@ -13,15 +12,12 @@ use Rattle.std.proofs.lemmas.Bool.Decides.{same_from_decides, Decides-eqb}
 use Rattle.aeth_slots.specs.declared.slot_set.TheConstants.{MAX_SIZE}
 use Rattle.aeth_slots.specs.Bits.{IsMask, ones_from, mask_of}
 use Rattle.aeth_slots.specs.BitLemmas.{mask_of-ones}
-use Rattle.aeth_slots.specs.SlotSet.{Slots, IsSlotSet, Ascends, same_set, with_slot}
-use Rattle.aeth_slots.specs.SlotSet.{common}
+use Rattle.aeth_slots.specs.SlotSet.{Slots, IsSlotSet, Ascends, same_set, with_slot, common}
 use Rattle.aeth_slots.proofs.Lists.{Contains-nil, Contains-there, Contains-cases}
-use Rattle.aeth_slots.proofs.Ascending.{Ascends-bounds, Ascends-wider}
-use Rattle.aeth_slots.proofs.Ascending.{Ascends-with_slot, Ascends-filter, with_slot-new}
-use Rattle.aeth_slots.proofs.Ascending.{with_slot-old, with_slot-cases}
-use Rattle.aeth_slots.proofs.SlotSetLemmas.{Contains-common}
-use Rattle.aeth_slots.proofs.Ascending.{same_members}
-use Rattle.aeth_slots.proofs.SlotSetLemmas.{same_set-Decides}
+use Rattle.aeth_slots.proofs.Ascending.{Ascends-bounds, Ascends-wider, Ascends-with_slot}
+use Rattle.aeth_slots.proofs.Ascending.{Ascends-filter, with_slot-new, with_slot-old}
+use Rattle.aeth_slots.proofs.Ascending.{with_slot-cases, same_members}
+use Rattle.aeth_slots.proofs.SlotSetLemmas.{Contains-common, same_set-Decides}
 
 -- How many bits a mask has: with the type of masks, all that is said of their width.
 abbrev pub mask_width : Width

@@ -86,8 +86,8 @@ turned-mask w size mask by most is =
 
 -- A bit of it is the greater of the two parts' bits.
 turned_bit : (w : Width) (size mask by i : ℕ) → size ≤ bits w → 1 ≤ size → i < size
-    → bit_at (turned_mask w size mask by) i ≡ max (bit_at (mask * 2 ^ (by % size) % 2 ^ bits w) i)
-    (bit_at mask (i + size - by % size))
+    → bit_at (turned_mask w size mask by) i
+    ≡ max (bit_at (mask * 2 ^ (by % size) % 2 ^ bits w) i) (bit_at mask (i + size - by % size))
 turned_bit w size mask by i most some below =
     let onward : ℕ = mask * 2 ^ (by % size) % 2 ^ bits w in
     let wrapped : ℕ = mask / 2 ^ (size - 1 - by % size) / 2 in

@@ -1,22 +1,20 @@
 -- Laws of slot sets: the slots of a set that was rotated or met, and equal sets.
-use Rattle.std.proofs.Common.{ℕ, ◌+◌, ◌%◌, ◌≡◌, ◌↔◌, true}
-use Rattle.std.proofs.Common.{eqb, List, [], ◌∷◌, map, Contains, sym}
+use Rattle.std.proofs.Common.{ℕ, ◌+◌, ◌%◌, ◌≡◌, ◌↔◌, true, eqb, List, [], ◌∷◌, map, Contains, sym}
 use Rattle.std.proofs.Common.{ap, subst, inl, inr, arith}
 use Rattle.std.specs.List.{list_any}
-use Rattle.std.proofs.lemmas.Bool.{eqb-true, eq-eqb}
-use Rattle.std.proofs.lemmas.Bool.{and_from, and_parts, or_cases, or_left, or_right}
+use Rattle.std.proofs.lemmas.Bool.{eqb-true, eq-eqb, and_from, and_parts, or_cases, or_left}
+use Rattle.std.proofs.lemmas.Bool.{or_right}
 use Rattle.std.proofs.lemmas.Slice.Eq.{bytes_eq-Decides}
 use Rattle.std.specs.Bool.{Decides}
-use Rattle.aeth_slots.specs.SlotSet.{Slots, same_set, rotated}
-use Rattle.aeth_slots.specs.SlotSet.{common}
-use Rattle.aeth_slots.proofs.Lists.{Contains-nil, Contains-there, Contains-cases}
-use Rattle.aeth_slots.proofs.Lists.{Contains-map, map-Contains, Contains-filter, filter-Contains}
+use Rattle.aeth_slots.specs.SlotSet.{Slots, same_set, rotated, common}
+use Rattle.aeth_slots.proofs.Lists.{Contains-nil, Contains-there, Contains-cases, Contains-map}
+use Rattle.aeth_slots.proofs.Lists.{map-Contains, Contains-filter, filter-Contains}
 use Rattle.aeth_slots.proofs.Ascending.{Contains-ascending, ascending-Contains}
 
 -- The slots of a rotated set are those that are so many on from a slot of the set.
 pub Contains-rotated : (by : ℕ) (set : Slots) (t : ℕ)
-    → Contains (rotated by set).slots
-    t ↔ ((s : ℕ) × Contains set.slots s × (t ≡ (s + by) % set.size))
+    → Contains (rotated by set).slots t
+    ↔ ((s : ℕ) × Contains set.slots s × (t ≡ (s + by) % set.size))
 Contains-rotated by set t = (
   (λ has. let found =
       map-Contains (λ s. (s + by) % set.size) set.slots t

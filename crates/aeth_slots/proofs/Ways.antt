@@ -97,9 +97,8 @@ within_none free end gap from (next ∷ way, is_way, short) = absurd (omega arit
 
 -- A way over at most one slot more ends near enough already, or has a first step.
 within_cases : (free : List ℕ) (end gap from most : ℕ) → ReachesWithin free end gap from (most + 1)
-    → ReachesWithin free end gap from
-    most ⊎ ((next : ℕ) × Contains free next × (next ≤ from + gap) × ReachesWithin free end gap
-    next most)
+    → ReachesWithin free end gap from most ⊎ ((next : ℕ) × Contains free next
+    × (next ≤ from + gap) × ReachesWithin free end gap next most)
 within_cases free end gap from most ([], is_way, short) = inl ([], is_way, omega arith)
 within_cases free end gap from most (next ∷ way, is_way, short) =
     inr (next, is_way.0, is_way.2, (way, is_way.3, omega arith))

@@ -1,4 +1,5 @@
-use Rattle.std.proofs.Common.{ℕ, ◌^◌, ◌<◌, ◌≡◌, ◌∙◌, List, Some, None, Result, Ok, Err, sym, ap, subst, arith}
+use Rattle.std.proofs.Common.{ℕ, ◌^◌, ◌<◌, ◌≡◌, ◌∙◌, List, Some, None, Result, Ok, Err, sym, ap}
+use Rattle.std.proofs.Common.{subst, arith}
 use Rattle.std.specs.Fmt.{decimal}
 use Rattle.std.specs.Result.{MatchResult, result_ok}
 use Rattle.std.specs.Str.{IsAscii, IsUtf8}

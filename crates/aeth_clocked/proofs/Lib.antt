@@ -1,0 +1,6 @@
+pub mod DrivenLemmas
+mod DrivenTurns
+pub mod OrderLemmas
+mod Permutations
+mod Turns
+pub mod WiresLemmas

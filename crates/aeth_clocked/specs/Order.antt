@@ -1,0 +1,13 @@
+-- Orders of components, as lists of their numbers.
+-- Turns within a cycle: this project's own.
+use Rattle.std.specs.Prelude.{ℕ, ◌+◌, ◌%◌, ◌^◌, ◌<◌, List, length, map, IsPermutation}
+use Rattle.std.specs.List.{range_with_len}
+
+-- A permutation of the numbers below its length, which fits 32 bits.
+pub record IsOrder (numbers : List ℕ) : Type 0 where
+  pub short : length numbers < 2 ^ 32
+  pub permutes : IsPermutation (range_with_len 0 (length numbers)) numbers
+
+-- The numbers below a count, from a turn on and round.
+abbrev pub rotation_of : ℕ → ℕ → List ℕ
+rotation_of count turn = map (λ place. (turn + place) % count) (range_with_len 0 count)

@@ -1,0 +1,14 @@
+use Rattle.std.proofs.Common.{◌≡◌, ◌≤◌, ◌-◌, ℕ, List, Some, length}
+use Rattle.aeth_io.proofs.Reading.{IsReadSoFar}
+use Rattle.aeth_io.proofs.shelf.read_all.Given as goal
+
+abbrev pub invariant-loop-chunk : goal.invariant-loop-chunk
+invariant-loop-chunk g l = record {
+  read : (bytes : List ℕ) → g.H.Shelf.content l.fn.shelf l.name ≡ Some bytes
+      → IsReadSoFar bytes l.text.items;
+  later : (other : List ℕ) → g.H.Shelf.faults l.fn.shelf other ≤ g.H.Shelf.faults l.shelf other;
+  kept : (other : List ℕ) → g.H.Shelf.content l.shelf other ≡ g.H.Shelf.content l.fn.shelf other;
+}
+
+abbrev pub decreases-loop-chunk : goal.decreases-loop-chunk
+decreases-loop-chunk g l = 33554433 - length l.text.items

@@ -1,0 +1,15 @@
+pub mod ExtremeLemmas
+pub mod SlotCycleLemmas
+pub mod LatencyLemmas
+pub mod ServiceLemmas
+pub mod FinishTimeLemmas
+pub mod SlotServerLemmas
+pub mod ShapeLemmas
+pub mod PrivateServerLemmas
+pub mod PrivateServerParts
+pub mod CreditLoop
+pub mod SingleWord
+pub mod AloneStates
+pub mod LandingLemmas
+mod LastCounts
+mod LatencyWalk

@@ -1,0 +1,60 @@
+-- What holds of the counts of a private server.
+use Rattle.std.specs.Prelude.{ℕ, ◌+◌, ◌-◌, ◌&&◌, ◌<◌, ◌≤◌, ◌≡◌, nat_lt, min, if◌then◌else◌}
+use Rattle.aeth_server.specs.declared.limits.TheConstants.{WORDS_PER_FLIT, CREDITS_PER_FLIT}
+use Rattle.aeth_server.specs.SlotCycles.{is_slot}
+use Rattle.aeth_server.specs.PrivateServer.{PrivateServer, arrived, sent, landed, taken, credited}
+use Rattle.aeth_server.specs.PrivateServer.{returned, pull_at}
+
+-- The counts at t + 1 from those at t.
+pub record IsStep (server : PrivateServer) (t : ℕ) : Type 0 where
+  pub sends : sent server (t + 1) ≡ sent server t
+      + (if nat_lt t server.stop && is_slot server.shape.size server.shape.slots t
+      then min WORDS_PER_FLIT
+      (min (arrived server (t + 1) - sent server t)
+      (server.buffer + returned server (t + 1) - sent server t))
+      else 0)
+  pub takes : taken server (t + 1) ≡ taken server t
+      + min (pull_at server t) (landed server (t + 1) - taken server t)
+  pub credits : credited server (t + 1) ≡ credited server t
+      + (if nat_lt t server.stop && is_slot server.shape.size server.shape.back_slots t
+      then min CREDITS_PER_FLIT (taken server t - credited server t)
+      else 0)
+
+-- Nothing was done yet.
+pub record IsIdle (server : PrivateServer) (t : ℕ) : Type 0 where
+  pub sent : sent server t ≡ 0
+  pub taken : taken server t ≡ 0
+  pub credited : credited server t ≡ 0
+
+-- Words arrive, then are sent, land and are taken, and then their credits are sent and return.
+-- Words are sent only for credits, so the receiver never holds more than the buffer.
+pub record IsInOrder (server : PrivateServer) (t : ℕ) : Type 0 where
+  pub sends : sent server t ≤ arrived server t
+  pub lands : landed server t ≤ sent server t
+  pub takes : taken server t ≤ landed server t
+  pub credits : credited server t ≤ taken server t
+  pub returns : returned server t ≤ credited server t
+  pub allowed : sent server t ≤ server.buffer + returned server t
+  pub room : landed server t ≤ server.buffer + taken server t
+
+-- What is sent in cycle t fits in a flit.
+pub record FitsFlit (server : PrivateServer) (t : ℕ) : Type 0 where
+  pub words : sent server (t + 1) ≤ sent server t + WORDS_PER_FLIT
+  pub credits : credited server (t + 1) ≤ credited server t + CREDITS_PER_FLIT
+
+-- No count falls from cycle s to cycle t.
+pub record HasGrown (server : PrivateServer) (s t : ℕ) : Type 0 where
+  pub arrived : arrived server s ≤ arrived server t
+  pub sent : sent server s ≤ sent server t
+  pub landed : landed server s ≤ landed server t
+  pub taken : taken server s ≤ taken server t
+  pub credited : credited server s ≤ credited server t
+  pub returned : returned server s ≤ returned server t
+
+-- Two servers are given the same in the first t cycles.
+pub record IsAlike (one other : PrivateServer) (t : ℕ) : Type 0 where
+  pub shape : one.shape ≡ other.shape
+  pub buffer : one.buffer ≡ other.buffer
+  pub arrived : (u : ℕ) → u < t → arrived one (u + 1) ≡ arrived other (u + 1)
+  pub pull : (u : ℕ) → u < t → pull_at one u ≡ pull_at other u
+  pub may_send : (u : ℕ) → u < t → nat_lt u one.stop ≡ nat_lt u other.stop

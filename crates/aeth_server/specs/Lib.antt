@@ -1,0 +1,12 @@
+pub mod Extremes
+pub mod SlotCycles
+pub mod Latency
+pub mod FinishTimes
+pub mod SlotServer
+pub mod Shape
+pub mod ChannelShape
+pub mod PrivateServer
+pub mod CountLaws
+pub mod Landing
+pub mod Progress
+pub mod AloneState

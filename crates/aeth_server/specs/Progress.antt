@@ -1,0 +1,43 @@
+-- Due times one word after the other.
+use Rattle.std.specs.Prelude.{ℕ, ◌+◌, ◌*◌, ◌≤◌, max, List}
+use Rattle.aeth_slots.specs.declared.slot_set.TheConstants.{MAX_SIZE}
+use Rattle.aeth_server.specs.declared.limits.TheConstants.{MAX_CYCLE, MAX_PATH, MAX_WORDS}
+use Rattle.aeth_server.specs.declared.limits.TheConstants.{WORDS_PER_FLIT}
+use Rattle.aeth_server.specs.FinishTimes.{finish_time}
+
+-- How far the words of a session are: the table size, the rate and the latency, how many words
+-- there were, and the finish time of the last one.
+pub record Progress : Type 0 where
+  pub size : ℕ
+  pub rate : ℕ
+  pub latency : ℕ
+  pub words : ℕ
+  pub finish : ℕ
+
+-- With one more word, which arrives in this cycle.
+abbrev pub after_word : Progress → ℕ → Progress
+after_word before arrival = record before {
+  words = before.words + 1;
+  finish = max (before.rate * (arrival + before.latency)) before.finish + before.size;
+}
+
+-- After the first i words that arrive in these cycles.
+abbrev pub progress_of : ℕ → ℕ → ℕ → List ℕ → ℕ → Progress
+progress_of size rate latency arrivals i = record {
+  size = size;
+  rate = rate;
+  latency = latency;
+  words = i;
+  finish = finish_time size rate latency arrivals i;
+}
+
+-- What holds of all these numbers within a session.
+pub record IsWithinSession (size rate latency words finish : ℕ) : Type 0 where
+  pub least_size : 1 ≤ size
+  pub most_size : size ≤ MAX_SIZE
+  pub least_rate : 1 ≤ rate
+  pub most_rate : rate ≤ WORDS_PER_FLIT * MAX_SIZE
+  pub most_latency : latency ≤ MAX_SIZE + MAX_PATH
+  pub most_words : words ≤ MAX_WORDS
+  pub most_finish : finish
+      ≤ WORDS_PER_FLIT * MAX_SIZE * (MAX_CYCLE + MAX_SIZE + MAX_PATH) + words * MAX_SIZE

@@ -1,0 +1,117 @@
+//! What holds of every server, over the definitions alone.
+ghost use Rattle.std.specs.Prelude.{◌≡◌, ℕ, ◌+◌, ◌-◌, ◌*◌, ◌≤◌, ◌↔◌, Bool, List, length};
+ghost use Rattle.std.specs.Prelude.{slice_index};
+ghost use Rattle.std.specs.Int.{div_ceil};
+ghost use Rattle.std.specs.List.Sorted.{IsNonDecreasing};
+ghost use Rattle.aeth_slots.specs.SlotSet.{Ascends};
+ghost use Rattle.aeth_server.specs.CountLaws.{FitsFlit, HasGrown, IsAlike, IsIdle, IsInOrder};
+ghost use Rattle.aeth_server.specs.CountLaws.{IsStep};
+ghost use Rattle.aeth_server.specs.Landing.{IsDue, LandsAt, LandsBy, WaitsAlone, due_time};
+ghost use Rattle.aeth_server.specs.Landing.{landing_cycle};
+ghost use Rattle.aeth_server.specs.Latency.{BoundsService, latency_of};
+ghost use Rattle.aeth_server.specs.PrivateServer.{PrivateServer, counts, landed};
+ghost use Rattle.aeth_server.specs.Shape.{HasPaths, IsGranted, Shape, buffer_of, round_trip};
+ghost use Rattle.aeth_server.specs.SlotServer.{IsBusyPeriod, IsSentBy, KeepsRate, SendsInTurn};
+ghost use Rattle.aeth_server.specs.SlotServer.{ServesAtRate, ServesInFull, SlotServer, own_finish};
+ghost use Rattle.aeth_server.specs.AloneState.{FitsMemory, IsGivenAt, AloneState, IsStateAt};
+ghost use Rattle.aeth_server.specs.AloneState.{after_cycle, first_state};
+
+/// The latency of a slot set is the least that bounds its service.
+pub fn least_latency()
+    ensures enough { (size : ℕ) (slots : List ℕ) (cap rate : ℕ) → 1 ≤ rate
+        → BoundsService size slots cap rate (latency_of size slots cap rate) }
+    ensures least { (size : ℕ) (slots : List ℕ) (cap rate theta : ℕ) → 1 ≤ rate
+        → BoundsService size slots cap rate theta → latency_of size slots cap rate ≤ theta }
+{}
+
+/// Each slot from some cycle up to `t` was served in full, and nothing waited before that cycle.
+pub fn service()
+    ensures { (size : ℕ) (slots : List ℕ) (cap : ℕ) (arrived : ℕ → ℕ) → arrived 0 ≡ 0
+        → (t : ℕ) → ServesInFull size slots cap arrived t }
+{}
+
+/// A server sends each word by its finish time, and a busy period has the service of a latency-rate
+/// server, in whole words. After Stiliadis and Varma (1998).
+pub fn slot_server()
+    ensures in_time { (server : SlotServer) → KeepsRate server
+        → (i : ℕ) → 1 ≤ i → i ≤ length server.arrivals → IsSentBy server i (own_finish server i) }
+    ensures busy { (server : SlotServer) → KeepsRate server
+        → (first n : ℕ) → IsBusyPeriod server first n
+        → (k : ℕ) → 1 ≤ k → k ≤ n → SendsInTurn server first k }
+    ensures at_rate { (server : SlotServer) → KeepsRate server
+        → (first n : ℕ) → IsBusyPeriod server first n
+        → (t : ℕ) → ServesAtRate server first n t }
+{}
+
+/// The counts of a private server, from cycle to cycle. These are the only way to its history.
+pub fn private_server()
+    ensures first { (server : PrivateServer) → IsIdle server 0 }
+    ensures step { (server : PrivateServer) → HasPaths server.shape → (t : ℕ) → IsStep server t }
+{}
+
+/// The order of a private server's counts: words go for credits alone, so the receiver never holds
+/// more than the buffer; what goes in a cycle fits in a flit; no count falls; and nothing is done
+/// before the session goes.
+pub fn count_order()
+    ensures order { (server : PrivateServer) → HasPaths server.shape
+        → (t : ℕ) → IsInOrder server t }
+    ensures flit { (server : PrivateServer) → HasPaths server.shape → (t : ℕ) → FitsFlit server t }
+    ensures grown { (server : PrivateServer) → HasPaths server.shape
+        → (s t : ℕ) → s ≤ t → HasGrown server s t }
+    ensures idle { (server : PrivateServer) → HasPaths server.shape
+        → (t : ℕ) → t ≤ server.go → IsIdle server t }
+{}
+
+/// The counts of a private server depend on nothing but what it is given up to then.
+pub fn independence()
+    ensures { (one other : PrivateServer) (t : ℕ) → IsAlike one other t
+        → counts one t ≡ counts other t }
+{}
+
+/// What `Alone` remembers is the state of a private server: it is so before the first cycle, and
+/// after each cycle that brings what the server is given.
+pub fn alone_state()
+    ensures first { (server : PrivateServer)
+        → IsStateAt server 0 (first_state server.shape server.buffer) }
+    ensures next { (server : PrivateServer) → FitsMemory server.shape
+        → (t : ℕ) (s : AloneState) → IsStateAt server t s
+        → (words pull : ℕ) (may_send : Bool) → IsGivenAt server t words pull may_send
+        → IsStateAt server (t + 1) (after_cycle s words pull may_send) }
+    ensures lands { (server : PrivateServer) → FitsMemory server.shape
+        → (t : ℕ) (s : AloneState) → IsStateAt server t s
+        → slice_index s.sent (s.shape.path_delay - 1) ≡ landed server (t + 1) }
+{}
+
+/// The buffer holds the words of a round trip at the rate, and two more.
+pub fn buffer_room()
+    ensures { (shape : Shape) → IsGranted shape
+        → shape.rate * round_trip shape + 2 * shape.size ≤ buffer_of shape * shape.size }
+{}
+
+/// A word of a private server lands by its due time, while the receiver keeps its delay: the
+/// credits never hold it back for longer, whatever arrives.
+pub fn bound()
+    ensures lands { (server : PrivateServer) → IsGranted server.shape
+        → IsNonDecreasing server.offers → buffer_of server.shape ≤ server.buffer
+        → (i t : ℕ) → IsDue server i t → LandsBy server i (due_time server i) }
+    ensures landed { (server : PrivateServer) → IsGranted server.shape
+        → IsNonDecreasing server.offers → buffer_of server.shape ≤ server.buffer
+        → (i t : ℕ) → IsDue server i t → i ≤ landed server (t + 1) }
+{}
+
+/// A word that waits alone, with a credit left, lands within the latency for which the slots are
+/// suitable, whatever the receiver does.
+pub fn single_word()
+    ensures { (server : PrivateServer) → HasPaths server.shape
+        → Ascends 0 server.shape.size server.shape.slots → IsNonDecreasing server.offers
+        → (need i a latency : ℕ) → WaitsAlone server need i a latency
+        → i ≤ landed server (a + latency + 1) }
+{}
+
+/// A word that has landed landed in its landing cycle, and a time has passed exactly where its
+/// cycle, rounded up, has come.
+pub fn cycles()
+    ensures landing { (server : PrivateServer) (t i : ℕ) → 1 ≤ i → i ≤ landed server t
+        → LandsAt server i (landing_cycle server t i) }
+    ensures due { (time rate t : ℕ) → 1 ≤ rate → (div_ceil time rate ≤ t) ↔ (time ≤ rate * t) }
+{}
