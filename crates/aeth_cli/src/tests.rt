@@ -17,7 +17,7 @@ fn words_of(alloc: Global, line: &str) -> Result<Vec<String>, Fail> {
 }
 
 /// Words, status, and what is written to `out` and to `err`.
-const ROWS: [(&str, u8, &str, &str); 36] = [
+const ROWS: [(&str, u8, &str, &str); 31] = [
     ("slots 8 2 4 0,1,2,3,4,5,6,7", DONE, "0,4\n", ""),
     ("slots 8 1 4 1,2,6", DONE, "2,6\n", ""),
     ("slots 1 1 1 0", DONE, "0\n", ""),
