@@ -1,0 +1,4 @@
+mod Documents
+pub mod Tables
+pub mod Least
+pub mod WalkLemmas

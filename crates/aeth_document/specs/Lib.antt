@@ -1,0 +1,6 @@
+pub mod Shown
+pub mod Document
+pub mod Walks
+pub mod Keys
+pub mod Values
+pub mod Chain
