@@ -35,6 +35,7 @@ entries_of (member k d ms) = (k, d) ∷ entries_of ms
 abbrev pub Fields : Type 0
 Fields = List (List ℕ × Kind)
 
+-- The fields of a table as this list.
 abbrev pub fields_view : List Field → Fields
 fields_view fields = map (λ f. (f.key.now, f.kind)) fields
 

@@ -1,0 +1,199 @@
+-- Laws of the summary of a chip: what one more interface adds, what a loop over all pairs keeps,
+-- and how many pairs have no path at most.
+use Rattle.std.proofs.Common.{◌≡◌, ◌∙◌, ◌+◌, ◌*◌, ◌<◌, ◌≤◌, ◌++◌, ℕ, zero, suc, cond, max, List, []}
+use Rattle.std.proofs.Common.{◌∷◌, Option, Some, None, length, refl, sym, ap, add-one, append_assoc}
+use Rattle.std.proofs.Common.{length-append, arith}
+use Rattle.std.specs.Prelude.{count_by, fold, filter_map, flat_map}
+use Rattle.std.specs.List.{range_with_len}
+use Rattle.std.specs.Option.{is_none}
+use Rattle.std.proofs.lemmas.List.{append-nil, flat_map_more, length-map}
+use Rattle.std.proofs.lemmas.List.Elements.{filter_map-append}
+use Rattle.std.proofs.lemmas.List.FromFn.{length-range_with_len, map-range_with_len_more}
+use Rattle.std.proofs.lemmas.List.Sums.{count_by-le-length, fold-append}
+use Rattle.std.proofs.Math.Nat.{mul-le-mul}
+use Rattle.aeth_chip.specs.declared.chip.TheConstants.{MAX_NIS}
+use Rattle.aeth_chip.specs.Chip.{ChipData}
+use Rattle.aeth_chip.specs.LeastDistance.{least_distance}
+use Rattle.aeth_chip.specs.Summary.{distances_from, distances_among, distances_of, greatest_of}
+use Rattle.aeth_chip.specs.Summary.{far_of, unreached_of}
+
+-- One more number that is there.
+pub greatest_of-some : (numbers : List (Option ℕ)) (number : ℕ)
+    → greatest_of (numbers ++ Some number ∷ []) ≡ max (greatest_of numbers) number
+greatest_of-some numbers number =
+    ap (fold max 0) (filter_map-append (λ n. n) numbers (Some number ∷ []))
+    ∙ fold-append max 0 (filter_map (λ n. n) numbers) (number ∷ [])
+
+-- One more number that is missing.
+pub greatest_of-none : (numbers : List (Option ℕ))
+    → greatest_of (numbers ++ None ∷ []) ≡ greatest_of numbers
+greatest_of-none numbers =
+    ap (fold max 0) (filter_map-append (λ n. n) numbers (None ∷ []))
+    ∙ fold-append max 0 (filter_map (λ n. n) numbers) []
+
+-- One more that is there, among those that are missing.
+pub count_missing-some : (numbers : List (Option ℕ)) (number : ℕ)
+    → count_by is_none (numbers ++ Some number ∷ []) ≡ count_by is_none numbers
+count_missing-some numbers number =
+    let one_more : count_by is_none (numbers ++ Some number ∷ []) ≡ count_by is_none numbers + 0 =
+    fold-append (λ missing n. missing + cond (is_none n) 1 0) 0 numbers (Some number ∷ []) in
+    omega arith
+
+-- One more that is missing.
+pub count_missing-none : (numbers : List (Option ℕ))
+    → count_by is_none (numbers ++ None ∷ []) ≡ count_by is_none numbers + 1
+count_missing-none numbers =
+    fold-append (λ missing n. missing + cond (is_none n) 1 0) 0 numbers (None ∷ [])
+
+-- One more interface to go to.
+pub distances_from-more : (chip : ChipData) (a count : ℕ)
+    → distances_from chip a (count + 1)
+    ≡ distances_from chip a count
+    ++ least_distance chip (record { 0 = a }) (record { 0 = count }) ∷ []
+distances_from-more chip a count =
+    map-range_with_len_more (λ b. least_distance chip (record { 0 = a }) (record { 0 = b })) 0 count
+    count (omega arith)
+
+-- One more number of a range.
+range_with_len-more : (start size last : ℕ) → start + size ≡ last
+    → range_with_len start (suc size) ≡ range_with_len start size ++ last ∷ []
+range_with_len-more start zero last is =
+    let same : start ≡ last = omega arith in ap (λ n. n ∷ []) same
+range_with_len-more start (suc size) last is =
+    ap (λ ns. start ∷ ns) (range_with_len-more (start + 1) size last (omega arith))
+
+-- One more interface to come from.
+pub distances_among-more : (chip : ChipData) (count : ℕ)
+    → distances_among chip (count + 1)
+    ≡ distances_among chip count ++ distances_from chip count (length chip.nis)
+distances_among-more chip count =
+    let row : ℕ → List (Option ℕ) = λ a. distances_from chip a (length chip.nis) in
+    ap (λ n. flat_map row (range_with_len 0 n)) (add-one count)
+    ∙ ap (flat_map row) (range_with_len-more 0 count count (omega arith))
+    ∙ sym (flat_map_more row [] (range_with_len 0 count) count)
+
+-- A row has a number for each interface.
+pub length-distances_from : (chip : ChipData) (a count : ℕ)
+    → length (distances_from chip a count) ≡ count
+length-distances_from chip a count =
+    length-map (range_with_len 0 count)
+    (λ b. least_distance chip (record { 0 = a }) (record { 0 = b }))
+    ∙ length-range_with_len 0 count
+
+-- So many rows have as many numbers as so many times the interfaces.
+pub length-distances_among : (chip : ChipData) (count : ℕ)
+    → length (distances_among chip count) ≡ count * length chip.nis
+length-distances_among chip zero = omega arith
+length-distances_among chip (suc count) =
+    let before = length-distances_among chip count in
+    let row = length-distances_from chip count (length chip.nis) in
+    let more = ap length (ap (distances_among chip) (sym (add-one count))
+    ∙ distances_among-more chip count) in
+    let both = length-append (distances_among chip count)
+    (distances_from chip count (length chip.nis)) in
+    omega arith
+
+-- ---- what a loop over all pairs keeps
+
+-- The pairs that come before one: those from an earlier interface, and those from the same one to
+-- an earlier.
+abbrev pub distances_before : ChipData → ℕ → ℕ → List (Option ℕ)
+distances_before chip a b = distances_among chip a ++ distances_from chip a b
+
+-- The summary of the pairs before one.
+pub record IsSummaryBefore (chip : ChipData) (a b far unreached : ℕ) : Type 0 where
+  pub far_is : far ≡ greatest_of (distances_before chip a b)
+  pub unreached_is : unreached ≡ count_by is_none (distances_before chip a b)
+
+-- One more pair.
+distances_before-more : (chip : ChipData) (a b : ℕ) (least : Option ℕ)
+    → least ≡ least_distance chip (record { 0 = a }) (record { 0 = b })
+    → distances_before chip a (b + 1) ≡ distances_before chip a b ++ least ∷ []
+distances_before-more chip a b least is =
+    ap (λ row. distances_among chip a ++ row) (distances_from-more chip a b)
+    ∙ sym (append_assoc (distances_among chip a) (distances_from chip a b)
+    (least_distance chip (record { 0 = a }) (record { 0 = b }) ∷ []))
+    ∙ ap (λ o. distances_before chip a b ++ o ∷ []) (sym is)
+
+-- Before the first pair.
+pub summary-start : (chip : ChipData) → IsSummaryBefore chip 0 0 0 0
+summary-start chip = record { far_is = refl; unreached_is = refl }
+
+-- One more pair, with a path.
+pub summary-some : (chip : ChipData) (a b far unreached least new_far new_unreached : ℕ)
+    → IsSummaryBefore chip a b far unreached
+    → Some least ≡ least_distance chip (record { 0 = a }) (record { 0 = b })
+    → new_far ≡ max far least → new_unreached ≡ unreached
+    → IsSummaryBefore chip a (b + 1) new_far new_unreached
+summary-some chip a b far unreached least new_far new_unreached before is farther kept =
+    let more = distances_before-more chip a b (Some least) is in
+    record {
+      far_is = farther ∙ ap (λ n. max n least) before.far_is
+          ∙ sym (greatest_of-some (distances_before chip a b) least)
+          ∙ ap greatest_of (sym more);
+      unreached_is = kept ∙ before.unreached_is
+          ∙ sym (count_missing-some (distances_before chip a b) least)
+          ∙ ap (count_by is_none) (sym more);
+    }
+
+-- One more pair, without.
+pub summary-none : (chip : ChipData) (a b far unreached new_far new_unreached : ℕ)
+    → IsSummaryBefore chip a b far unreached
+    → None ≡ least_distance chip (record { 0 = a }) (record { 0 = b })
+    → new_far ≡ far → new_unreached ≡ unreached + 1
+    → IsSummaryBefore chip a (b + 1) new_far new_unreached
+summary-none chip a b far unreached new_far new_unreached before is kept counted =
+    let more = distances_before-more chip a b None is in
+    record {
+      far_is = kept ∙ before.far_is ∙ sym (greatest_of-none (distances_before chip a b))
+          ∙ ap greatest_of (sym more);
+      unreached_is = counted ∙ ap (λ n. n + 1) before.unreached_is
+          ∙ sym (count_missing-none (distances_before chip a b))
+          ∙ ap (count_by is_none) (sym more);
+    }
+
+-- All pairs from one more interface.
+pub summary-row : (chip : ChipData) (a b far unreached : ℕ)
+    → IsSummaryBefore chip a b far unreached → b ≡ length chip.nis
+    → IsSummaryBefore chip (a + 1) 0 far unreached
+summary-row chip a b far unreached before last =
+    let same : distances_before chip a b ≡ distances_before chip (a + 1) 0 =
+    ap (distances_before chip a) last
+    ∙ sym (distances_among-more chip a) ∙ sym (append-nil (distances_among chip (a + 1))) in
+    record {
+      far_is = before.far_is ∙ ap greatest_of same;
+      unreached_is = before.unreached_is ∙ ap (count_by is_none) same;
+    }
+
+-- The summary of all pairs.
+pub record IsSummary (chip : ChipData) (far unreached : ℕ) : Type 0 where
+  pub far_is : far ≡ far_of chip
+  pub unreached_is : unreached ≡ unreached_of chip
+
+-- After the last pair.
+pub summary-end : (chip : ChipData) (a far unreached : ℕ)
+    → IsSummaryBefore chip a 0 far unreached → a ≡ length chip.nis
+    → IsSummary chip far unreached
+unfolding far_of unreached_of
+summary-end chip a far unreached before last =
+    let same : distances_before chip a 0 ≡ distances_of chip =
+    append-nil (distances_among chip a) ∙ ap (distances_among chip) last in
+    record {
+      far_is = before.far_is ∙ ap greatest_of same;
+      unreached_is = before.unreached_is ∙ ap (count_by is_none) same;
+    }
+
+-- So many pairs before one have no path at most.
+pub summary-few : (chip : ChipData) (a b far unreached : ℕ)
+    → IsSummaryBefore chip a b far unreached → length chip.nis ≤ MAX_NIS → a < length chip.nis
+    → b < length chip.nis → unreached < MAX_NIS * MAX_NIS
+summary-few chip a b far unreached before few row column =
+    let is = before.unreached_is in
+    let missing = count_by-le-length is_none (distances_before chip a b) in
+    let both = length-append (distances_among chip a) (distances_from chip a b) in
+    let rows = length-distances_among chip a in
+    let one = length-distances_from chip a b in
+    let square : suc a * length chip.nis ≤ MAX_NIS * MAX_NIS =
+    mul-le-mul {n₁ = suc a} {m₁ = length chip.nis} {n₂ = MAX_NIS} {m₂ = MAX_NIS} (omega arith)
+    few in
+    omega arith

@@ -1,0 +1,25 @@
+use Rattle.std.proofs.Common.{◌≡◌, ◌<◌, Some, slice_get, arith}
+use Rattle.std.specs.Prelude.{IfSome}
+use Rattle.aeth_chip.specs.declared.node.Node.TheVariants.{Router}
+use Rattle.aeth_chip.specs.Nodes.{sender_of, sends_on}
+use Rattle.aeth_chip.proofs.NodeLemmas.{port_at}
+use Rattle.aeth_chip.proofs.chip.Chip.port.Goals as goal
+
+-- The number of earlier links of the router is its port, one of few.
+port_is : (c : goal.After-count_sent) → (c.count_sent.result < 8)
+    × IfSome (sender_of c.args.self.now.links c.args.link.0) (λ router.
+    slice_get (sends_on (Router router) c.args.self.now.links) c.count_sent.result
+    ≡ Some c.args.link.0)
+port_is c =
+    rw (← c.self.view_is) (port_at _ c.args.link.0 c.index.result.now c.count_sent.result
+    c.self.invariant c.index.ensures (rw (← c.self.view_is) at c.requires)
+    (rw c.deref.ensures.value at c.count_sent.ensures))
+
+pub overflow_cast-result : goal.overflow_cast-result
+overflow_cast-result c = let few = (port_is c).0 in omega arith
+
+pub returns-clause-port : goal.returns-clause-port
+returns-clause-port c = (port_is c).1
+
+pub returns-clause-few : goal.returns-clause-few
+returns-clause-few c = (port_is c).0

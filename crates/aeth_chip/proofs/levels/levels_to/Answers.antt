@@ -1,0 +1,84 @@
+use Rattle.std.proofs.Common.{◌≡◌, ◌∙◌, ℕ, ◌+◌, ◌++◌, List, [], Option, None, take, drop, length}
+use Rattle.std.proofs.Common.{vec_len, nat_eq, Bool, true, false, rules, Contains, refl, ap, subst}
+use Rattle.std.proofs.Common.{sym, arith}
+use Rattle.std.specs.Prelude.{replicate}
+use Rattle.std.proofs.lemmas.List.{take_all, drop_all, append-nil, nil_from_length}
+use Rattle.std.proofs.lemmas.Bool.{eqb-true, eqb-false}
+use Rattle.aeth_chip.specs.Levels.{IsOrigin}
+use Rattle.aeth_chip.proofs.LevelLemmas.{Found, found-start, found-round, found-all, front-below}
+use Rattle.aeth_chip.proofs.levels.levels_to.Goals as goal
+
+-- No place has a level, and the goal is to go on from.
+pub rounds-init : goal.rounds-init
+rounds-init c =
+    let origins = c.args.origins.now in
+    let start = found-start (IsOrigin origins) c.args.routers c.args.goal (length origins) in
+    let placed = subst (λ (xs : List ℕ).
+    Found (IsOrigin origins) c.args.routers c.args.goal (length origins) 0 xs
+    (replicate (length origins) None)) (sym c.in_ok-frontier.ensures.items) start in
+    let none : c.in_ok-levels.levels.items ≡ replicate (length origins) None = search rules in
+    subst (λ (xs : List (Option ℕ)).
+    Found (IsOrigin origins) c.args.routers c.args.goal (length origins) 0
+    c.in_ok-frontier.frontier.items xs) (sym none)
+    placed
+
+-- The places to go on from are the goal or routers.
+pub spread_all-requires-clause-frontier : goal.spread_all-requires-clause-frontier
+spread_all-requires-clause-frontier c = λ place has.
+    front-below c.rounds.invariant c.requires.goal c.requires.routers place
+    (subst (λ (xs : List ℕ). Contains xs place) c.deref.ensures.value has)
+
+pub spread_all-requires-clause-places : goal.spread_all-requires-clause-places
+spread_all-requires-clause-places c = λ from to origin.
+    let low = c.requires.places from to origin in
+    let size = c.rounds.invariant.size in
+    let same = ap length c.deref_mut.ensures.value in
+    omega arith
+
+-- What a slice was written back as.
+written_back : (len : ℕ) (new old : List (Option ℕ)) → length new ≡ length old → len ≡ length old
+    → take len (new ++ drop (length new) old) ≡ new
+written_back len new old same is =
+    ap (λ (xs : List (Option ℕ)). take len (new ++ xs)) (drop_all (length new) old (omega arith))
+    ∙ ap (take len) (append-nil new) ∙ take_all len new (omega arith)
+
+-- A list whose test for emptiness says so.
+tested_empty : (len : ℕ) (test : Bool) → test ≡ nat_eq len 0 → test ≡ true → len ≡ 0
+tested_empty len test is passed = eqb-true len 0 (sym is ∙ passed)
+
+tested_some : (len : ℕ) (test : Bool) → test ≡ nat_eq len 0 → test ≡ false → len ≡ 0 → ⊥
+tested_some len test is failed none = eqb-false len 0 (sym is ∙ failed) none
+
+-- One more round.
+pub rounds-preserved : goal.rounds-preserved
+rounds-preserved c =
+    let origins = c.args.origins.now in
+    let new = c.spread_all.new.levels in
+    let next = c.spread_all.new.next.items in
+    let some = tested_some (vec_len c.rounds.frontier) c.is_empty.result c.is_empty.ensures
+    c.rounds-test.true in
+    let ok = c.rounds.frontier.ok in
+    let round = found-round c.rounds.invariant (λ none.
+    some (omega arith)) c.in_ok-spread_all.ensures c.deref.ensures.value refl
+    c.deref_mut.ensures.value c.new-next.ensures.items in
+    let size = ap length c.deref_mut.ensures.value in
+    let long = c.rounds.levels.ok in
+    let same_length : length new ≡ length c.rounds.levels.items = round.size
+    ∙ sym c.rounds.invariant.size in
+    subst (λ (xs : List (Option ℕ)).
+    Found (IsOrigin origins) c.args.routers c.args.goal (length origins) (c.rounds.level + 1)
+    next xs)
+    (sym (written_back c.rounds.levels.len new c.rounds.levels.items same_length (omega arith)))
+    round
+
+-- Nothing is left to go on from.
+pub returns : goal.returns
+returns c =
+    let long = c.rounds.frontier.ok in
+    let empty = tested_empty (vec_len c.rounds.frontier) c.is_empty.result c.is_empty.ensures
+    c.rounds-test.false in
+    let none : c.rounds.frontier.items ≡ [] =
+    nil_from_length c.rounds.frontier.items (omega arith) in
+    found-all (IsOrigin c.args.origins.now) c.args.routers c.args.goal (length c.args.origins.now)
+    c.rounds.level
+    c.rounds.frontier.items c.rounds.levels.items c.rounds.invariant none

@@ -1,0 +1,14 @@
+use Rattle.std.proofs.Common.{◌+◌, length}
+use Rattle.aeth_chip.specs.Levels.{IsOrigin, count_none}
+use Rattle.aeth_chip.proofs.LevelLemmas.{Found}
+use Rattle.aeth_chip.proofs.levels.levels_to.Given as goal
+
+-- What is found after so many rounds.
+abbrev pub invariant-rounds : goal.invariant-rounds
+invariant-rounds l =
+    Found (IsOrigin l.origins) l.routers l.goal (length l.origins) l.level l.frontier.items
+    l.levels.items
+
+-- The places without a level, and those to go on from.
+abbrev pub decreases-rounds : goal.decreases-rounds
+decreases-rounds l = count_none l.levels.items + length l.frontier.items

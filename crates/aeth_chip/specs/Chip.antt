@@ -1,0 +1,66 @@
+-- What a chip is seen as, and what holds of every chip.
+-- This project's own.
+use Rattle.std.specs.Prelude.{◌≡◌, ◌≤◌, ◌<◌, ℕ, ◌∷◌, [], List, length, slice_get, count_by, Some}
+use Rattle.aeth_base.specs.declared.ids.LinkId.{LinkId}
+use Rattle.aeth_base.specs.declared.ids.NiId.{NiId}
+use Rattle.aeth_base.specs.declared.ids.RouterId.{RouterId}
+use Rattle.aeth_chip.specs.declared.chip.TheConstants.{MAX_CHIP_LINKS, MAX_NIS, MAX_PORTS}
+use Rattle.aeth_chip.specs.declared.chip.TheConstants.{MAX_ROUTERS, MAX_SLOTS}
+use Rattle.aeth_chip.specs.declared.node.Link.{Link}
+use Rattle.aeth_chip.specs.declared.node.Node.{Node}
+use Rattle.aeth_chip.specs.declared.node.Node.TheVariants.{Router, Ni}
+use Rattle.aeth_chip.specs.declared.node.TheConstants.{MAX_DELAY}
+use Rattle.aeth_chip.specs.Nodes.{begins_at, ends_at, sends_on, receives_on}
+
+-- A chip: the size of its slot table, the names of its routers and of its network interfaces, and
+-- its links, each in file order.
+pub record ChipData : Type 0 where
+  pub slots : ℕ
+  pub routers : List (List ℕ)
+  pub nis : List (List ℕ)
+  pub links : List Link
+
+-- The node is one of the routers or of the network interfaces.
+abbrev pub IsNode : List (List ℕ) → List (List ℕ) → Node → Type 0
+IsNode routers nis (Router r) = r.0 < length routers
+IsNode routers nis (Ni n) = n.0 < length nis
+
+-- What holds of every link of a chip.
+pub record IsLinkOf (chip : ChipData) (link : Link) : Type 0 where
+  pub from : IsNode chip.routers chip.nis link.from
+  pub to : IsNode chip.routers chip.nis link.to
+  pub takes_time : 1 ≤ link.delay
+  pub within : link.delay ≤ MAX_DELAY
+
+-- A router has so few ports each way.
+pub record HasFewPorts (links : List Link) (router : RouterId) : Type 0 where
+  pub sends : count_by (begins_at (Router router)) links ≤ MAX_PORTS
+  pub receives : count_by (ends_at (Router router)) links ≤ MAX_PORTS
+
+-- A network interface has one link each way, and one router at the other end of both.
+pub record IsSingle (links : List Link) (ni : NiId) : Type 0 where
+  pub router : RouterId
+  pub leaving : LinkId
+  pub entering : LinkId
+  pub out : Link
+  pub back : Link
+  pub sends : sends_on (Ni ni) links ≡ leaving.0 ∷ []
+  pub receives : receives_on (Ni ni) links ≡ entering.0 ∷ []
+  pub is_out : slice_get links leaving.0 ≡ Some out
+  pub is_back : slice_get links entering.0 ≡ Some back
+  pub to : out.to ≡ Router router
+  pub from : back.from ≡ Router router
+
+-- What holds of every chip.
+pub record IsChip (chip : ChipData) : Type 0 where
+  pub some_slots : 1 ≤ chip.slots
+  pub slots : chip.slots ≤ MAX_SLOTS
+  pub some_routers : 1 ≤ length chip.routers
+  pub routers : length chip.routers ≤ MAX_ROUTERS
+  pub some_nis : 1 ≤ length chip.nis
+  pub nis : length chip.nis ≤ MAX_NIS
+  pub few_links : length chip.links ≤ MAX_CHIP_LINKS
+  pub links : (l : ℕ) (link : Link) → slice_get chip.links l ≡ Some link → IsLinkOf chip link
+  pub ports : (router : RouterId) → router.0 < length chip.routers
+      → HasFewPorts chip.links router
+  pub single : (ni : NiId) → ni.0 < length chip.nis → IsSingle chip.links ni

@@ -1,0 +1,31 @@
+-- What the table of least numbers of links has.
+-- This project's own.
+use Rattle.std.specs.Prelude.{◌+◌, ◌<◌, ◌≤◌, ℕ, List, Option, Some, None, slice_get}
+use Rattle.std.specs.declared.vec.Vec.{Vec}
+use Rattle.std.specs.declared.alloc.Global.{Global}
+use Rattle.aeth_base.specs.declared.ids.NiId.{NiId}
+use Rattle.aeth_base.specs.declared.ids.RouterId.{RouterId}
+use Rattle.aeth_chip.specs.declared.node.Link.{Link}
+use Rattle.aeth_chip.specs.Paths.{IsDistance, IsOnwardDistance}
+
+-- An entry that may be beyond the row.
+abbrev pub entry_in : Option (Option ℕ) → Option ℕ
+entry_in (Some entry) = entry
+entry_in None = None
+
+-- The entry of a row at a place, where there is such a row.
+abbrev pub entry_of : Option (Vec (Option ℕ) Global) → ℕ → Option ℕ
+entry_of (Some row) place = entry_in (slice_get row.items place)
+entry_of None place = None
+
+-- The entry for a place before a goal.
+abbrev pub entry_at : List (Vec (Option ℕ) Global) → ℕ → ℕ → Option ℕ
+entry_at rows goal place = entry_of (slice_get rows goal) place
+
+-- A row for each interface: the least number of links from each router, then from each interface.
+pub record AreRows (links : List Link) (routers : ℕ) (rows : List (Vec (Option ℕ) Global))
+    : Type 0 where
+  pub between : (a b : NiId) → IsDistance links a b (entry_at rows b.0 (routers + a.0))
+  pub onward : (r : RouterId) (b : NiId) → r.0 < routers
+      → IsOnwardDistance links r b (entry_at rows b.0 r.0)
+  pub beyond : (r : RouterId) (b : NiId) → routers ≤ r.0 → IsOnwardDistance links r b None

@@ -1,0 +1,120 @@
+-- Levels of nodes before a goal, and what a search keeps of them. The nodes of a chip stand at
+-- places: first the routers, then the interfaces.
+--   place_of, HasPlace, HasPlaces      where the nodes and the ends of links stand
+--   IsStep, Leads      what a link does between places
+--   items_at, IsOrigin, AreOrigins, Enters      for each place, from where links lead there
+--   Passes, Reaches, AreLevels      steps to a goal, and the least numbers of them
+--   At, Within, Lists, Spreads      what a level is, and what giving one to places changes
+-- This project's own.
+use Rattle.std.specs.Prelude.{◌≡◌, ◌⊎◌, ◌+◌, ◌<◌, ◌≤◌, ℕ, zero, suc, List, [], ◌∷◌, Option, Some}
+use Rattle.std.specs.Prelude.{None, length, slice_get, Contains}
+use Rattle.std.specs.declared.vec.Vec.{Vec}
+use Rattle.std.specs.declared.alloc.Global.{Global}
+use Rattle.aeth_chip.specs.declared.node.Link.{Link}
+use Rattle.aeth_chip.specs.declared.node.Node.{Node}
+use Rattle.aeth_chip.specs.declared.node.Node.TheVariants.{Router, Ni}
+
+-- The place of a node, with so many routers.
+abbrev pub place_of : ℕ → Node → ℕ
+place_of routers (Router r) = r.0
+place_of routers (Ni n) = routers + n.0
+
+-- The link leads from a place to a place, one of which is a router's.
+pub record IsStep (routers : ℕ) (link : Link) (from to : ℕ) : Type 0 where
+  pub begins : place_of routers link.from ≡ from
+  pub ends : place_of routers link.to ≡ to
+  pub router : (from < routers) ⊎ (to < routers)
+
+-- Some link does so.
+pub record Leads (links : List Link) (routers from to : ℕ) : Type 0 where
+  pub link : Link
+  pub has : Contains links link
+  pub step : IsStep routers link from to
+
+-- The node is one of so many routers, or an interface whose place is below a number.
+abbrev pub HasPlace : ℕ → ℕ → Node → Type 0
+HasPlace routers places (Router r) = r.0 < routers
+HasPlace routers places (Ni n) = routers + n.0 < places
+
+-- Both ends of each link have places.
+abbrev pub HasPlaces : List Link → ℕ → ℕ → Type 0
+HasPlaces links routers places = (link : Link) → Contains links link
+    → HasPlace routers places link.from × HasPlace routers places link.to
+
+-- What a list of lists has at a place.
+abbrev pub items_in : Option (Vec ℕ Global) → List ℕ
+items_in (Some items) = items.items
+items_in None = []
+
+-- The list at a place of a list of lists.
+abbrev pub items_at : List (Vec ℕ Global) → ℕ → List ℕ
+items_at lists place = items_in (slice_get lists place)
+
+-- A link was entered in lists that have, for each place, the places from which a link leads there.
+pub record Enters (routers : ℕ) (link : Link) (old new : List (Vec ℕ Global)) : Type 0 where
+  pub size : length new ≡ length old
+  pub only : (from to : ℕ) → Contains (items_at new to) from
+      → Contains (items_at old to) from ⊎ IsStep routers link from to
+  pub kept : (from to : ℕ) → Contains (items_at old to) from → Contains (items_at new to) from
+  pub each : (from to : ℕ) → IsStep routers link from to → Contains (items_at new to) from
+
+-- A list for each place has a place exactly where some link leads from that to this.
+pub record AreOrigins (links : List Link) (routers places : ℕ) (origins : List (Vec ℕ Global))
+    : Type 0 where
+  pub size : length origins ≡ places
+  pub only : (from to : ℕ) → Contains (items_at origins to) from → Leads links routers from to
+  pub each : (from to : ℕ) → Leads links routers from to → Contains (items_at origins to) from
+
+-- A place is in the list of a place.
+abbrev pub IsOrigin : List (Vec ℕ Global) → ℕ → ℕ → Type 0
+IsOrigin origins from to = Contains (items_at origins to) from
+
+-- The goal lies just so many steps on from a place that is the goal or a router's.
+abbrev pub Passes : (ℕ → ℕ → Type 0) → ℕ → ℕ → ℕ → ℕ → Type 0
+Passes Step routers goal zero place = place ≡ goal
+Passes Step routers goal (suc steps) place =
+    (place < routers) × ((next : ℕ) × Step place next × Passes Step routers goal steps next)
+
+-- The goal lies just so many steps on from a place, at least one, and between them are routers.
+abbrev pub Reaches : (ℕ → ℕ → Type 0) → ℕ → ℕ → ℕ → ℕ → Type 0
+Reaches Step routers goal zero place = ⊥
+Reaches Step routers goal (suc steps) place =
+    (next : ℕ) × Step place next × Passes Step routers goal steps next
+
+-- A place has this level.
+abbrev pub At : List (Option ℕ) → ℕ → ℕ → Type 0
+At levels place level = slice_get levels place ≡ Some (Some level)
+
+-- A place has a level, at most this one.
+abbrev pub Within : List (Option ℕ) → ℕ → ℕ → Type 0
+Within levels place level = (least : ℕ) × At levels place least × (least ≤ level)
+
+-- The level of each place is the least number of steps to the goal.
+pub record AreLevels (Step : ℕ → ℕ → Type 0) (routers goal places : ℕ) (levels : List (Option ℕ))
+    : Type 0 where
+  pub size : length levels ≡ places
+  pub reached : (place level : ℕ) → At levels place level → Reaches Step routers goal level place
+  pub least : (place level : ℕ) → Reaches Step routers goal level place → Within levels place level
+
+-- How many places have no level.
+abbrev pub count_none : List (Option ℕ) → ℕ
+count_none [] = 0
+count_none (None ∷ levels) = suc (count_none levels)
+count_none (Some level ∷ levels) = count_none levels
+
+-- The list has just the routers of a level.
+abbrev pub Lists : ℕ → ℕ → List (Option ℕ) → List ℕ → Type 0
+Lists level routers levels next = (place : ℕ)
+    → (Contains next place → (place < routers) × At levels place level)
+    × ((place < routers) × At levels place level → Contains next place)
+
+-- The places with a property that had no level have got this one, and the routers among them were
+-- put into a list.
+pub record Spreads (P : ℕ → Type 0) (level routers : ℕ) (old new : List (Option ℕ))
+    (before after : List ℕ) : Type 0 where
+  pub size : length new ≡ length old
+  pub kept : (place k : ℕ) → At old place k → At new place k
+  pub fresh : (place k : ℕ) → At new place k → At old place k ⊎ ((k ≡ level) × P place)
+  pub all : (place : ℕ) → P place → (k : ℕ) × At new place k
+  pub lists : Lists level routers old before → Lists level routers new after
+  pub count : count_none new + length after ≤ count_none old + length before

@@ -1,0 +1,185 @@
+// A chip as its file tells it.
+ghost use Rattle.std.specs.Prelude.{◌≡◌, ◌<◌, ◌≤◌, ◌∷◌, [], Some, length, slice_get, position};
+ghost use Rattle.std.specs.Prelude.{option_map, IsSome, IfSome};
+ghost use Rattle.std.specs.Str.{bytes_eq};
+ghost use Rattle.aeth_chip.specs.declared.node.Node.TheVariants.{Router, Ni};
+ghost use Rattle.aeth_chip.specs.Chip.{IsChip, IsNode};
+ghost use Rattle.aeth_chip.specs.Nodes.{receives_on, sender_of, sends_on};
+
+use crate::node::{Link, MAX_DELAY, Node};
+use crate::ports::{count_sent, nth_received, nth_sent};
+use aeth_base::{LinkId, Name, NiId, RouterId};
+use indexmap::IndexSet;
+use std::marker::Model;
+
+/// The most slots of a slot table.
+pub const MAX_SLOTS: u32 = 64;
+
+/// The most routers of a chip.
+pub const MAX_ROUTERS: u32 = 64;
+
+/// The most network interfaces of a chip.
+pub const MAX_NIS: u32 = 64;
+
+/// The most links of a chip.
+pub const MAX_CHIP_LINKS: u32 = 1024;
+
+/// The most links on which a router sends, and on which it receives.
+pub const MAX_PORTS: u32 = 8;
+
+/// A chip: the size of its slot table, its routers and network interfaces, and its directed links.
+///
+/// All are numbered from 0 in the order of the file. The ports of a router are the links on which
+/// it sends, in that order. After Æthereal (2005).
+#[derive(Drop)]
+pub struct Chip {
+    slots: u32,
+    routers: IndexSet<Name>,
+    nis: IndexSet<Name>,
+    links: Vec<Link>,
+}
+
+impl Model for Chip {
+    ghost use Rattle.aeth_chip.specs.Chip.{ChipData, IsChip};
+
+    ghost Value = { ChipData };
+
+    ghost view = { λ chip. record {
+      slots = chip.slots;
+      routers = chip.routers.keys;
+      nis = chip.nis.keys;
+      links = chip.links.items;
+    } };
+
+    ghost invariant = { λ chip. IsChip (record {
+      slots = chip.slots;
+      routers = chip.routers.keys;
+      nis = chip.nis.keys;
+      links = chip.links.items;
+    }) };
+}
+
+impl Chip {
+    pub(crate) fn new(
+        slots: u32,
+        routers: IndexSet<Name>,
+        nis: IndexSet<Name>,
+        links: Vec<Link>,
+    ) -> Chip
+        requires { IsChip (record {
+          slots = slots;
+          routers = routers.keys;
+          nis = nis.keys;
+          links = links.items;
+        }) }
+        ensures { result ≡ record {
+          slots = slots;
+          routers = routers.keys;
+          nis = nis.keys;
+          links = links.items;
+        } }
+    {
+        Chip {
+            slots,
+            routers,
+            nis,
+            links,
+        }
+    }
+
+    /// The size of the slot table.
+    pub fn slots(&self) -> u32
+        ensures slots { result ≡ self.now.slots }
+        ensures chip { IsChip self.now }
+    {
+        self.slots
+    }
+
+    /// The number of routers.
+    pub fn routers(&self) -> u32
+        ensures routers { result ≡ length self.now.routers }
+        ensures most { result ≤ MAX_ROUTERS }
+    {
+        self.routers.len() as u32
+    }
+
+    /// The number of network interfaces.
+    pub fn nis(&self) -> u32
+        ensures nis { result ≡ length self.now.nis }
+        ensures most { result ≤ MAX_NIS }
+    {
+        self.nis.len() as u32
+    }
+
+    /// The number of links.
+    pub fn links(&self) -> u32
+        ensures { result ≡ length self.now.links }
+    {
+        self.links.len() as u32
+    }
+
+    /// A link by its number.
+    pub fn link(&self, link: LinkId) -> Link
+        requires { link.0 < length self.now.links }
+        ensures link { slice_get self.now.links link.0 ≡ Some result }
+        ensures from { IsNode self.now.routers self.now.nis result.from }
+        ensures to { IsNode self.now.routers self.now.nis result.to }
+        ensures delay { (1 ≤ result.delay) × (result.delay ≤ MAX_DELAY) }
+    {
+        self.links[link.0 as usize]
+    }
+
+    /// The port of the router that sends on the link: its place among the router's links.
+    pub fn port(&self, link: LinkId) -> u8
+        requires { IsSome (sender_of self.now.links link.0) }
+        ensures port { IfSome (sender_of self.now.links link.0) (λ router.
+            slice_get (sends_on (Router router) self.now.links) result ≡ Some link.0) }
+        ensures few { result < MAX_PORTS }
+    {
+        let from = self.links[link.0 as usize].from;
+        count_sent(&self.links[..link.0 as usize], from) as u8
+    }
+
+    /// The link on which a router sends through a port; `None` exactly where the port is past the
+    /// router's last.
+    pub fn exit(&self, router: RouterId, port: u8) -> Option<LinkId>
+        ensures { option_map (λ link. link.0) result
+            ≡ slice_get (sends_on (Router router) self.now.links) port }
+    {
+        nth_sent(&self.links, Node::Router(router), port as u32)
+    }
+
+    /// The one link on which a network interface sends.
+    pub fn leaving(&self, ni: NiId) -> LinkId
+        requires { ni.0 < length self.now.nis }
+        ensures { sends_on (Ni ni) self.now.links ≡ result.0 ∷ [] }
+    {
+        nth_sent(&self.links, Node::Ni(ni), 0).unwrap()
+    }
+
+    /// The one link on which a network interface receives.
+    pub fn entering(&self, ni: NiId) -> LinkId
+        requires { ni.0 < length self.now.nis }
+        ensures { receives_on (Ni ni) self.now.links ≡ result.0 ∷ [] }
+    {
+        nth_received(&self.links, Node::Ni(ni), 0).unwrap()
+    }
+
+    /// The name of a network interface.
+    pub fn ni_name(&self, ni: NiId) -> Name
+        requires { ni.0 < length self.now.nis }
+        ensures { slice_get self.now.nis ni.0 ≡ Some result }
+    {
+        *self.nis.get_index(ni.0 as usize).unwrap()
+    }
+
+    /// The network interface of this name.
+    pub fn find_ni(&self, name: &Name) -> Option<NiId>
+        ensures { option_map (λ ni. ni.0) result ≡ position (bytes_eq name.now) self.now.nis }
+    {
+        match self.nis.get_index_of(name) {
+            Some(place) => Some(NiId(place as u32)),
+            None => None,
+        }
+    }
+}

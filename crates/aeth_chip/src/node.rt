@@ -1,0 +1,57 @@
+// Routers and network interfaces, and the links that join them.
+ghost use Rattle.std.specs.Prelude.{◌≡◌};
+ghost use Rattle.aeth_chip.specs.Nodes.{begins_at, ends_at, same_node};
+
+use aeth_base::{NiId, RouterId};
+
+/// The greatest delay of a link, in cycles.
+pub const MAX_DELAY: u32 = 1;
+
+/// Where a link begins or ends.
+#[derive(Clone, Copy, Debug, PartialEq, Eq)]
+pub enum Node {
+    Router(RouterId),
+    Ni(NiId),
+}
+
+/// A directed link. A flit that enters it in a cycle leaves it `delay` cycles later.
+#[derive(Clone, Copy, Debug, PartialEq, Eq)]
+pub struct Link {
+    pub from: Node,
+    pub to: Node,
+    pub delay: u32,
+}
+
+impl Node {
+    /// Whether both are one node.
+    pub fn is_same(self, other: Node) -> bool
+        ensures { result ≡ same_node self other }
+    {
+        match self {
+            Node::Router(router) => match other {
+                Node::Router(same) => router.0 == same.0,
+                Node::Ni(_) => false,
+            },
+            Node::Ni(ni) => match other {
+                Node::Router(_) => false,
+                Node::Ni(same) => ni.0 == same.0,
+            },
+        }
+    }
+}
+
+impl Link {
+    /// Whether the link begins at the node.
+    pub fn begins_at(&self, node: Node) -> bool
+        ensures { result ≡ begins_at node self.now }
+    {
+        self.from.is_same(node)
+    }
+
+    /// Whether the link ends at the node.
+    pub fn ends_at(&self, node: Node) -> bool
+        ensures { result ≡ ends_at node self.now }
+    {
+        self.to.is_same(node)
+    }
+}

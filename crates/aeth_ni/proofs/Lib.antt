@@ -1,0 +1,3 @@
+pub mod InterfaceLemmas
+pub mod ProgramLemmas
+pub mod QueueLemmas

@@ -1,0 +1,239 @@
+//! A network interface: a slot table and 32 queues between two links.
+
+ghost use Rattle.std.specs.Prelude.{◌≡◌, ◌<◌, ◌↔◌, length, slice_get, IfOk, IfSome, map};
+ghost use Rattle.std.specs.Prelude.{◌==◌, Option, None, unwrap_or};
+ghost use Rattle.std.specs.Bool.{IsFalse, OnTrue, OnFalse};
+ghost use Rattle.std.proofs.Common.{ap, refl};
+ghost use Rattle.aeth_ni.specs.Queue.{empty_queue, offered, taken, finished, stopped};
+ghost use Rattle.aeth_ni.specs.Interface.{IsInterface, queue_at, changed, new_interface};
+ghost use Rattle.aeth_ni.specs.Interface.{entry_at, emitted_by, sent_by, arrival_of, landed_at};
+ghost use Rattle.aeth_ni.specs.Interface.{flit_on, last_of, absorbed, addressee, IsWritable};
+ghost use Rattle.aeth_ni.specs.Interface.{written};
+ghost use Rattle.std.proofs.lemmas.Bool.{eq-eqb};
+ghost use Rattle.aeth_clocked.specs.declared.flit.Flit.{Flit};
+
+use crate::queue::{Queue, Route, SOURCE_WORDS};
+use crate::write::Write;
+use aeth_base::{LinkId, NiId, NoMemory};
+use aeth_clocked::{Clocked, Flit, Wires};
+use aeth_header::unpack;
+use std::alloc::Global;
+use std::marker::Model;
+
+/// The number of queues of a network interface.
+pub const QUEUES: usize = 32;
+
+/// A network interface, after Æthereal (2005).
+///
+/// In a slot whose entry names a queue it sends up to two words and up to 15 credits on its leaving
+/// link. What comes on its entering link lands in the queue that the header names.
+#[derive(Debug, Drop)]
+pub struct Ni {
+    number: NiId,
+    leaving: LinkId,
+    entering: LinkId,
+    entries: Vec<Option<u8>>,
+    queues: Vec<Queue>,
+    last: Option<(u8, u8)>,
+}
+
+impl Model for Ni {
+    ghost use Rattle.aeth_ni.specs.Interface.{InterfaceState, IsInterface};
+
+    ghost Value = { InterfaceState };
+
+    ghost view = { λ ni. record {
+      number = ni.number;
+      leaving = ni.leaving;
+      entering = ni.entering;
+      entries = ni.entries.items;
+      queues = ni.queues.items;
+      last = ni.last;
+    } };
+
+    ghost invariant = { λ ni. IsInterface ni.entries.items ni.queues.items };
+}
+
+impl Ni {
+    /// An interface with this number of slots, all without an entry, and 32 queues without route,
+    /// word or credit. `rooms` has the words that each receive queue has room for.
+    ///
+    /// Later calls take no memory.
+    pub fn new(
+        alloc: Global,
+        ni: NiId,
+        leaving: LinkId,
+        entering: LinkId,
+        slots: u32,
+        rooms: &[u32],
+    ) -> Result<Ni, NoMemory>
+        requires slots { 0 < slots }
+        requires rooms { length rooms.now ≡ QUEUES }
+        ensures { IfOk result (λ made. made ≡ new_interface ni leaving entering slots rooms.now) }
+    {
+        let entries = vec![in alloc; None; slots as usize]?;
+        let queues = empty_queues(alloc, rooms)?;
+        Ok(Ni {
+            number: ni,
+            leaving,
+            entering,
+            entries,
+            queues,
+            last: None,
+        })
+    }
+
+    /// Puts a word behind those that wait in a source queue. False, and nothing changes, exactly
+    /// where eight words wait there.
+    pub fn offer(&mut self, queue: u8, word: u32) -> bool
+        requires { queue < QUEUES }
+        ensures full { IsFalse result
+            ↔ (length (queue_at self.old.queues queue).waiting ≡ SOURCE_WORDS) }
+        ensures offered { OnTrue result (self.new ≡ changed queue (offered word) self.old) }
+        ensures kept { OnFalse result (self.new ≡ self.old) }
+    {
+        let queue = &mut self.queues[queue as usize];
+        queue.offer(word)
+    }
+
+    /// Takes the oldest word out of a receive queue, for which one more credit is owed. `None`, and
+    /// nothing changes, exactly where it holds none.
+    pub fn take(&mut self, queue: u8) -> Option<u32>
+        requires { queue < QUEUES }
+        ensures word { result ≡ slice_get (queue_at self.old.queues queue).received 0 }
+        ensures taken { self.new ≡ changed queue taken self.old }
+    {
+        let queue = &mut self.queues[queue as usize];
+        queue.take()
+    }
+
+    /// Stops the injection of a queue until its next `SetRoute`.
+    pub fn halt(&mut self, queue: u8)
+        requires { queue < QUEUES }
+        ensures { self.new ≡ changed queue stopped self.old }
+    {
+        let queue = &mut self.queues[queue as usize];
+        queue.halt();
+    }
+
+    /// Empties a source queue and its receive queue, its counter and the credits that it is owed.
+    pub fn finish(&mut self, queue: u8)
+        requires { queue < QUEUES }
+        ensures { self.new ≡ changed queue finished self.old }
+    {
+        let queue = &mut self.queues[queue as usize];
+        queue.finish();
+    }
+
+    /// Does one write to the tables.
+    pub fn write(&mut self, write: &Write)
+        requires addressed { addressee write.now ≡ self.old.number }
+        requires within { IsWritable write.now self.old }
+        ensures { self.new ≡ written write.now self.old }
+    {
+        match *write {
+            Write::ClearSlot { slot, .. } => self.entries[slot as usize] = None,
+            Write::ClearRoute { queue, .. } => {
+                let queue = &mut self.queues[queue as usize];
+                queue.clear_route();
+            }
+            Write::SetRoute {
+                queue,
+                route,
+                remote,
+                credits,
+                ..
+            } => {
+                let queue = &mut self.queues[queue as usize];
+                queue.set_route(
+                    Route {
+                        ports: route,
+                        remote,
+                    },
+                    credits,
+                );
+            }
+            Write::SetSlot { slot, queue, .. } => self.entries[slot as usize] = Some(queue),
+        }
+    }
+
+    /// The queue and the word count of the flit that was latched last; `None` exactly where the
+    /// last `latch` brought none, or there was no `latch`.
+    pub fn last(&self) -> Option<(u8, u8)>
+        ensures last { result ≡ self.now.last }
+        ensures interface { IsInterface self.now.entries self.now.queues }
+    {
+        self.last
+    }
+}
+
+impl Clocked for Ni {
+    ghost outputs = { λ ni link. ni.leaving.0 == link };
+
+    ghost inputs = { λ ni link. ni.entering.0 == link };
+
+    ghost emit = { λ ni cycle link. emitted_by (entry_at ni.entries cycle) ni.queues };
+
+    ghost after = { λ ni cycle.
+        record ni { queues = sent_by (entry_at ni.entries cycle) ni.queues } };
+
+    ghost absorb = { λ ni wires. absorbed (arrival_of (flit_on wires ni.entering.0)) ni };
+
+    fn drive(&mut self, cycle: u64, wires: &mut Wires) {
+        let slot = cycle % self.entries.len() as u64;
+        let entry = self.entries[slot as usize];
+        let flit = emit_by(&mut self.queues, entry);
+        wires.put(self.leaving, flit);
+    }
+
+    fn latch(&mut self, wires: &Wires) {
+        let flit = wires.get(self.entering);
+        self.last = land(&mut self.queues, flit);
+    }
+
+    ghost outputs_after = { λ ni cycle link. refl };
+
+    ghost inputs_after = { λ ni cycle link. refl };
+
+    ghost outputs_absorb = { λ ni wires link. refl };
+
+    ghost inputs_absorb = { λ ni wires link. refl };
+
+    ghost absorb_agrees = { λ ni some other agree.
+        ap (λ (flit : Option (Option Flit)). absorbed (arrival_of (unwrap_or flit None)) ni)
+        (agree ni.entering.0 (eq-eqb ni.entering.0 ni.entering.0 refl)) };
+}
+
+/// A queue for each room, all empty.
+fn empty_queues(alloc: Global, rooms: &[u32]) -> Result<Vec<Queue>, NoMemory>
+    ensures { IfOk result (λ queues. queues.items ≡ map empty_queue rooms.now) }
+{
+    let mut queues = Vec::with_capacity(alloc, rooms.len())?;
+    for room in rooms {
+        queues.push(Queue::new(alloc, *room)?)?;
+    }
+    Ok(queues)
+}
+
+/// Takes out what the queue of an entry sends.
+fn emit_by(queues: &mut [Queue], entry: Option<u8>) -> Option<Flit>
+    requires { IfSome entry (λ queue. queue < length queues.old) }
+    ensures flit { result ≡ emitted_by entry queues.old }
+    ensures queues { queues.new ≡ sent_by entry queues.old }
+{
+    let queue = &mut queues[entry? as usize];
+    queue.emit()
+}
+
+/// Lands what a link brings, and gives the queue and the word count of it.
+fn land(queues: &mut [Queue], flit: Option<Flit>) -> Option<(u8, u8)>
+    requires { length queues.old ≡ QUEUES }
+    ensures last { result ≡ last_of (arrival_of flit) }
+    ensures queues { queues.new ≡ landed_at (arrival_of flit) queues.old }
+{
+    let flit = flit?;
+    let header = unpack(flit.header).ok()?;
+    let queue = &mut queues[header.queue as usize];
+    queue.land(&header, &flit);
+    Some((header.queue, header.count))
+}

@@ -1,0 +1,202 @@
+//! One queue number of a network interface: its two queues, its route and its credits.
+
+ghost use Rattle.std.specs.Prelude.{◌≡◌, ◌<◌, ◌≤◌, ◌↔◌, length, slice_get, slice_index, IfOk};
+ghost use Rattle.std.specs.Prelude.{None, take, drop};
+ghost use Rattle.std.specs.Bool.{IsFalse, OnTrue, OnFalse};
+ghost use Rattle.circular_buffer.specs.Buffer.{buffer};
+ghost use Rattle.aeth_ni.specs.Queue.{IsRoute, empty_queue, offered, taken, finished};
+ghost use Rattle.aeth_ni.specs.Queue.{emitted, sent, landed, words_of};
+ghost use Rattle.aeth_ni.specs.Queue.{stopped, without_route, with_route};
+
+use aeth_base::NoMemory;
+use aeth_clocked::Flit;
+use aeth_header::{FLIT_WORDS, Header, pack};
+use circular_buffer::HeapCircularBuffer;
+use std::alloc::Global;
+use std::marker::Model;
+
+/// The most words that wait in a source queue.
+pub const SOURCE_WORDS: usize = 8;
+
+/// The most credits that a flit brings back.
+pub const FLIT_CREDITS: u32 = 15;
+
+/// Where the flits of a queue go.
+#[derive(Clone, Copy, Debug, PartialEq, Eq)]
+pub struct Route {
+    /// The output ports on the way, as in a header: below 2^21.
+    pub ports: u32,
+    /// The queue of the receiving interface: below 32.
+    pub remote: u8,
+}
+
+/// The source queue, the receive queue and the credits of one queue number.
+#[derive(Debug, Drop)]
+pub(crate) struct Queue {
+    route: Option<Route>,
+    waiting: HeapCircularBuffer<u32>,
+    received: HeapCircularBuffer<u32>,
+    counter: u32,
+    owed: u32,
+    halted: bool,
+}
+
+impl Model for Queue {
+    ghost use Rattle.std.specs.Prelude.{◌≡◌, IfSome};
+    ghost use Rattle.aeth_ni.specs.declared.queue.TheConstants.{SOURCE_WORDS};
+    ghost use Rattle.aeth_ni.specs.Queue.{QueueState, IsRoute, IsQueue};
+
+    ghost Value = { QueueState };
+
+    ghost view = { λ queue. record {
+      route = queue.route;
+      waiting = queue.waiting.items;
+      received = queue.received.items;
+      room = queue.received.capacity;
+      counter = queue.counter;
+      owed = queue.owed;
+      halted = queue.halted;
+    } };
+
+    ghost invariant = { λ queue. IsQueue queue.waiting.capacity queue.route };
+}
+
+impl Queue {
+    /// A queue without a route, without words, and without credits.
+    pub(crate) fn new(alloc: Global, room: u32) -> Result<Queue, NoMemory>
+        ensures { IfOk result (λ queue. queue ≡ empty_queue room) }
+    {
+        let waiting = HeapCircularBuffer::with_capacity(alloc, SOURCE_WORDS)?;
+        let received = HeapCircularBuffer::with_capacity(alloc, room as usize)?;
+        Ok(Queue {
+            route: None,
+            waiting,
+            received,
+            counter: 0,
+            owed: 0,
+            halted: false,
+        })
+    }
+
+    /// Puts a word behind those that wait, where there is room.
+    pub(crate) fn offer(&mut self, word: u32) -> bool
+        ensures full { IsFalse result ↔ (length self.old.waiting ≡ SOURCE_WORDS) }
+        ensures offered { OnTrue result (self.new ≡ offered word self.old) }
+        ensures kept { OnFalse result (self.new ≡ self.old) }
+    {
+        if self.waiting.len() == SOURCE_WORDS {
+            return false;
+        }
+        self.waiting.push_back(word);
+        true
+    }
+
+    /// Takes the oldest word that was received.
+    pub(crate) fn take(&mut self) -> Option<u32>
+        ensures word { result ≡ slice_get self.old.received 0 }
+        ensures queue { self.new ≡ taken self.old }
+    {
+        let word = self.received.pop_front()?;
+        self.owed = self.owed.saturating_add(1);
+        Some(word)
+    }
+
+    /// Stops injection until a route is set.
+    pub(crate) fn halt(&mut self)
+        ensures { self.new ≡ stopped self.old }
+    {
+        self.halted = true;
+    }
+
+    /// Empties both queues, the counter and the owed credits.
+    pub(crate) fn finish(&mut self)
+        ensures { self.new ≡ finished self.old }
+    {
+        self.waiting.clear();
+        self.received.clear();
+        self.counter = 0;
+        self.owed = 0;
+    }
+
+    /// Takes the route away.
+    pub(crate) fn clear_route(&mut self)
+        ensures { self.new ≡ without_route self.old }
+    {
+        self.route = None;
+    }
+
+    /// Sets the route and the counter, and ends a halt.
+    pub(crate) fn set_route(&mut self, route: Route, credits: u32)
+        requires { IsRoute route }
+        ensures { self.new ≡ with_route route credits self.old }
+    {
+        self.route = Some(route);
+        self.counter = credits;
+        self.halted = false;
+    }
+
+    /// Takes out what the queue sends in a slot of its own.
+    pub(crate) fn emit(&mut self) -> Option<Flit>
+        ensures flit { result ≡ emitted self.old }
+        ensures queue { self.new ≡ sent self.old }
+    {
+        if self.halted {
+            return None;
+        }
+        let ready = self.waiting.len().min(FLIT_WORDS as usize) as u32;
+        let count = ready.min(self.counter);
+        let credits = self.owed.min(FLIT_CREDITS);
+        if count == 0 && credits == 0 {
+            return None;
+        }
+        let route = self.route?;
+        self.counter -= count;
+        self.owed -= credits;
+        let (first, second) = take_words(&mut self.waiting, count);
+        let header = pack(&Header {
+            route: route.ports,
+            queue: route.remote,
+            credits: credits as u8,
+            count: count as u8,
+        });
+        Some(Flit {
+            header,
+            first,
+            second,
+        })
+    }
+
+    /// Puts the words of a flit behind those that were received, of which the newest stay, and
+    /// adds its credits to the counter.
+    pub(crate) fn land(&mut self, header: &Header, flit: &Flit)
+        requires { header.now.count ≤ FLIT_WORDS }
+        ensures { self.new ≡ landed header.now.credits (words_of header.now flit.now) self.old }
+    {
+        let words = [flit.first, flit.second];
+        self.received
+            .extend_from_slice(&words[..header.count as usize]);
+        self.counter = self.counter.saturating_add(u32::from(header.credits));
+    }
+}
+
+/// Takes out as many words as a flit has, and gives 0 for each that it hasn't.
+fn take_words(waiting: &mut HeapCircularBuffer<u32>, count: u32) -> (u32, u32)
+    requires flit { count ≤ FLIT_WORDS }
+    requires waiting { count ≤ length waiting.old.items }
+    ensures first { result.0 ≡ slice_index (take count waiting.old.items) 0 }
+    ensures second { result.1 ≡ slice_index (take count waiting.old.items) 1 }
+    ensures waiting { waiting.new ≡ buffer (drop count waiting.old.items) waiting.old.capacity }
+{
+    let first = if count > 0 { next_word(waiting) } else { 0 };
+    let second = if count > 1 { next_word(waiting) } else { 0 };
+    (first, second)
+}
+
+/// Takes out the oldest word that waits.
+fn next_word(waiting: &mut HeapCircularBuffer<u32>) -> u32
+    requires { 0 < length waiting.old.items }
+    ensures word { result ≡ slice_index waiting.old.items 0 }
+    ensures waiting { waiting.new ≡ buffer (drop 1 waiting.old.items) waiting.old.capacity }
+{
+    waiting.pop_front().unwrap_or(0)
+}
