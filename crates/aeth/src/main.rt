@@ -3,7 +3,7 @@
 
 use aeth_cli::run;
 use aeth_cli::status::OUT_OF_MEMORY;
-use aeth_io::HostSink;
+use aeth_io::{HostShelf, HostSink};
 use std::io::ErrorKind;
 use std::process::ExitCode;
 use std::{env, io};
@@ -11,16 +11,20 @@ use std::{env, io};
 fn main(rt: HostRuntime) -> ExitCode {
     let words = match words_after_name(&rt) {
         Ok(words) => words,
-        Err(error) if error.kind() == ErrorKind::OutOfMemory => return ExitCode::from(
-            OUT_OF_MEMORY,
-        ),
+        Err(error) if error.kind() == ErrorKind::OutOfMemory => {
+            return ExitCode::from(OUT_OF_MEMORY);
+        }
 
         // Words that aren't text are no command, as no words are.
         Err(_) => Vec::new(rt.alloc()),
     };
+    let Ok(files) = rt.clone() else {
+        return ExitCode::from(OUT_OF_MEMORY);
+    };
+    let mut shelf = HostShelf::new(files);
     let mut out = HostSink::new(rt.stdout());
     let mut err = HostSink::new(rt.stderr());
-    ExitCode::from(run(rt.alloc(), &words, &mut out, &mut err))
+    ExitCode::from(run(rt.alloc(), &words, &mut shelf, &mut out, &mut err))
 }
 
 fn words_after_name(rt: &HostRuntime) -> io::Result<Vec<String>> {

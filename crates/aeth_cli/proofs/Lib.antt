@@ -1,3 +1,2 @@
-mod Jobs
 mod Listing
 mod Reading

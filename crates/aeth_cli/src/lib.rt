@@ -2,8 +2,10 @@
 #![tactic(auto)]
 
 mod answer;
+mod chip_command;
 mod command;
 mod program;
+mod refusal;
 pub mod status;
 #[cfg(test)]
 mod tests;

@@ -1,0 +1,63 @@
+-- What each command asks for, over the definitions alone.
+-- This project's own.
+use Rattle.std.specs.Prelude.{ℕ, ◌++◌, ◌&&◌, nat_le, if◌then◌else◌, List, [], ◌∷◌, length}
+use Rattle.std.specs.Str.{bytes_eq}
+use Rattle.std.specs.Prelude.{Option, Some, None, codes}
+use Rattle.aeth_slots.specs.SlotSet.{Slots}
+use Rattle.aeth_slots.specs.Choice.{chosen}
+use Rattle.aeth_cli.specs.declared.command.Command.{Command}
+use Rattle.aeth_cli.specs.declared.command.Command.TheVariants.{ChooseSlots, BoundLatency}
+use Rattle.aeth_cli.specs.declared.status.TheConstants.{USAGE, NOT_GRANTED}
+use Rattle.aeth_cli.specs.Command.{command_of}
+use Rattle.aeth_io.specs.declared.shelf.TheConstants.{MAX_FILE}
+use Rattle.aeth_cli.specs.ChipCommand.{chip_job}
+use Rattle.aeth_cli.specs.Job.{Job, done, refused}
+use Rattle.aeth_cli.specs.Refusal.{nowhere, refused_file}
+use Rattle.aeth_cli.specs.Task.{Task, ends, job_with, reads}
+use Rattle.aeth_cli.specs.Text.{latency_text, list_text}
+
+-- The chosen slots, or that there are none.
+abbrev pub chosen_job : Option Slots → Job
+chosen_job None = refused NOT_GRANTED (codes "no slots\n")
+chosen_job (Some set) = done (list_text set.slots ++ codes "\n")
+
+-- The rate that a need stands for and the latency that the slots guarantee, where they are enough.
+abbrev pub latency_job : ℕ → ℕ → Slots → Job
+latency_job need links set =
+    if nat_le need (length set.slots) then done (latency_text need links set)
+    else refused NOT_GRANTED (codes "too few slots\n")
+
+-- A file that is too long is refused before all else.
+abbrev pub too_long : List ℕ → Job
+too_long file = refused_file file 0 (codes "TooLong") nowhere
+
+-- A file is read, and if it isn't too long, judged.
+abbrev pub reads_file : List ℕ → List ℕ → (List ℕ → Task) → Task
+reads_file file name next =
+    reads file name
+    (λ bytes. if nat_le (length bytes) MAX_FILE then next bytes else ends (too_long file))
+
+-- A chip file is read and summed up.
+abbrev pub chip_task : List ℕ → Task
+chip_task name = reads_file (codes "chip") name (λ bytes. ends (chip_job bytes))
+
+-- The words are no command.
+abbrev pub usage : Job
+usage = refused USAGE (codes "usage\n")
+
+-- The task of a command that reads no file, or that the words are none.
+abbrev pub task_of : Option Command → Task
+task_of None = ends usage
+task_of (Some (ChooseSlots need gap free)) = ends (chosen_job (chosen free need gap))
+task_of (Some (BoundLatency need links slots)) = ends (latency_job need links slots)
+
+-- The task that the words of a command line are.
+abbrev pub task : List (List ℕ) → Task
+task (name ∷ file ∷ []) =
+    if bytes_eq name (codes "chip") && nat_le 1 (length file) then chip_task file
+    else ends usage
+task words = task_of (command_of words)
+
+-- What the words of a command line ask for, where the contents on which it rests are told.
+abbrev pub job : (List ℕ → Option (List ℕ)) → List (List ℕ) → Option Job
+job content words = job_with content (task words)
