@@ -1,8 +1,10 @@
 #!/bin/sh
-# Prints the seconds, the peak memory and the instructions of `aeth chip`, with the share that the crate
-# `toml` has of them, for a chip as large as the rules admit, for one with 1,024 links, which is refused
-# for its ports, and for the first one padded by comments to the most bytes that a file may have. It needs
-# valgrind and GNU time. The instructions are the same at each run on one machine.
+# Prints the seconds, the peak memory and the instructions of `aeth chip` for a chip as large as the rules
+# admit, for one with 1,024 links, which is refused for its ports, and for the first one padded by comments
+# to the most bytes that a file may have. TOML is the share of the costliest function of the crates `toml`
+# and `toml_parser` that stands alone in the program: a lower bound on theirs, since the compiler puts
+# others, as that which skips comments, into their callers. It needs valgrind and GNU time. The
+# instructions are about the same at each run on one machine.
 set -eu
 
 home=$(dirname -- "$(dirname -- "$(readlink -f -- "$0")")")
@@ -33,7 +35,7 @@ measure() {
         >/dev/null 2>&1 || true
     callgrind_annotate --inclusive=yes --threshold=100 "$folder/profile" | tr -d , >"$folder/costs"
     all=$(sed -n 's/^ *\([0-9]*\) .*PROGRAM TOTALS.*/\1/p' "$folder/costs")
-    toml=$(sed -n 's/^ *\([0-9]*\) .*[: ]toml::.*/\1/p' "$folder/costs" | head -n 1)
+    toml=$(sed -n 's/^ *\([0-9]*\) .*[: ]toml[a-z_]*::.*/\1/p' "$folder/costs" | head -n 1)
     printf '%-8s %8s %8s %14s %4d%%  %s\n' "$1" "$seconds" "$peak" "$all" \
         $((100 * ${toml:-0} / all)) "$(cat "$folder/text")"
 }
