@@ -18,23 +18,21 @@ pub same_node-refl : (node : Node) → same_node node node ≡ true
 same_node-refl (Router r) = eq-eqb r.0 r.0 refl
 same_node-refl (Ni n) = eq-eqb n.0 n.0 refl
 
--- A first link that passes a test counts.
-count_by-yes : (test : Link → Bool) (link : Link) (links : List Link) → test link ≡ true
-    → count_by test (link ∷ links) ≡ suc (count_by test links)
-count_by-yes test link links passes =
-    let here : cond (test link) 1 0 ≡ 1 = rw passes refl in
-    let more : 1 + count_by test links ≡ suc (count_by test links) = omega arith in
-    sum_by-cons (λ l. cond (test l) 1 0) link links
-    ∙ ap (λ n. n + count_by test links) here ∙ more
+-- A first item that passes a test counts.
+count_by-yes : {X : Type 0} (test : X → Bool) (x : X) (xs : List X) → test x ≡ true
+    → count_by test (x ∷ xs) ≡ suc (count_by test xs)
+count_by-yes test x xs passes =
+    let more : 1 + count_by test xs ≡ suc (count_by test xs) = omega arith in
+    let here : cond (test x) 1 0 ≡ 1 = rw passes refl in
+    sum_by-cons (λ y. cond (test y) 1 0) x xs ∙ ap (λ n. n + count_by test xs) here ∙ more
 
 -- One that doesn't pass doesn't.
-count_by-no : (test : Link → Bool) (link : Link) (links : List Link) → test link ≡ false
-    → count_by test (link ∷ links) ≡ count_by test links
-count_by-no test link links fails =
-    let here : cond (test link) 1 0 ≡ 0 = rw fails refl in
-    let same : 0 + count_by test links ≡ count_by test links = omega arith in
-    sum_by-cons (λ l. cond (test l) 1 0) link links
-    ∙ ap (λ n. n + count_by test links) here ∙ same
+count_by-no : {X : Type 0} (test : X → Bool) (x : X) (xs : List X) → test x ≡ false
+    → count_by test (x ∷ xs) ≡ count_by test xs
+count_by-no test x xs fails =
+    let same : 0 + count_by test xs ≡ count_by test xs = omega arith in
+    let here : cond (test x) 1 0 ≡ 0 = rw fails refl in
+    sum_by-cons (λ y. cond (test y) 1 0) x xs ∙ ap (λ n. n + count_by test xs) here ∙ same
 
 -- A link that passes a test stands in the list of numbers behind the links before it that pass.
 pub numbers_from-at : (test : Link → Bool) (number : ℕ) (links : List Link) (i : ℕ) (link : Link)
@@ -54,24 +52,23 @@ numbers_from-at test number (first ∷ links) (suc i) link at passes =
       | inr other ↦ rw (count_by-no test first (take i links) other, other, more) rest
     ]
 
--- Before a link that passes a test fewer pass than in all.
-pub count_by-before : (test : Link → Bool) (links : List Link) (i : ℕ) (link : Link)
-    → slice_get links i ≡ Some link → test link ≡ true
-    → count_by test (take i links) < count_by test links
-count_by-before test [] i link at passes = absurd (cc at)
-count_by-before test (first ∷ links) zero link at passes =
-    let same : first ≡ link = same_Some first link at in
+-- Before an item that passes a test fewer pass than in all.
+pub count_by-before : {X : Type 0} (test : X → Bool) (xs : List X) (i : ℕ) (x : X)
+    → slice_get xs i ≡ Some x → test x ≡ true → count_by test (take i xs) < count_by test xs
+count_by-before test [] i x at passes = absurd (cc at)
+count_by-before test (first ∷ xs) zero x at passes =
+    let same : first ≡ x = same_Some first x at in
     let here : test first ≡ true = rw same passes in
-    let counts = count_by-yes test first links here in
+    let counts = count_by-yes test first xs here in
     omega arith
-count_by-before test (first ∷ links) (suc i) link at passes =
-    let rest = count_by-before test links i link at passes in
+count_by-before test (first ∷ xs) (suc i) x at passes =
+    let rest = count_by-before test xs i x at passes in
     elim (cases_Bool (test first)) [
       | inl here ↦
-          rw (count_by-yes test first (take i links) here, count_by-yes test first links here)
+          rw (count_by-yes test first (take i xs) here, count_by-yes test first xs here)
           (omega arith)
       | inr other ↦
-          rw (count_by-no test first (take i links) other, count_by-no test first links other) rest
+          rw (count_by-no test first (take i xs) other, count_by-no test first xs other) rest
     ]
 
 -- There are as many numbers as links that pass.

@@ -1,8 +1,7 @@
-// What no clause says: that reading succeeds where memory is left; and which rule of a broken file
-// is answered, with places and values worked out by hand from the file format.
+// What no clause says: that reading succeeds where memory is left, and what the pair and the mesh
+// have.
 use crate::{Chip, ChipFault, Link, Node, read_chip};
 use aeth_base::{LinkId, Name, NiId, RouterId};
-use aeth_document::{Broken, Shown};
 use std::alloc::Global;
 use std::test::Fail;
 
@@ -18,84 +17,6 @@ link = [
 ]
 ";
 
-/// What is changed in `PAIR`, and the rule's number, the place and the value that are answered: a
-/// decimal number, a name, `?` for a text that is no name or a number below 0, `-` for none.
-const BROKEN: [(&str, &str, u32, u32, &str); 19] = [
-    ("slots = 8", "slots = = 8", 1, 0, "-"),
-    ("slots = 8", "slots = 8\nslots = 8", 1, 0, "-"),
-    ("version = 1", "", 2, 0, "version"),
-    ("slots = 8", "slots = \"8\"", 2, 0, "slots"),
-    ("version = 1", "zone = 1\nversion = 1\nName = 2", 2, 0, "?"),
-    (
-        "{from = \"n0\", to = \"r0\"}",
-        "{from = \"n0\"}",
-        2,
-        1,
-        "to",
-    ),
-    (
-        "{from = \"r1\", to = \"r0\"}",
-        "{from = \"r1\", to = \"r0\", delay = 1}",
-        2,
-        6,
-        "delay",
-    ),
-    ("version = 1", "version = 2", 3, 1, "2"),
-    ("slots = 8", "slots = 65", 3, 2, "65"),
-    ("slots = 8", "slots = -1", 3, 2, "?"),
-    ("nis = [\"n0\", \"n1\"]", "nis = []", 3, 4, "0"),
-    (
-        "routers = [\"r0\", \"r1\"]",
-        "routers = [\"r0\", \"R1\"]",
-        3,
-        7,
-        "?",
-    ),
-    ("nis = [\"n0\", \"n1\"]", "nis = [\"n0\", \"\"]", 3, 9, "?"),
-    (
-        "routers = [\"r0\", \"r1\"]",
-        "routers = [\"r0\", \"r0\"]",
-        4,
-        1,
-        "r0",
-    ),
-    (
-        "nis = [\"n0\", \"n1\"]",
-        "nis = [\"n0\", \"r1\"]",
-        4,
-        3,
-        "r1",
-    ),
-    (
-        "{from = \"n0\", to = \"r0\"}",
-        "{from = \"n2\", to = \"r2\"}",
-        5,
-        0,
-        "n2",
-    ),
-    (
-        "{from = \"r1\", to = \"r0\"}",
-        "{from = \"r1\", to = \"R0\"}",
-        5,
-        5,
-        "?",
-    ),
-    ("{from = \"n0\", to = \"r0\"},", "", 7, 0, "n0"),
-    (
-        "{from = \"r1\", to = \"n1\"}",
-        "{from = \"r0\", to = \"n1\"}",
-        7,
-        1,
-        "n1",
-    ),
-];
-
-/// `PAIR` with one text in place of another.
-fn changed(alloc: Global, old: &str, new: &str) -> Result<String, Fail> {
-    let (before, after) = PAIR.split_once(old).ok_or("a part of the file")?;
-    Ok(format!(in alloc; "{before}{new}{after}")?)
-}
-
 fn chip_of(alloc: Global, text: &str) -> Result<Chip, ChipFault> {
     read_chip(alloc, text.as_bytes())
 }
@@ -104,71 +25,9 @@ fn refusal(alloc: Global, bytes: &[u8]) -> ChipFault {
     read_chip(alloc, bytes).err().unwrap_or(ChipFault::Memory)
 }
 
-/// The rule's number, the place and the value of a refusal.
-fn parts(fault: ChipFault) -> (u32, u32, Shown) {
-    match fault {
-        ChipFault::BadToml => (1, 0, Shown::Nothing),
-        ChipFault::WrongKey(Broken { place, value }) => (2, place, value),
-        ChipFault::OutOfRange(Broken { place, value }) => (3, place, value),
-        ChipFault::NameTwice(Broken { place, value }) => (4, place, value),
-        ChipFault::UnknownName(Broken { place, value }) => (5, place, value),
-        ChipFault::TooManyPorts(Broken { place, value }) => (6, place, value),
-        ChipFault::NiNotSingle(Broken { place, value }) => (7, place, value),
-        ChipFault::Memory => (8, 0, Shown::Nothing),
-    }
-}
-
-fn shown(text: &str) -> Shown {
-    if text == "-" {
-        return Shown::Nothing;
-    }
-    if let Ok(number) = text.parse() {
-        return Shown::Number(number);
-    }
-    match Name::new(text.as_bytes()) {
-        Some(name) => Shown::Word(name),
-        None => Shown::Odd,
-    }
-}
-
-#[test]
-fn the_first_broken_rule_is_answered(rt: HostRuntime) -> Result<(), Fail> {
-    for (old, new, rule, place, value) in BROKEN {
-        let text = changed(rt.alloc(), old, new)?;
-        let fault = parts(refusal(rt.alloc(), text.as_bytes()));
-        assert_eq!(rt; fault, (rule, place, shown(value)), "{new}");
-    }
-    Ok(())
-}
-
-/// A link, how many more of it there are, the router that has too many links, and their number.
-const CROWDS: [(&str, u32, u32, u64); 2] = [
-    ("{from = \"r0\", to = \"r1\"}, ", 7, 0, 9),
-    ("{from = \"r1\", to = \"r1\"}, ", 8, 1, 10),
-];
-
-#[test]
-fn the_greater_count_is_answered(rt: HostRuntime) -> Result<(), Fail> {
-    let last = "{from = \"r1\", to = \"r0\"},";
-    for (link, more, router, ports) in CROWDS {
-        let mut links = String::new(rt.alloc());
-        links.push_str(last)?;
-        for _ in 0..more {
-            links.push_str(link)?;
-        }
-        let text = changed(rt.alloc(), last, links.as_str())?;
-        let fault = parts(refusal(rt.alloc(), text.as_bytes()));
-        assert_eq!(rt; fault, (6, router, Shown::Number(ports)), "{link}");
-    }
-    Ok(())
-}
-
 #[test]
 fn bytes_that_are_no_pair(rt: HostRuntime) {
-    let link = parts(refusal(rt.alloc(), b""));
-    assert_eq!(rt; link, (2, 0, shown("link")));
-    let not_utf8 = parts(refusal(rt.alloc(), b"version = 1\xff"));
-    assert_eq!(rt; not_utf8, (1, 0, Shown::Nothing));
+    assert_eq!(rt; refusal(rt.alloc(), b"version = 1\xff"), ChipFault::BadToml);
 }
 
 fn link_of(chip: &Chip, link: LinkId) -> Option<Link> {

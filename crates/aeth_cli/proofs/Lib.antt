@@ -1,2 +1,4 @@
 mod Listing
 mod Reading
+mod FileLemmas
+mod TaskLemmas

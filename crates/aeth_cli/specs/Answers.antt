@@ -1,19 +1,18 @@
 -- What each command asks for, over the definitions alone.
 -- This project's own.
 use Rattle.std.specs.Prelude.{ℕ, ◌++◌, ◌&&◌, nat_le, if◌then◌else◌, List, [], ◌∷◌, length}
-use Rattle.std.specs.Str.{bytes_eq}
 use Rattle.std.specs.Prelude.{Option, Some, None, codes}
+use Rattle.std.specs.Str.{bytes_eq}
 use Rattle.aeth_slots.specs.SlotSet.{Slots}
 use Rattle.aeth_slots.specs.Choice.{chosen}
 use Rattle.aeth_cli.specs.declared.command.Command.{Command}
 use Rattle.aeth_cli.specs.declared.command.Command.TheVariants.{ChooseSlots, BoundLatency}
 use Rattle.aeth_cli.specs.declared.status.TheConstants.{USAGE, NOT_GRANTED}
 use Rattle.aeth_cli.specs.Command.{command_of}
-use Rattle.aeth_io.specs.declared.shelf.TheConstants.{MAX_FILE}
-use Rattle.aeth_cli.specs.ChipCommand.{chip_job}
+use Rattle.aeth_cli.specs.ChipCommand.{chip_text}
+use Rattle.aeth_cli.specs.Files.{with_chip}
 use Rattle.aeth_cli.specs.Job.{Job, done, refused}
-use Rattle.aeth_cli.specs.Refusal.{nowhere, refused_file}
-use Rattle.aeth_cli.specs.Task.{Task, ends, job_with, reads}
+use Rattle.aeth_cli.specs.Task.{Task, ends, job_with}
 use Rattle.aeth_cli.specs.Text.{latency_text, list_text}
 
 -- The chosen slots, or that there are none.
@@ -27,19 +26,9 @@ latency_job need links set =
     if nat_le need (length set.slots) then done (latency_text need links set)
     else refused NOT_GRANTED (codes "too few slots\n")
 
--- A file that is too long is refused before all else.
-abbrev pub too_long : List ℕ → Job
-too_long file = refused_file file 0 (codes "TooLong") nowhere
-
--- A file is read, and if it isn't too long, judged.
-abbrev pub reads_file : List ℕ → List ℕ → (List ℕ → Task) → Task
-reads_file file name next =
-    reads file name
-    (λ bytes. if nat_le (length bytes) MAX_FILE then next bytes else ends (too_long file))
-
 -- A chip file is read and summed up.
 abbrev pub chip_task : List ℕ → Task
-chip_task name = reads_file (codes "chip") name (λ bytes. ends (chip_job bytes))
+chip_task name = with_chip name (λ chip. ends (done (chip_text chip)))
 
 -- The words are no command.
 abbrev pub usage : Job

@@ -1,6 +1,7 @@
 pub mod Answers
 pub mod ChipCommand
 pub mod Command
+pub mod Files
 pub mod Job
 pub mod Refusal
 pub mod Task

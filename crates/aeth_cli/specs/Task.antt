@@ -4,6 +4,7 @@
 --   job_with                the job, where the contents that it rests on are told
 --   reaches                 all that is judged before a file was judged and not refused
 --   IsAnswer, IsReadFault   what a run answers: the job, or that a file can't be read
+--   Leads                   what is left of a task once some of its files were read
 -- This project's own.
 use Rattle.std.specs.Prelude.{ℕ, ◌≡◌, ◌<◌, ◌≤◌, ◌⊎◌, ◌++◌, List, Option, Some, None, codes}
 use Rattle.aeth_io.specs.Causes.{Rose}
@@ -59,3 +60,11 @@ pub record IsAnswer (content : List ℕ → Option (List ℕ)) (old new : List �
   pub job : answer.status < READ_FAULT
       → (asked : Job) → job_with content task ≡ Some asked → answer ≡ asked
   pub fault : answer.status ≡ READ_FAULT → IsReadFault content old new task answer
+
+-- Once some files of a task were read, so that the counts of faults rose from the old to these, the
+-- rest of it is left: what answers the rest answers the task.
+abbrev pub Leads : (List ℕ → Option (List ℕ)) → (List ℕ → ℕ) → (List ℕ → ℕ) → Task → Task
+    → Type 0
+Leads content old now task rest =
+    (new : List ℕ → ℕ) (answer : Job)
+    → IsAnswer content now new rest answer → IsAnswer content old new task answer

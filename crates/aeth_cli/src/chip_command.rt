@@ -1,20 +1,16 @@
 // `chip CHIP`: a summary of a chip file.
-ghost use Rattle.aeth_chip.specs.declared.fault.ChipFault.TheVariants.{Memory};
 ghost use Rattle.aeth_cli.specs.Answers.{chip_task};
-ghost use Rattle.aeth_cli.specs.ChipCommand.{chip_job, chip_refusal, chip_text};
+ghost use Rattle.aeth_cli.specs.ChipCommand.{chip_text};
 ghost use Rattle.aeth_cli.specs.Task.{IsAnswer};
 ghost use Rattle.std.specs.Prelude.{◌≡◌, ◌≢◌, ◌++◌, IfOk, OnOk, decimal};
 
 use crate::answer::Answer;
-use crate::refusal::NOWHERE;
+use crate::files::{Judged, read_chip_file};
 use crate::status::USAGE;
 use aeth_base::{NoMemory, push_number};
-use aeth_chip::{Chip, ChipFault, Distances, Summary, read_chip};
-use aeth_io::{ReadFail, Shelf, read_all};
+use aeth_chip::{Chip, Distances, Summary};
+use aeth_io::Shelf;
 use std::alloc::Global;
-
-/// How a chip file is called in texts.
-const CHIP: &str = "chip";
 
 /// The summary of a chip file, or the first rule that it breaks.
 pub fn chip_answer<H: Shelf>(alloc: Global, name: &str, shelf: &mut H) -> Result<Answer, NoMemory>
@@ -22,35 +18,9 @@ pub fn chip_answer<H: Shelf>(alloc: Global, name: &str, shelf: &mut H) -> Result
         (H.faults shelf.new) (chip_task name.now) answer) }
     ensures no_usage { IfOk result (λ answer. answer.status ≢ USAGE) }
 {
-    match read_all(alloc, shelf, name) {
-        Ok(bytes) => summary_of(alloc, &bytes),
-        Err(ReadFail::Fault) => Answer::read_fault(alloc, CHIP),
-        Err(ReadFail::TooLong) => Answer::too_long(alloc, CHIP),
-        Err(ReadFail::Memory) => Err(NoMemory),
-    }
-}
-
-fn summary_of(alloc: Global, bytes: &[u8]) -> Result<Answer, NoMemory>
-    ensures { IfOk result (λ answer. answer ≡ chip_job bytes.now) }
-{
-    match read_chip(alloc, bytes) {
-        Ok(chip) => Ok(Answer::done(chip_line(alloc, &chip)?)),
-        Err(fault) => refused_chip(alloc, fault),
-    }
-}
-
-fn refused_chip(alloc: Global, fault: ChipFault) -> Result<Answer, NoMemory>
-    ensures { IfOk result (λ answer. (fault ≢ Memory) × (answer ≡ chip_refusal fault)) }
-{
-    match fault {
-        ChipFault::BadToml => Answer::refused_file(alloc, CHIP, 1, "BadToml", &NOWHERE),
-        ChipFault::WrongKey(b) => Answer::refused_file(alloc, CHIP, 2, "WrongKey", &b),
-        ChipFault::OutOfRange(b) => Answer::refused_file(alloc, CHIP, 3, "OutOfRange", &b),
-        ChipFault::NameTwice(b) => Answer::refused_file(alloc, CHIP, 4, "NameTwice", &b),
-        ChipFault::UnknownName(b) => Answer::refused_file(alloc, CHIP, 5, "UnknownName", &b),
-        ChipFault::TooManyPorts(b) => Answer::refused_file(alloc, CHIP, 6, "TooManyPorts", &b),
-        ChipFault::NiNotSingle(b) => Answer::refused_file(alloc, CHIP, 7, "NiNotSingle", &b),
-        ChipFault::Memory => Err(NoMemory),
+    match read_chip_file(alloc, name, shelf)? {
+        Judged::Ends(answer) => Ok(answer),
+        Judged::Told(chip) => Ok(Answer::done(chip_line(alloc, &chip)?)),
     }
 }
 

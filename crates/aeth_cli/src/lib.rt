@@ -3,13 +3,18 @@
 
 mod answer;
 mod chip_command;
+#[cfg(test)]
+mod chip_tests;
 mod command;
+mod files;
 mod program;
 mod refusal;
 pub mod status;
 #[cfg(test)]
 mod tests;
 mod text;
+#[cfg(test)]
+mod trial;
 mod words;
 
 pub use program::run;

@@ -1,5 +1,5 @@
 // Refusal lines.
-ghost use Rattle.aeth_cli.specs.Answers.{too_long};
+ghost use Rattle.aeth_cli.specs.Files.{too_long};
 ghost use Rattle.aeth_cli.specs.Refusal.{refused_file, value_text};
 ghost use Rattle.aeth_cli.specs.Task.{read_fault};
 ghost use Rattle.std.specs.Prelude.{◌≡◌, ◌++◌, IfOk, OnOk};

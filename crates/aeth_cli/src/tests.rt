@@ -1,20 +1,9 @@
-// The worked examples, from the words to the bytes.
+// The worked examples of the commands that read no file, from the words to the bytes.
 use crate::run;
-use crate::status::{DONE, INPUT_REFUSED, NOT_GRANTED, READ_FAULT, USAGE, WRITE_FAULT};
-use aeth_io::{MemShelf, MemSink};
-use std::alloc::Global;
+use crate::status::{DONE, NOT_GRANTED, USAGE, WRITE_FAULT};
+use crate::trial::{answer, no_files, words_of};
+use aeth_io::MemSink;
 use std::test::Fail;
-
-fn words_of(alloc: Global, line: &str) -> Result<Vec<String>, Fail> {
-    let mut words = Vec::new(alloc);
-    if line.is_empty() {
-        return Ok(words);
-    }
-    for word in line.split(' ') {
-        words.push(word.to_string(alloc)?)?;
-    }
-    Ok(words)
-}
 
 /// Words, status, and what is written to `out` and to `err`.
 const ROWS: [(&str, u8, &str, &str); 31] = [
@@ -58,19 +47,11 @@ const ROWS: [(&str, u8, &str, &str); 31] = [
 
 #[test]
 fn commands_answer(rt: HostRuntime) -> Result<(), Fail> {
-    let alloc = rt.alloc();
     for (line, status, on_out, on_err) in ROWS {
-        let mut out = MemSink::new(alloc, 64, 64, Vec::new(alloc))?;
-        let mut err = MemSink::new(alloc, 64, 64, Vec::new(alloc))?;
-        let mut shelf = MemShelf::new(Vec::new(alloc), Vec::new(alloc));
-        let words = words_of(alloc, line)?;
-        assert_eq!(rt;
-            run(alloc, &words, &mut shelf, &mut out, &mut err),
-            status,
-            "{line}"
-        );
-        assert_eq!(rt; out.bytes(), on_out.as_bytes(), "{line}");
-        assert_eq!(rt; err.bytes(), on_err.as_bytes(), "{line}");
+        let written = answer(rt.alloc(), line, &mut no_files(rt.alloc()))?;
+        assert_eq!(rt; written.status, status, "{line}");
+        assert_eq!(rt; written.out.bytes(), on_out.as_bytes(), "{line}");
+        assert_eq!(rt; written.err.bytes(), on_err.as_bytes(), "{line}");
     }
     Ok(())
 }
@@ -86,7 +67,7 @@ fn a_sink_that_fails_has_a_part(rt: HostRuntime) -> Result<(), Fail> {
     for (line, most, out_call, err_call, on_out) in rows {
         let mut out = MemSink::new(alloc, 64, most, vec![in alloc; out_call]?)?;
         let mut err = MemSink::new(alloc, 64, 64, vec![in alloc; err_call]?)?;
-        let mut shelf = MemShelf::new(Vec::new(alloc), Vec::new(alloc));
+        let mut shelf = no_files(alloc);
         let words = words_of(alloc, line)?;
         assert_eq!(rt;
             run(alloc, &words, &mut shelf, &mut out, &mut err),
@@ -95,61 +76,6 @@ fn a_sink_that_fails_has_a_part(rt: HostRuntime) -> Result<(), Fail> {
         );
         assert_eq!(rt; out.bytes(), on_out.as_bytes(), "{line}");
         assert_eq!(rt; err.bytes(), b"".as_slice(), "{line}");
-    }
-    Ok(())
-}
-
-const PAIR: &str = "version = 1
-slots = 8
-routers = [\"r0\", \"r1\"]
-nis = [\"n0\", \"n1\"]
-link = [
-  {from = \"n0\", to = \"r0\"}, {from = \"r0\", to = \"n0\"},
-  {from = \"n1\", to = \"r1\"}, {from = \"r1\", to = \"n1\"},
-  {from = \"r0\", to = \"r1\"}, {from = \"r1\", to = \"r0\"},
-]
-";
-
-/// A chip file, the failing call of the shelf, the status, and what is written to `out` and to
-/// `err`.
-const CHIPS: [(&str, u64, u8, &str, &str); 5] = [
-    (
-        PAIR,
-        9,
-        DONE,
-        "chip slots 8 routers 2 nis 2 links 6 far 3 unreached 0\n",
-        "",
-    ),
-    ("", 9, INPUT_REFUSED, "", "refused chip 2 WrongKey 0 link\n"),
-    (
-        "slots",
-        9,
-        INPUT_REFUSED,
-        "",
-        "refused chip 1 BadToml 0 -\n",
-    ),
-    (PAIR, 0, READ_FAULT, "", "read fault chip\n"),
-    (PAIR, 1, READ_FAULT, "", "read fault chip\n"),
-];
-
-#[test]
-fn chips_are_summed_up(rt: HostRuntime) -> Result<(), Fail> {
-    let alloc = rt.alloc();
-    for (file, call, status, on_out, on_err) in CHIPS {
-        let mut files = Vec::new(alloc);
-        let bytes = Vec::from_slice(alloc, file.as_bytes())?;
-        files.push(("pair.toml".to_string(alloc)?, bytes))?;
-        let mut shelf = MemShelf::new(files, vec![in alloc; call]?);
-        let mut out = MemSink::new(alloc, 99, 99, Vec::new(alloc))?;
-        let mut err = MemSink::new(alloc, 99, 99, Vec::new(alloc))?;
-        let words = words_of(alloc, "chip pair.toml")?;
-        assert_eq!(rt;
-            run(alloc, &words, &mut shelf, &mut out, &mut err),
-            status,
-            "{on_err}"
-        );
-        assert_eq!(rt; out.bytes(), on_out.as_bytes());
-        assert_eq!(rt; err.bytes(), on_err.as_bytes());
     }
     Ok(())
 }

@@ -17,9 +17,8 @@ pub record File : Type 0 where
 abbrev pub files_of : List (String Global × Vec ℕ Global) → List File
 files_of pairs = map (λ p. record { name = string_bytes p.0; bytes = p.1.items }) pairs
 
--- The files that a shelf in memory holds; the numbers of the calls that fail, one_more from 0; and
--- how
--- many calls were made, and how many failed.
+-- The files that a shelf in memory holds; the numbers of the calls that fail, counted from 0; and
+-- how many calls were made, and how many failed.
 pub record ShelfState : Type 0 where
   pub files : List File
   pub fail : List ℕ

@@ -1,0 +1,69 @@
+-- Files that a command reads and judges, one after the other.
+--
+--   too_long, reads_file      a file, which is refused where it is too long
+--   judged      what comes of a file's value, or of the rule that it breaks
+--   chip_refusal, with_chip      a chip file
+--   GoesOn      what a call leaves of a task that begins with such a file
+--   IsJudged      what a call gives of a value, or of the rule that is broken
+-- This project's own.
+use Rattle.std.specs.Prelude.{ℕ, ◌≡◌, ◌≢◌, nat_le, List, length, Option, Result, Ok, Err, codes}
+use Rattle.std.specs.Prelude.{if◌then◌else◌}
+use Rattle.aeth_chip.specs.Chip.{ChipData}
+use Rattle.aeth_chip.specs.ChipFile.{chip_of}
+use Rattle.aeth_chip.specs.declared.fault.ChipFault.{ChipFault}
+use Rattle.aeth_chip.specs.declared.fault.ChipFault.TheVariants.{BadToml, WrongKey, OutOfRange}
+use Rattle.aeth_chip.specs.declared.fault.ChipFault.TheVariants.{NameTwice, UnknownName}
+use Rattle.aeth_chip.specs.declared.fault.ChipFault.TheVariants.{TooManyPorts, NiNotSingle, Memory}
+use Rattle.aeth_io.specs.declared.shelf.TheConstants.{MAX_FILE}
+use Rattle.aeth_cli.specs.declared.files.Judged.{Judged}
+use Rattle.aeth_cli.specs.declared.files.Judged.TheVariants.{Told, Ends}
+use Rattle.aeth_cli.specs.declared.status.TheConstants.{USAGE}
+use Rattle.aeth_cli.specs.Job.{Job}
+use Rattle.aeth_cli.specs.Refusal.{nowhere, refused_file}
+use Rattle.aeth_cli.specs.Task.{IsAnswer, Leads, Task, ends, reads}
+
+-- A file that is too long is refused before all else.
+abbrev pub too_long : List ℕ → Job
+too_long file = refused_file file 0 (codes "TooLong") nowhere
+
+-- A file is read, and if it isn't too long, judged.
+abbrev pub reads_file : List ℕ → List ℕ → (List ℕ → Task) → Task
+reads_file file name next =
+    reads file name
+    (λ bytes. if nat_le (length bytes) MAX_FILE then next bytes else ends (too_long file))
+
+-- What comes of a value, or the end by the rule that is broken.
+abbrev pub judged : {A E : Type 0} → (E → Job) → Result A E → (A → Task) → Task
+judged refusal (Ok value) next = next value
+judged refusal (Err fault) next = ends (refusal fault)
+
+-- What is refused of a chip file. Its definition never lacks memory.
+abbrev pub chip_refusal : ChipFault → Job
+chip_refusal BadToml = refused_file (codes "chip") 1 (codes "BadToml") nowhere
+chip_refusal (WrongKey broken) = refused_file (codes "chip") 2 (codes "WrongKey") broken
+chip_refusal (OutOfRange broken) = refused_file (codes "chip") 3 (codes "OutOfRange") broken
+chip_refusal (NameTwice broken) = refused_file (codes "chip") 4 (codes "NameTwice") broken
+chip_refusal (UnknownName broken) = refused_file (codes "chip") 5 (codes "UnknownName") broken
+chip_refusal (TooManyPorts broken) = refused_file (codes "chip") 6 (codes "TooManyPorts") broken
+chip_refusal (NiNotSingle broken) = refused_file (codes "chip") 7 (codes "NiNotSingle") broken
+chip_refusal Memory = refused_file (codes "chip") 8 (codes "Memory") nowhere
+
+-- A chip file is read and judged, and what comes next comes of its chip.
+abbrev pub with_chip : List ℕ → (ChipData → Task) → Task
+with_chip name next =
+    reads_file (codes "chip") name (λ bytes. judged chip_refusal (chip_of bytes) next)
+
+-- What a call leaves of a task that reads a file and goes on with what it tells: where it tells
+-- something, what comes next of that; where it doesn't, the answer.
+abbrev pub GoesOn : {X A : Type 0} → (List ℕ → Option (List ℕ)) → (List ℕ → ℕ) → (List ℕ → ℕ)
+    → ((A → Task) → Task) → (X → A) → Judged X → Type 0
+GoesOn {X} {A} content old new task view (Told value) =
+    (next : A → Task) → Leads content old new (task next) (next (view value))
+GoesOn {X} {A} content old new task view (Ends answer) =
+    (answer.status ≢ USAGE) × ((next : A → Task) → IsAnswer content old new (task next) answer)
+
+-- What a call gives of a value, or of the rule that is broken: the value, or the refusal.
+abbrev pub IsJudged : {X A E : Type 0} → (E → Job) → Result A E → (X → A) → Judged X → Type 0
+IsJudged {X} {A} {E} refusal defined view (Told value) = defined ≡ Ok (view value)
+IsJudged {X} {A} {E} refusal defined view (Ends answer) =
+    (fault : E) × (defined ≡ Err fault) × (answer ≡ refusal fault)
