@@ -3,13 +3,16 @@ use Rattle.std.proofs.Common.{◌≡◌, ◌≢◌, ◌∙◌, ◌≤◌, ◌<�
 use Rattle.std.proofs.Common.{Ok, Err, ap, refl, subst, sym, arith, if◌then◌else◌}
 use Rattle.std.specs.Prelude.{nat_le}
 use Rattle.std.proofs.lemmas.Bool.{le-leb}
+use Rattle.aeth_app.specs.declared.fault.AppFault.{AppFault}
+use Rattle.aeth_app.specs.declared.fault.AppFault.TheVariants as app
 use Rattle.aeth_chip.specs.declared.fault.ChipFault.{ChipFault}
 use Rattle.aeth_chip.specs.declared.fault.ChipFault.TheVariants as fault
 use Rattle.aeth_io.specs.declared.shelf.TheConstants.{MAX_FILE}
 use Rattle.aeth_cli.specs.declared.files.Judged.{Judged}
 use Rattle.aeth_cli.specs.declared.files.Judged.TheVariants.{Told, Ends}
-use Rattle.aeth_cli.specs.Files.{GoesOn, IsJudged, chip_refusal, judged, reads_file, too_long}
-use Rattle.aeth_cli.specs.Job.{Job}
+use Rattle.aeth_cli.specs.Files.{GoesOn, IsJudged, app_refusal, chip_refusal}
+use Rattle.aeth_cli.specs.Files.{judged, reads_file, too_long}
+use Rattle.aeth_cli.specs.Job.{Job, done}
 use Rattle.aeth_cli.specs.Task.{IsAnswer, Leads, Task, ends}
 use Rattle.aeth_cli.proofs.TaskLemmas.{IsAnswer-ends, Leads-reads}
 
@@ -51,6 +54,13 @@ GoesOn-judged content old now file name bytes refusal defined view (Ends answer)
           (IsAnswer-ends content now now answer (omega (arith, refused)))),
     )
 
+-- A job that is done with its text answers a task of which it is left.
+pub IsAnswer-done : (content : List ℕ → Option (List ℕ)) (old now : List ℕ → ℕ) (task : Task)
+    (text : List ℕ) (answer : Job) → Leads content old now task (ends (done text))
+    → answer ≡ done text → IsAnswer content old now task answer
+IsAnswer-done content old now task text answer leads is =
+    leads now answer (rw is (IsAnswer-ends content now now (done text) (omega arith)))
+
 -- Each rule that a chip file breaks refuses the input.
 pub chip_refusal-status : (broken : ChipFault) → (chip_refusal broken).status ≡ 2
 chip_refusal-status fault.BadToml = refl
@@ -61,3 +71,17 @@ chip_refusal-status (fault.UnknownName broken) = refl
 chip_refusal-status (fault.TooManyPorts broken) = refl
 chip_refusal-status (fault.NiNotSingle broken) = refl
 chip_refusal-status fault.Memory = refl
+
+-- So does each rule that an application file breaks.
+pub app_refusal-status : (broken : AppFault) → (app_refusal broken).status ≡ 2
+app_refusal-status app.BadToml = refl
+app_refusal-status (app.WrongKey broken) = refl
+app_refusal-status (app.OutOfRange broken) = refl
+app_refusal-status (app.NameTwice broken) = refl
+app_refusal-status (app.UnknownName broken) = refl
+app_refusal-status (app.RateTooHigh broken) = refl
+app_refusal-status (app.CoreToItself broken) = refl
+app_refusal-status (app.CoreTooBusy broken) = refl
+app_refusal-status (app.TooFewSeats broken) = refl
+app_refusal-status (app.SeatsOverfull broken) = refl
+app_refusal-status app.Memory = refl

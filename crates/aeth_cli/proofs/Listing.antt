@@ -1,8 +1,11 @@
--- Laws of numbers that are listed in a text.
-use Rattle.std.proofs.Common.{◌≡◌, ◌∙◌, ℕ, ◌++◌, List, [], ◌∷◌, map, ap, sym, append-nil}
+-- Laws of lists that are put into a text one by one.
+use Rattle.std.proofs.Common.{◌≡◌, ◌∙◌, ◌<◌, ◌+◌, ℕ, ◌++◌, List, [], ◌∷◌, length, map, take, ap}
+use Rattle.std.proofs.Common.{sym, inl, inr, append-nil, arith}
 use Rattle.std.specs.Fmt.{decimal}
 use Rattle.std.specs.List.{flat_map, join_with_byte}
-use Rattle.std.proofs.lemmas.List.{map-id}
+use Rattle.std.specs.Prelude.{slice_get, IfSome}
+use Rattle.std.proofs.lemmas.List.{flat_map_more, map-id, take_more}
+use Rattle.std.proofs.lemmas.Option.{slice_get_cases}
 use Rattle.aeth_cli.specs.Text.{list_text}
 
 -- What is joined by a byte is the first piece, and then the byte and a piece for each other one.
@@ -19,3 +22,20 @@ pub list_text-cons : (slots : List ℕ) (first : ℕ) (rest gone : List ℕ)
 list_text-cons slots first rest gone starts goes =
     let same : gone ≡ rest = sym (map-id gone) ∙ goes in
     rw (starts, same) (sym (join_with_byte-cons 44 (λ n. decimal n) first rest))
+
+-- What is put behind the texts of the first items for the next one stands behind them.
+pub flat_map-take_more : {X : Type 0} (f : X → List ℕ) (text before after : List ℕ) (xs : List X)
+    (i : ℕ) → i < length xs → before ≡ text ++ flat_map f (take i xs)
+    → IfSome (slice_get xs i) (λ x. after ≡ before ++ f x)
+    → after ≡ text ++ flat_map f (take (i + 1) xs)
+flat_map-take_more f text before after xs i inside gone put =
+    elim ((slice_get_cases xs i).1) [
+      | inl found ↦
+          let x = found.0 in
+          let here : after ≡ before ++ f x = rw found.2 at put in
+          let next = take_more xs i x inside in
+          here ∙ ap (λ front. front ++ f x) gone ∙ flat_map_more f text (take i xs) x
+          ∙ ap (λ items. text ++ flat_map f items)
+          (ap (λ last. take i xs ++ last ∷ []) (sym found.3) ∙ sym next)
+      | inr past ↦ absurd (omega (arith, inside, past.0))
+    ]

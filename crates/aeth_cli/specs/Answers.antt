@@ -9,8 +9,10 @@ use Rattle.aeth_cli.specs.declared.command.Command.{Command}
 use Rattle.aeth_cli.specs.declared.command.Command.TheVariants.{ChooseSlots, BoundLatency}
 use Rattle.aeth_cli.specs.declared.status.TheConstants.{USAGE, NOT_GRANTED}
 use Rattle.aeth_cli.specs.Command.{command_of}
+use Rattle.aeth_chip.specs.Chip.{ChipData}
+use Rattle.aeth_cli.specs.AppCommand.{app_text}
 use Rattle.aeth_cli.specs.ChipCommand.{chip_text}
-use Rattle.aeth_cli.specs.Files.{with_chip}
+use Rattle.aeth_cli.specs.Files.{with_app, with_chip}
 use Rattle.aeth_cli.specs.Job.{Job, done, refused}
 use Rattle.aeth_cli.specs.Task.{Task, ends, job_with}
 use Rattle.aeth_cli.specs.Text.{latency_text, list_text}
@@ -30,6 +32,14 @@ latency_job need links set =
 abbrev pub chip_task : List ℕ → Task
 chip_task name = with_chip name (λ chip. ends (done (chip_text chip)))
 
+-- An application file is read for a chip and summed up.
+abbrev pub app_task_on : ChipData → List ℕ → Task
+app_task_on chip name = with_app chip name (λ app. ends (done (app_text app)))
+
+-- A chip file and an application file are read, and the application is summed up.
+abbrev pub app_task : List ℕ → List ℕ → Task
+app_task chip_name app_name = with_chip chip_name (λ chip. app_task_on chip app_name)
+
 -- The words are no command.
 abbrev pub usage : Job
 usage = refused USAGE (codes "usage\n")
@@ -44,6 +54,10 @@ task_of (Some (BoundLatency need links slots)) = ends (latency_job need links sl
 abbrev pub task : List (List ℕ) → Task
 task (name ∷ file ∷ []) =
     if bytes_eq name (codes "chip") && nat_le 1 (length file) then chip_task file
+    else ends usage
+task (name ∷ chip ∷ app ∷ []) =
+    if bytes_eq name (codes "app") && nat_le 1 (length chip) && nat_le 1 (length app)
+    then app_task chip app
     else ends usage
 task words = task_of (command_of words)
 

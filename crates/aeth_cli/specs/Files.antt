@@ -3,11 +3,16 @@
 --   too_long, reads_file      a file, which is refused where it is too long
 --   judged      what comes of a file's value, or of the rule that it breaks
 --   chip_refusal, with_chip      a chip file
+--   app_refusal, with_app      an application file
 --   GoesOn      what a call leaves of a task that begins with such a file
 --   IsJudged      what a call gives of a value, or of the rule that is broken
 -- This project's own.
 use Rattle.std.specs.Prelude.{ℕ, ◌≡◌, ◌≢◌, nat_le, List, length, Option, Result, Ok, Err, codes}
 use Rattle.std.specs.Prelude.{if◌then◌else◌}
+use Rattle.aeth_app.specs.App.{AppData}
+use Rattle.aeth_app.specs.AppFile.{app_of}
+use Rattle.aeth_app.specs.declared.fault.AppFault.{AppFault}
+use Rattle.aeth_app.specs.declared.fault.AppFault.TheVariants as app
 use Rattle.aeth_chip.specs.Chip.{ChipData}
 use Rattle.aeth_chip.specs.ChipFile.{chip_of}
 use Rattle.aeth_chip.specs.declared.fault.ChipFault.{ChipFault}
@@ -52,6 +57,26 @@ chip_refusal Memory = refused_file (codes "chip") 8 (codes "Memory") nowhere
 abbrev pub with_chip : List ℕ → (ChipData → Task) → Task
 with_chip name next =
     reads_file (codes "chip") name (λ bytes. judged chip_refusal (chip_of bytes) next)
+
+-- What is refused of an application file. Its definition never lacks memory.
+abbrev pub app_refusal : AppFault → Job
+app_refusal app.BadToml = refused_file (codes "app") 1 (codes "BadToml") nowhere
+app_refusal (app.WrongKey broken) = refused_file (codes "app") 2 (codes "WrongKey") broken
+app_refusal (app.OutOfRange broken) = refused_file (codes "app") 3 (codes "OutOfRange") broken
+app_refusal (app.NameTwice broken) = refused_file (codes "app") 4 (codes "NameTwice") broken
+app_refusal (app.UnknownName broken) = refused_file (codes "app") 5 (codes "UnknownName") broken
+app_refusal (app.RateTooHigh broken) = refused_file (codes "app") 6 (codes "RateTooHigh") broken
+app_refusal (app.CoreToItself broken) = refused_file (codes "app") 7 (codes "CoreToItself") broken
+app_refusal (app.CoreTooBusy broken) = refused_file (codes "app") 8 (codes "CoreTooBusy") broken
+app_refusal (app.TooFewSeats broken) = refused_file (codes "app") 9 (codes "TooFewSeats") broken
+app_refusal (app.SeatsOverfull broken) =
+    refused_file (codes "app") 10 (codes "SeatsOverfull") broken
+app_refusal app.Memory = refused_file (codes "app") 11 (codes "Memory") nowhere
+
+-- An application file is read and judged for a chip, and what comes next comes of its application.
+abbrev pub with_app : ChipData → List ℕ → (AppData → Task) → Task
+with_app chip name next =
+    reads_file (codes "app") name (λ bytes. judged app_refusal (app_of chip bytes) next)
 
 -- What a call leaves of a task that reads a file and goes on with what it tells: where it tells
 -- something, what comes next of that; where it doesn't, the answer.

@@ -1,4 +1,5 @@
 pub mod Answers
+pub mod AppCommand
 pub mod ChipCommand
 pub mod Command
 pub mod Files

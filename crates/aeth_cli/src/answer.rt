@@ -5,6 +5,7 @@ ghost use Rattle.aeth_cli.specs.Task.{IsAnswer, ends};
 ghost use Rattle.aeth_slots.specs.Choice.{chosen};
 ghost use Rattle.std.specs.Prelude.{◌≡◌, ◌≤◌, ◌∷◌, [], IfOk, map, string_bytes};
 
+use crate::app_command::app_answer;
 use crate::chip_command::chip_answer;
 use crate::command::{Command, parse};
 use crate::status::{DONE, NOT_GRANTED, USAGE};
@@ -58,8 +59,12 @@ pub fn answer_to<H: Shelf>(
     ensures usage { IfOk result (λ answer. answer.status ≡ USAGE
         → task (map string_bytes words.now) ≡ ends usage) }
 {
-    if let [name, file] = words {
-        return file_answer(alloc, name.as_str(), file.as_str(), shelf);
+    match words {
+        [name, file] => return file_answer(alloc, name.as_str(), file.as_str(), shelf),
+        [name, chip, app] => {
+            return design_answer(alloc, name.as_str(), chip.as_str(), app.as_str(), shelf);
+        }
+        _ => {}
     }
     let Some(command) = parse(words) else {
         return Answer::refused(alloc, USAGE, "usage\n");
@@ -83,6 +88,24 @@ fn file_answer<H: Shelf>(
 {
     if command == "chip" && !file.is_empty() {
         return chip_answer(alloc, file, shelf);
+    }
+    Answer::refused(alloc, USAGE, "usage\n")
+}
+
+fn design_answer<H: Shelf>(
+    alloc: Global,
+    command: &str,
+    chip: &str,
+    app: &str,
+    shelf: &mut H,
+) -> Result<Answer, NoMemory>
+    ensures answer { IfOk result (λ answer. IsAnswer (H.content shelf.old) (H.faults shelf.old)
+        (H.faults shelf.new) (task (command.now ∷ chip.now ∷ app.now ∷ [])) answer) }
+    ensures usage { IfOk result (λ answer. answer.status ≡ USAGE
+        → task (command.now ∷ chip.now ∷ app.now ∷ []) ≡ ends usage) }
+{
+    if command == "app" && !chip.is_empty() && !app.is_empty() {
+        return app_answer(alloc, chip, app, shelf);
     }
     Answer::refused(alloc, USAGE, "usage\n")
 }

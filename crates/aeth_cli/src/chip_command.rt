@@ -2,12 +2,13 @@
 ghost use Rattle.aeth_cli.specs.Answers.{chip_task};
 ghost use Rattle.aeth_cli.specs.ChipCommand.{chip_text};
 ghost use Rattle.aeth_cli.specs.Task.{IsAnswer};
-ghost use Rattle.std.specs.Prelude.{◌≡◌, ◌≢◌, ◌++◌, IfOk, OnOk, decimal};
+ghost use Rattle.std.specs.Prelude.{◌≡◌, ◌≢◌, IfOk};
 
 use crate::answer::Answer;
 use crate::files::{Judged, read_chip_file};
 use crate::status::USAGE;
-use aeth_base::{NoMemory, push_number};
+use crate::text::push_count;
+use aeth_base::NoMemory;
 use aeth_chip::{Chip, Distances, Summary};
 use aeth_io::Shelf;
 use std::alloc::Global;
@@ -38,11 +39,4 @@ fn chip_line(alloc: Global, chip: &Chip) -> Result<Vec<u8>, NoMemory>
     push_count(&mut text, " unreached ", summary.unreached)?;
     text.push(b'\n')?;
     Ok(text)
-}
-
-fn push_count(text: &mut Vec<u8>, label: &str, count: u32) -> Result<(), NoMemory>
-    ensures { OnOk result (text.new.items ≡ text.old.items ++ label.now ++ decimal count) }
-{
-    text.extend_from_slice(label.as_bytes())?;
-    push_number(text, u64::from(count))
 }

@@ -2,6 +2,7 @@
 #![tactic(auto)]
 
 mod answer;
+mod app_command;
 mod chip_command;
 #[cfg(test)]
 mod chip_tests;

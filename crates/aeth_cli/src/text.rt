@@ -1,6 +1,6 @@
 // Texts that commands print.
 ghost use Rattle.aeth_cli.specs.Text.{latency_text, list_text};
-ghost use Rattle.std.specs.Prelude.{◌≡◌, ◌≤◌, ◌++◌, IfOk, OnOk, length};
+ghost use Rattle.std.specs.Prelude.{◌≡◌, ◌≤◌, ◌++◌, IfOk, OnOk, decimal, length};
 
 use crate::words::COMMA;
 use aeth_base::{NoMemory, push_number};
@@ -22,6 +22,14 @@ pub fn push_slots(text: &mut Vec<u8>, set: &SlotSet) -> Result<(), NoMemory>
         push_number(text, u64::from(slot))?;
     }
     Ok(())
+}
+
+/// Appends a label and a number.
+pub fn push_count(text: &mut Vec<u8>, label: &str, count: u32) -> Result<(), NoMemory>
+    ensures { OnOk result (text.new.items ≡ text.old.items ++ label.now ++ decimal count) }
+{
+    text.extend_from_slice(label.as_bytes())?;
+    push_number(text, u64::from(count))
 }
 
 /// The rate that a need stands for, the latency of the slots, and the total over a path.

@@ -1,8 +1,8 @@
-use Rattle.std.proofs.Common.{◌≡◌, ◌∙◌, ap, subst, sym, arith}
+use Rattle.std.proofs.Common.{◌∙◌, ap}
 use Rattle.aeth_cli.specs.ChipCommand.{chip_text}
-use Rattle.aeth_cli.specs.Job.{Job, done}
-use Rattle.aeth_cli.specs.Task.{IsAnswer, ends}
-use Rattle.aeth_cli.proofs.TaskLemmas.{IsAnswer-ends}
+use Rattle.aeth_cli.specs.Job.{done}
+use Rattle.aeth_cli.specs.Task.{ends}
+use Rattle.aeth_cli.proofs.FileLemmas.{IsAnswer-done}
 use Rattle.aeth_cli.proofs.chip_command.chip_answer.Goals as goal
 
 -- The file ends the command.
@@ -14,9 +14,8 @@ returns-in-Ends-clause-answer g c =
 pub returns-in_ok-chip_line-in-Told-clause-answer :
     goal.returns-in_ok-chip_line-in-Told-clause-answer
 returns-in_ok-chip_line-in-Told-clause-answer g c =
-    let content = g.H.Shelf.content c.args.shelf.now in
-    let new = g.H.Shelf.faults c.read_chip_file.new.shelf in
-    let leads = (rw c.in-Told.is at c.in_ok-answer.ensures.goes_on)
-    (λ chip. ends (done (chip_text chip))) in
-    let is = c.done.ensures ∙ ap done c.in_ok-chip_line-in-Told.ensures in
-    leads new c.done.result (rw is (IsAnswer-ends content new new _ (omega arith)))
+    IsAnswer-done (g.H.Shelf.content c.args.shelf.now) (g.H.Shelf.faults c.args.shelf.now)
+    (g.H.Shelf.faults c.read_chip_file.new.shelf) _ _ c.done.result
+    ((rw c.in-Told.is at c.in_ok-answer.ensures.goes_on)
+    (λ chip. ends (done (chip_text chip))))
+    (c.done.ensures ∙ ap done c.in_ok-chip_line-in-Told.ensures)

@@ -1,0 +1,145 @@
+-- What an application is seen as, and what holds of every application.
+--
+--   AppData, UseData      an application, and one of its use cases
+--   is_marked, has_connection, is_smooth      which connections run in a use case, and which use
+--                                             cases go over smoothly
+--   is_end, position_of      the connections of a core
+--   wish_of      what a channel wishes
+--   IsWish, IsConnection, IsUse, IsApp      what holds of every application
+--   is_fixed_to, IsAppOf      what holds of an application that was read with a chip
+-- Connections and use cases: after Æthereal (2005) and UMARS (2005). The rest is this project's own.
+use Rattle.std.specs.Prelude.{◌≡◌, ◌≢◌, ◌≤◌, ◌<◌, ℕ, ◌*◌, ◌==◌, ◌||◌, Bool, false, List, length}
+use Rattle.std.specs.Prelude.{map, take, slice_get, count_by, Option, Some, None, All, Contains, unwrap_or}
+use Rattle.std.specs.List.{IsDistinct}
+use Rattle.std.specs.Str.{bytes_eq}
+use Rattle.aeth_base.specs.declared.ids.CoreId.{CoreId}
+use Rattle.aeth_base.specs.declared.ids.NiId.{NiId}
+use Rattle.aeth_base.specs.declared.ids.Side.{Side}
+use Rattle.aeth_base.specs.declared.ids.Side.TheVariants.{Fwd, Back}
+use Rattle.aeth_chip.specs.Chip.{ChipData}
+use Rattle.aeth_chip.specs.declared.chip.TheConstants.{MAX_SLOTS}
+use Rattle.aeth_app.specs.declared.app.TheConstants.{MAX_CONNECTIONS, MAX_CORES}
+use Rattle.aeth_app.specs.declared.app.TheConstants.{MAX_CORE_CONNECTIONS, MAX_DETOUR, MAX_USES}
+use Rattle.aeth_app.specs.declared.app.TheConstants.{SEATS}
+use Rattle.aeth_app.specs.declared.connection.Connection.{Connection}
+use Rattle.aeth_app.specs.declared.connection.Core.{Core}
+use Rattle.aeth_app.specs.declared.connection.Price.{Price}
+use Rattle.aeth_app.specs.declared.connection.Wish.{Wish}
+use Rattle.aeth_app.specs.declared.connection.TheConstants.{MAX_LATENCY, MAX_PER}
+use Rattle.aeth_app.specs.declared.connection.TheConstants.{MAX_RECEIVER_DELAY, MAX_WORDS}
+
+-- A use case: its name, for each connection whether it has it, and for each use case whether its
+-- file names it as smooth.
+pub record UseData : Type 0 where
+  pub name : List ℕ
+  pub has : List Bool
+  pub smooth : List Bool
+
+-- An application: the size of the slot tables that it is for, how many links more than the least
+-- number a path may have, what links cost, and its cores, connections and use cases in file order.
+pub record AppData : Type 0 where
+  pub slots : ℕ
+  pub detour : ℕ
+  pub price : Price
+  pub cores : List Core
+  pub connections : List Connection
+  pub uses : List UseData
+
+-- Whether a place is marked; a place past the last isn't.
+abbrev pub is_marked : List Bool → ℕ → Bool
+is_marked marks place = unwrap_or (slice_get marks place) false
+
+-- Whether a use case, which may be missing, has a connection.
+abbrev pub has_in : Option UseData → ℕ → Bool
+has_in None connection = false
+has_in (Some one) connection = is_marked one.has connection
+
+-- Whether a use case has a connection.
+abbrev pub has_connection : List UseData → ℕ → ℕ → Bool
+has_connection uses u connection = has_in (slice_get uses u) connection
+
+-- Whether a use case, which may be missing, names another as smooth.
+abbrev pub names_in : Option UseData → ℕ → Bool
+names_in None v = false
+names_in (Some one) v = is_marked one.smooth v
+
+-- Whether a switch between two use cases is smooth: one of them names the other.
+abbrev pub is_smooth : List UseData → ℕ → ℕ → Bool
+is_smooth uses u v = names_in (slice_get uses u) v || names_in (slice_get uses v) u
+
+-- Whether a core is an end of a connection.
+abbrev pub is_end : CoreId → Connection → Bool
+is_end core connection = connection.from.0 == core.0 || connection.to.0 == core.0
+
+-- The position of a connection at a core: how many connections of the core stand before it.
+abbrev pub position_of : List Connection → CoreId → ℕ → ℕ
+position_of connections core connection = count_by (is_end core) (take connection connections)
+
+-- What a connection wishes on a side.
+abbrev pub wish_of : Connection → Side → Wish
+wish_of connection Fwd = connection.fwd
+wish_of connection Back = connection.back
+
+-- What holds of every wish: it has at most two words a cycle, and is within the limits.
+pub record IsWish (wish : Wish) : Type 0 where
+  pub words : wish.words ≤ MAX_WORDS
+  pub rate : wish.words ≤ 2 * wish.per
+  pub some_per : 1 ≤ wish.per
+  pub per : wish.per ≤ MAX_PER
+  pub some_latency : 1 ≤ wish.latency
+  pub latency : wish.latency ≤ MAX_LATENCY
+  pub delay : wish.delay ≤ MAX_RECEIVER_DELAY
+
+-- What holds of every connection of an application with so many cores.
+pub record IsConnection (cores : ℕ) (connection : Connection) : Type 0 where
+  pub from : connection.from.0 < cores
+  pub to : connection.to.0 < cores
+  pub apart : connection.from.0 ≢ connection.to.0
+  pub fwd : IsWish connection.fwd
+  pub back : IsWish connection.back
+
+-- What holds of every use case: it has a mark for each connection and for each use case.
+pub record IsUse (connections uses : ℕ) (one : UseData) : Type 0 where
+  pub has : length one.has ≡ connections
+  pub smooth : length one.smooth ≡ uses
+
+-- What holds of every application.
+pub record IsApp (app : AppData) : Type 0 where
+  pub some_slots : 1 ≤ app.slots
+  pub slots : app.slots ≤ MAX_SLOTS
+  pub detour : app.detour ≤ MAX_DETOUR
+  pub cores : length app.cores ≤ MAX_CORES
+  pub connections : length app.connections ≤ MAX_CONNECTIONS
+  pub some_uses : 1 ≤ length app.uses
+  pub uses : length app.uses ≤ MAX_USES
+  pub joined : All (IsConnection (length app.cores)) app.connections
+  pub busy : (core : CoreId) → count_by (is_end core) app.connections ≤ MAX_CORE_CONNECTIONS
+  pub marked : All (IsUse (length app.connections) (length app.uses)) app.uses
+  pub core_names : IsDistinct bytes_eq (map (λ core. core.name) app.cores)
+  pub connection_names : IsDistinct bytes_eq (map (λ connection. connection.name) app.connections)
+  pub use_names : IsDistinct bytes_eq (map (λ one. one.name) app.uses)
+
+-- The names are those of the cores, the connections and the use cases, in their order.
+pub record AreNames (cores connections uses : List (List ℕ)) (of_cores : List Core)
+    (of_connections : List Connection) (of_uses : List UseData) : Type 0 where
+  pub core : cores ≡ map (λ core. core.name) of_cores
+  pub connection : connections ≡ map (λ connection. connection.name) of_connections
+  pub use_case : uses ≡ map (λ one. one.name) of_uses
+
+-- Whether a network interface, which may be missing, is the one with this number.
+abbrev pub is_ni : Option NiId → ℕ → Bool
+is_ni None number = false
+is_ni (Some ni) number = ni.0 == number
+
+-- Whether a core is fixed to a network interface.
+abbrev pub is_fixed_to : ℕ → Core → Bool
+is_fixed_to ni core = is_ni core.fixed ni
+
+-- What holds of an application that was read with a chip: it has the chip's table size, there are
+-- seats for all its cores, and each core is fixed to no interface or to one with seats enough.
+pub record IsAppOf (chip : ChipData) (app : AppData) : Type 0 where
+  pub slots : app.slots ≡ chip.slots
+  pub seats : length app.cores ≤ SEATS * length chip.nis
+  pub known : (core : Core) (ni : NiId) → Contains app.cores core → core.fixed ≡ Some ni
+      → ni.0 < length chip.nis
+  pub fixed : (ni : ℕ) → count_by (is_fixed_to ni) app.cores ≤ SEATS

@@ -1,0 +1,76 @@
+-- The limits of an application's cores and connections.
+--
+--   rate_too_high, core_to_itself, core_too_busy, too_few_seats, seats_overfull    the walks
+--   within_limits    the application, or the first limit that it breaks
+-- This project's own.
+use Rattle.std.specs.Prelude.{ℕ, ◌*◌, ◌==◌, nat_le, List, [], ◌∷◌, map, flat_map, length}
+use Rattle.std.specs.Prelude.{count_by, slice_get, Option, Some, None, Result, Ok}
+use Rattle.std.specs.Prelude.{if◌then◌else◌}
+use Rattle.std.specs.List.{range_with_len}
+use Rattle.aeth_document.specs.Chain.{◌>>=◌, refused}
+use Rattle.aeth_document.specs.declared.shown.Broken.{Broken}
+use Rattle.aeth_document.specs.declared.shown.Shown.{Shown}
+use Rattle.aeth_document.specs.declared.shown.Shown.TheVariants.{Nothing, Number, Word}
+use Rattle.aeth_document.specs.Walks.{first_broken}
+use Rattle.aeth_app.specs.declared.app.TheConstants.{MAX_CORE_CONNECTIONS, SEATS}
+use Rattle.aeth_app.specs.declared.connection.Connection.{Connection}
+use Rattle.aeth_app.specs.declared.connection.Core.{Core}
+use Rattle.aeth_app.specs.declared.connection.Wish.{Wish}
+use Rattle.aeth_app.specs.declared.fault.AppFault.{AppFault}
+use Rattle.aeth_app.specs.declared.fault.AppFault.TheVariants.{CoreToItself, CoreTooBusy}
+use Rattle.aeth_app.specs.declared.fault.AppFault.TheVariants.{RateTooHigh, SeatsOverfull}
+use Rattle.aeth_app.specs.declared.fault.AppFault.TheVariants.{TooFewSeats}
+use Rattle.aeth_app.specs.App.{AppData, is_end, is_fixed_to}
+
+-- The words of a wish that has more than two a cycle.
+abbrev pub too_fast : Wish → Option Shown
+too_fast wish = if nat_le wish.words (2 * wish.per) then None else Some (Number wish.words)
+
+-- Rates too high: for each connection `fwd`, then `back`.
+abbrev pub rate_too_high : List Connection → Option Broken
+rate_too_high connections =
+    first_broken 0 (flat_map (λ c. too_fast c.fwd ∷ too_fast c.back ∷ []) connections)
+
+-- The name of a core that may be missing.
+abbrev pub shown_core : Option Core → Shown
+shown_core None = Nothing
+shown_core (Some core) = Word core.name
+
+-- The core that a connection leads from and to, where it is one.
+abbrev pub own_end : List Core → Connection → Option Shown
+own_end cores connection =
+    if connection.from.0 == connection.to.0 then Some (shown_core (slice_get cores connection.from.0))
+    else None
+
+-- Cores to themselves: the connections.
+abbrev pub core_to_itself : List Core → List Connection → Option Broken
+core_to_itself cores connections = first_broken 0 (map (own_end cores) connections)
+
+-- A count where it is above the most that is allowed.
+abbrev pub above : ℕ → ℕ → Option Shown
+above most count = if nat_le count most then None else Some (Number count)
+
+-- Cores too busy: the cores.
+abbrev pub core_too_busy : ℕ → List Connection → Option Broken
+core_too_busy cores connections =
+    first_broken 0 (map (λ core. above MAX_CORE_CONNECTIONS
+    (count_by (is_end (record { 0 = core })) connections)) (range_with_len 0 cores))
+
+-- Too few seats: the number of cores.
+abbrev pub too_few_seats : ℕ → ℕ → Option Broken
+too_few_seats nis cores = first_broken 0 (above (SEATS * nis) cores ∷ [])
+
+-- Seats overfull: the network interfaces.
+abbrev pub seats_overfull : ℕ → List Core → Option Broken
+seats_overfull nis cores =
+    first_broken 0 (map (λ ni. above SEATS (count_by (is_fixed_to ni) cores)) (range_with_len 0 nis))
+
+-- The application, for a chip with so many network interfaces, or the first limit that it breaks.
+unfoldable pub within_limits : ℕ → AppData → Result AppData AppFault
+within_limits nis app = do
+  rates ← refused RateTooHigh (rate_too_high app.connections)
+  apart ← refused CoreToItself (core_to_itself app.cores app.connections)
+  busy ← refused CoreTooBusy (core_too_busy (length app.cores) app.connections)
+  seats ← refused TooFewSeats (too_few_seats nis (length app.cores))
+  fixed ← refused SeatsOverfull (seats_overfull nis app.cores)
+  Ok app

@@ -1,0 +1,20 @@
+//! Applications: their cores, connections and use cases, as a file tells them, and what each
+//! connection needs in slots.
+#![tactic(auto)]
+
+mod app;
+mod connection;
+mod fault;
+mod keys;
+mod ranges;
+mod rates;
+mod reading;
+mod repeats;
+mod use_case;
+
+pub use app::{App, MAX_CONNECTIONS, MAX_CORE_CONNECTIONS, MAX_CORES, MAX_DETOUR, MAX_USES, SEATS};
+pub use connection::{
+    Connection, Core, MAX_LATENCY, MAX_PER, MAX_RECEIVER_DELAY, MAX_WORDS, Price, Wish,
+};
+pub use fault::AppFault;
+pub use reading::read_app;

@@ -1,0 +1,10 @@
+mod MarkLemmas
+mod PassLemmas
+pub mod Ranges
+pub mod ChainLemmas
+mod ClosureLemmas
+mod NumberingLemmas
+pub mod GroupLemmas
+pub mod MemberLemmas
+mod MakingLemmas
+mod UnitLemmas

@@ -1,0 +1,6 @@
+pub mod Chains
+pub mod Numbering
+pub mod Groups
+pub mod Marks
+pub mod Members
+pub use Rattle.aeth_app.specs.App

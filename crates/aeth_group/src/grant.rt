@@ -1,0 +1,23 @@
+// What a plan is made of.
+
+use aeth_base::{CoreId, NiId, Path, Side, Unit};
+use aeth_slots::SlotSet;
+
+/// A reservation for one side of a unit: slots along a path. After Æthereal (2005).
+#[derive(Clone, Copy, Debug)]
+pub struct Grant {
+    pub unit: Unit,
+    pub side: Side,
+    pub path: Path,
+    /// The starts: the slots in which flits enter the first link of the path.
+    pub slots: SlotSet,
+}
+
+/// Where a core is seated. After UMARS (2005), which places cores.
+#[derive(Clone, Copy, Debug, PartialEq, Eq)]
+pub struct SeatLine {
+    pub core: CoreId,
+    pub ni: NiId,
+    /// 0 to 3.
+    pub seat: u8,
+}

@@ -1,0 +1,13 @@
+//! Groups of use cases that smooth switches join, which connections are together in a group, and the
+//! grants and seats that a plan is made of.
+#![tactic(auto)]
+
+mod closing;
+mod grant;
+mod groups;
+mod numbering;
+#[cfg(test)]
+mod tests;
+
+pub use grant::{Grant, SeatLine};
+pub use groups::Groups;

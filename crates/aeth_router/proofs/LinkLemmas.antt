@@ -1,0 +1,145 @@
+-- Laws of the lists of links of a router.
+use Rattle.std.proofs.Common.{◌≡◌, ◌<◌, ◌≤◌, ◌+◌, ℕ, zero, suc, refl, ap, inl, inr, arith}
+use Rattle.std.proofs.Common.{length, Bool, true, List, [], ◌∷◌, Some, slice_get}
+use Rattle.std.proofs.Common.{get_or, take, ◌∙◌}
+use Rattle.std.specs.Prelude.{◌==◌, count_by, position}
+use Rattle.std.specs.List.{position_or_len}
+use Rattle.std.proofs.lemmas.Map.Keys.{any_passes_from_place}
+use Rattle.std.proofs.lemmas.Bool.{cases_Bool, eq-eqb, cases_eq}
+use Rattle.std.proofs.lemmas.Bool.Decides.{nat_tests}
+use Rattle.std.proofs.lemmas.List.Sums.{position_or_len_is}
+use Rattle.std.proofs.lemmas.Option.{same_Some, slice_get_within, slice_get-get_or}
+use Rattle.std.proofs.lemmas.Option.{get_or_from_slice_get}
+use Rattle.aeth_chip.specs.declared.node.Link.{Link}
+use Rattle.aeth_chip.specs.Nodes.{numbers_from}
+use Rattle.aeth_chip.proofs.NodeLemmas.{numbers_from-at}
+use Rattle.aeth_clocked.specs.Wires.{AreLinks}
+use Rattle.aeth_router.specs.Router.{AreApart, is_among}
+
+-- A link before all others is apart from them.
+AreApart-cons : (first : ℕ) (others : List ℕ) →
+    ((i link : ℕ) → slice_get others i ≡ Some link → first < link) → AreApart others →
+    AreApart (first ∷ others)
+AreApart-cons first others above apart zero zero link at there = refl
+AreApart-cons first others above apart zero (suc j) link at there =
+    let same : first ≡ link = same_Some first link at in
+    let below = above j link there in
+    absurd (omega arith)
+AreApart-cons first others above apart (suc i) zero link at there =
+    let same : first ≡ link = same_Some first link there in
+    let below = above i link at in
+    absurd (omega arith)
+AreApart-cons first others above apart (suc i) (suc j) link at there =
+    ap (λ (n : ℕ). suc n) (apart i j link at there)
+
+-- Where all others come after the first link, each is the first or comes after it.
+least-cons : (first : ℕ) (others : List ℕ) (i link : ℕ) →
+    ((j other : ℕ) → slice_get others j ≡ Some other → first < other) →
+    slice_get (first ∷ others) i ≡ Some link → first ≤ link
+least-cons first others zero link above at =
+    let same : first ≡ link = same_Some first link at in omega arith
+least-cons first others (suc i) link above at =
+    let below = above i link at in omega arith
+
+-- The numbers of links that pass a test begin at the first link's, or later.
+numbers_from-least : (number : ℕ) (test : Link → Bool) (links : List Link) (i link : ℕ) →
+    slice_get (numbers_from number test links) i ≡ Some link → number ≤ link
+numbers_from-least number test [] i link at = absurd (cc at)
+numbers_from-least number test (first ∷ links) i link at =
+    elim (cases_Bool (test first)) [
+      | inl passes ↦
+          least-cons number (numbers_from (number + 1) test links) i link
+          (λ j other there.
+          let below = numbers_from-least (number + 1) test links j other there in omega arith)
+          (rw passes at at)
+      | inr fails ↦
+          let rest = numbers_from-least (number + 1) test links i link (rw fails at at) in
+          omega arith
+    ]
+
+-- They are apart. So the links on which a node sends are, and those on which it receives.
+pub AreApart-numbers_from : (number : ℕ) (test : Link → Bool) (links : List Link) →
+    AreApart (numbers_from number test links)
+AreApart-numbers_from number test [] = λ i j link at there. absurd (cc at)
+AreApart-numbers_from number test (first ∷ links) =
+    let others = numbers_from (number + 1) test links in
+    let rest = AreApart-numbers_from (number + 1) test links in
+    elim (cases_Bool (test first)) [
+      | inl passes ↦
+          rw passes (AreApart-cons number others (λ j other there.
+          let below = numbers_from-least (number + 1) test links j other there in omega arith)
+          rest)
+      | inr fails ↦ rw fails rest
+    ]
+
+-- Each is that of a link that passes.
+numbers_from-link : (number : ℕ) (test : Link → Bool) (links : List Link) (n : ℕ) →
+    is_among (numbers_from number test links) n ≡ true →
+    (i : ℕ) × (link : Link) × (slice_get links i ≡ Some link) × (test link ≡ true)
+    × (n ≡ number + i)
+numbers_from-link number test [] n is = absurd (cc is)
+numbers_from-link number test (first ∷ links) n is =
+    let others = numbers_from (number + 1) test links in
+    let rest = numbers_from-link (number + 1) test links n in
+    elim (cases_Bool (test first)) [
+      | inl passes ↦ elim (cases_eq number n) [
+        | inl same ↦ (0, first, refl, passes, omega arith)
+        | inr other ↦
+            let among : is_among (number ∷ others) n ≡ true = rw passes at is in
+            let later : is_among others n ≡ true = grind (arith, nat_tests) in
+            let found = rest later in
+            (suc found.0, found.1, found.2, found.3, let at = found.4 in omega arith)
+      ]
+      | inr fails ↦
+          let found = rest (rw fails at is) in
+          (suc found.0, found.1, found.2, found.3, let at = found.4 in omega arith)
+    ]
+
+-- A link that is at some place is one of them.
+pub is_among-at : (links : List ℕ) (place link : ℕ) → slice_get links place ≡ Some link →
+    is_among links link ≡ true
+is_among-at links place link at =
+    any_passes_from_place (λ among. among == link) links place link at (eq-eqb link link refl)
+
+-- The numbers of all links that pass a test, as those of the links that begin or end at a node.
+module _ (test : Link → Bool) (links : List Link) (number : ℕ) where
+  -- Each is the number of such a link.
+  pub passes-from_is_among : is_among (numbers_from 0 test links) number ≡ true →
+      (link : Link) × (slice_get links number ≡ Some link) × (test link ≡ true)
+  passes-from_is_among is =
+      let found = numbers_from-link 0 test links number is in
+      let same : found.0 ≡ number = let at = found.4 in omega arith in
+      (found.1, rw same at found.2, found.3)
+
+  -- The number of each such link is one.
+  pub is_among-from_passes : (link : Link) → slice_get links number ≡ Some link →
+      test link ≡ true → is_among (numbers_from 0 test links) number ≡ true
+  is_among-from_passes link at passes =
+      let from_start : 0 + number ≡ number = omega arith in
+      is_among-at (numbers_from 0 test links) (count_by test (take number links)) number
+      (rw from_start at (numbers_from-at test 0 links number link at passes))
+
+-- They are numbers of links.
+pub AreLinks-numbers_from : (test : Link → Bool) (links : List Link) →
+    AreLinks (is_among (numbers_from 0 test links)) (length links)
+AreLinks-numbers_from test links number is =
+    let found = passes-from_is_among test links number is in
+    slice_get_within links number found.0 found.1
+
+-- The port of a link is its place among the links on which a router sends.
+pub position-at : (links : List ℕ) (port link : ℕ) → AreApart links →
+    slice_get links port ≡ Some link → position (λ other. other == link) links ≡ Some port
+position-at links port link apart at =
+    let within = slice_get_within links port link at in
+    let first : position_or_len (λ other. other == link) links ≡ port =
+    position_or_len_is (λ other. other == link) links port 0 (omega arith)
+    (λ k before.
+    let there = slice_get-get_or links k 0 (omega arith) in
+    elim (cases_eq (get_or links k 0) link) [
+      | inl same ↦
+          absurd (let place = apart k port link (there ∙ ap (λ (n : ℕ). Some n) same) at in
+          omega arith)
+      | inr other ↦ grind (arith, nat_tests)
+    ])
+    (λ within. eq-eqb (get_or links port 0) link (get_or_from_slice_get links port link 0 at)) in
+    rw first (grind (arith, nat_tests))

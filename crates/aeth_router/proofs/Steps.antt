@@ -1,0 +1,105 @@
+-- What each turn of the loops over links adds.
+use Rattle.std.proofs.Common.{◌≡◌, ◌<◌, ◌+◌, ℕ, refl, sym, ap, ◌∙◌, arith}
+use Rattle.std.proofs.Common.{Bool, true, false, eqb, ◌||◌, List, [], ◌∷◌, ◌++◌, length, map, take}
+use Rattle.std.proofs.Common.{drop, append_assoc, get_or, Option, Some, None}
+use Rattle.std.proofs.Common.{slice_get}
+use Rattle.std.specs.Prelude.{unwrap_or}
+use Rattle.std.specs.List.{slice_set}
+use Rattle.std.proofs.lemmas.Bool.Decides.{nat_tests}
+use Rattle.std.proofs.lemmas.List.{drop_more, map-append, take_more, take_more_set}
+use Rattle.std.proofs.lemmas.List.Folds.{list_any-append}
+use Rattle.std.proofs.lemmas.Option.{get_or_from_slice_get, slice_get-get_or, slice_get-map}
+use Rattle.std.proofs.lemmas.Option.{slice_get_within}
+use Rattle.std.specs.Option.{option_map}
+use Rattle.aeth_base.specs.declared.ids.LinkId.{LinkId}
+use Rattle.aeth_chip.specs.declared.node.Link.{Link}
+use Rattle.aeth_chip.specs.Nodes.{numbers_from}
+use Rattle.aeth_clocked.specs.declared.flit.Flit.{Flit}
+use Rattle.aeth_clocked.specs.Wires.{AreLinks, Drives}
+use Rattle.aeth_clocked.proofs.WiresLemmas.{Drives-same, Drives-slice_set, Drives-then}
+use Rattle.aeth_router.specs.Router.{flit_on, is_among, numbers_of}
+use Rattle.aeth_router.proofs.LinkLemmas.{is_among-at}
+
+module _ (test : Link → Bool) (links : List Link) (front : List LinkId) (all : List ℕ)
+    (number : ℕ) (link : Link) (at : slice_get links number ≡ Some link)
+    (before : numbers_of front ++ numbers_from number test (drop number links) ≡ all) where
+  -- The links from this one on.
+  from-here : drop number links ≡ link ∷ drop (number + 1) links
+  from-here =
+      rw (get_or_from_slice_get links number link link at) at
+      (drop_more links number link (slice_get_within links number link at))
+
+  -- A link that passes the test is one more.
+  pub numbers_from-passes : test link ≡ true →
+      numbers_of (front ++ record { 0 = number } ∷ [])
+      ++ numbers_from (number + 1) test (drop (number + 1) links) ≡ all
+  numbers_from-passes passes =
+      let rest = numbers_from (number + 1) test (drop (number + 1) links) in
+      rw (map-append (λ (link : LinkId). link.0) front (record { 0 = number } ∷ []))
+      (append_assoc (numbers_of front) (number ∷ []) rest ∙ rw (from-here, passes) at before)
+
+  -- One that fails it is none.
+  pub numbers_from-fails : test link ≡ false →
+      numbers_of front ++ numbers_from (number + 1) test (drop (number + 1) links) ≡ all
+  numbers_from-fails fails = rw (from-here, fails) at before
+
+-- The number at a place.
+pub numbers_of-at : (links : List LinkId) (place : ℕ) (default : LinkId) → place < length links →
+    slice_get (numbers_of links) place ≡ Some (get_or links place default).0
+numbers_of-at links place default within =
+    slice_get-map (λ link. link.0) links place
+    ∙ ap (λ (link : Option LinkId). option_map (λ link. link.0) link)
+    (slice_get-get_or links place default within)
+
+-- It is a link, where all are.
+pub numbers_of-below : (links : List LinkId) (place count : ℕ) (default : LinkId) →
+    AreLinks (is_among (numbers_of links)) count → place < length links →
+    (get_or links place default).0 < count
+numbers_of-below links place count default are_links within =
+    are_links (get_or links place default).0
+    (is_among-at (numbers_of links) place (get_or links place default).0
+    (numbers_of-at links place default within))
+
+-- The numbers up to a place, and the one at it.
+take-at : (numbers : List ℕ) (place number : ℕ) → slice_get numbers place ≡ Some number →
+    take (place + 1) numbers ≡ take place numbers ++ number ∷ []
+take-at numbers place number at =
+    take_more numbers place number (slice_get_within numbers place number at)
+    ∙ ap (λ (last : ℕ). take place numbers ++ last ∷ [])
+    (get_or_from_slice_get numbers place number number at)
+
+-- The flit of one link more is held.
+pub held-more : (wires held : List (Option Flit)) (links : List ℕ) (place link : ℕ)
+    (flit : Option Flit) → slice_get links place ≡ Some link → place < length held →
+    slice_get wires link ≡ Some flit →
+    take place held ≡ map (flit_on wires) (take place links) →
+    take (place + 1) (slice_set held place flit) ≡ map (flit_on wires) (take (place + 1) links)
+held-more wires held links place link flit at within on before =
+    let is : flit ≡ flit_on wires link =
+    ap (λ (there : Option (Option Flit)). unwrap_or there None) (sym on) in
+    take_more_set held place flit within
+    ∙ rw (take-at links place link at, map-append (flit_on wires) (take place links) (link ∷ []))
+    (rw (before, is) refl)
+
+-- The links up to a place, and the one at it.
+is_among-more : (links : List ℕ) (place link other : ℕ) → slice_get links place ≡ Some link →
+    is_among (take (place + 1) links) other ≡ (is_among (take place links) other || eqb link other)
+is_among-more links place link other at =
+    rw (take-at links place link at)
+    (list_any-append (λ among. eqb among other) (take place links) (link ∷ [])
+    ∙ grind (arith, nat_tests))
+
+-- One link more is driven.
+pub Drives-more : (links : List ℕ) (flit_on : ℕ → Option Flit) (place link : ℕ)
+    (old middle : List (Option Flit)) → slice_get links place ≡ Some link → link < length old →
+    Drives (is_among (take place links)) flit_on old middle →
+    Drives (is_among (take (place + 1) links)) flit_on old
+    (slice_set middle link (flit_on link))
+Drives-more links flit_on place link old middle at within before =
+    let size = before.links in
+    let then = Drives-slice_set link flit_on middle (omega arith) in
+    Drives-same (λ other. is_among (take place links) other || eqb link other)
+    (is_among (take (place + 1) links)) flit_on old (slice_set middle link (flit_on link))
+    (λ other. sym (is_among-more links place link other at))
+    (Drives-then (is_among (take place links)) (λ other. eqb link other) flit_on flit_on
+    old middle (slice_set middle link (flit_on link)) (λ other is. refl) before then)

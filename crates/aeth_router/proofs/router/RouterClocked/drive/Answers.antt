@@ -1,0 +1,13 @@
+use Rattle.std.proofs.Common.{◌≡◌, ℕ, List, length, ap, sym, subst, ◌∙◌}
+use Rattle.aeth_clocked.specs.Wires.{AreLinks}
+use Rattle.aeth_router.specs.Router.{RouterState, is_among, numbers_of}
+use Rattle.aeth_router.proofs.router.RouterClocked.drive.Goals as goal
+
+-- The outgoing links are links.
+pub emit-requires-clause-links : goal.emit-requires-clause-links
+emit-requires-clause-links c =
+    let same : numbers_of c.deref.result.now ≡ c.args.self.now.outgoing =
+    ap numbers_of c.deref.ensures.value
+    ∙ ap (λ (router : RouterState). router.outgoing) c.self.view_is in
+    subst (λ (links : List ℕ). AreLinks (is_among links) (length c.args.wires.now)) (sym same)
+    c.requires

@@ -1,0 +1,4 @@
+pub mod Agreement
+pub mod Ports
+pub mod Router
+pub mod Traffic

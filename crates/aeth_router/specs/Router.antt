@@ -1,0 +1,64 @@
+-- A router: its state, what it emits, and what it latches.
+-- Routers that forward by one hop in a cycle: after Æthereal (2005).
+use Rattle.std.specs.Prelude.{◌≡◌, ℕ, ◌==◌, Bool, Option, Some, None, option_and_then, unwrap_or}
+use Rattle.std.specs.Prelude.{List, length, map, replicate, slice_get, position}
+use Rattle.std.specs.List.{list_any}
+use Rattle.aeth_base.specs.declared.ids.LinkId.{LinkId}
+use Rattle.aeth_base.specs.declared.ids.RouterId.{RouterId}
+use Rattle.aeth_chip.specs.Nodes.{receives_on, sends_on}
+use Rattle.aeth_chip.specs.declared.node.Link.{Link}
+use Rattle.aeth_chip.specs.declared.node.Node.TheVariants.{Router}
+use Rattle.aeth_clocked.specs.declared.flit.Flit.{Flit}
+use Rattle.aeth_router.specs.Ports.{flits_for, sole}
+
+-- A router: the numbers of the links on which it receives, those of the links on which it sends,
+-- which are its ports, and the flit or none that it holds from each link on which it receives.
+pub record RouterState : Type 0 where
+  pub incoming : List ℕ
+  pub outgoing : List ℕ
+  pub held : List (Option Flit)
+
+-- No link stands at two places of the list.
+abbrev pub AreApart : List ℕ → Type 0
+AreApart links = (i j link : ℕ) → slice_get links i ≡ Some link → slice_get links j ≡ Some link →
+    i ≡ j
+
+-- What holds of every router.
+pub record IsRouter (router : RouterState) : Type 0 where
+  pub places : length router.held ≡ length router.incoming
+  pub apart : AreApart router.outgoing
+
+-- The numbers of links.
+abbrev pub numbers_of : List LinkId → List ℕ
+numbers_of links = map (λ link. link.0) links
+
+-- The router of this number among these links, which holds no flit.
+abbrev pub new_router : RouterId → List Link → RouterState
+new_router router links = record {
+  incoming = receives_on (Router router) links;
+  outgoing = sends_on (Router router) links;
+  held = replicate (length (receives_on (Router router) links)) None;
+}
+
+-- Whether a link is one of these.
+abbrev pub is_among : List ℕ → ℕ → Bool
+is_among links link = list_any (λ other. other == link) links
+
+-- What is emitted on a link by a router that sends on these links and holds these flits: the one
+-- flit for the link's port; nothing where there is none for it, or more than one.
+abbrev pub emitted_on : List ℕ → List (Option Flit) → ℕ → Option Flit
+emitted_on outgoing held link =
+    let port = position (λ other. other == link) outgoing in
+    option_and_then (λ port. sole (flits_for port held)) port
+
+-- The router without the flits that it held.
+abbrev pub emptied : RouterState → RouterState
+emptied router = record router { held = replicate (length router.held) None }
+
+-- The flit on a link.
+abbrev pub flit_on : List (Option Flit) → ℕ → Option Flit
+flit_on wires link = unwrap_or (slice_get wires link) None
+
+-- The router that holds what these wires have on the links on which it receives.
+abbrev pub absorbed : List (Option Flit) → RouterState → RouterState
+absorbed wires router = record router { held = map (flit_on wires) router.incoming }

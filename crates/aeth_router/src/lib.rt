@@ -1,0 +1,9 @@
+//! Routers: each flit moved on by one hop in a cycle.
+#![tactic(auto)]
+
+mod router;
+#[cfg(test)]
+mod tests;
+mod traffic;
+
+pub use router::Router;

@@ -1,0 +1,133 @@
+//! A router: flits latched in one cycle and driven in the next.
+
+ghost use Rattle.std.specs.Prelude.{◌≡◌, IfOk, length, map};
+ghost use Rattle.aeth_chip.specs.Nodes.{receives_on, sends_on};
+ghost use Rattle.aeth_clocked.specs.Wires.{AreLinks};
+ghost use Rattle.aeth_router.specs.Router.{absorbed, emitted_on, emptied, flit_on, is_among};
+ghost use Rattle.aeth_router.specs.Router.{new_router, numbers_of};
+ghost use Rattle.aeth_router.specs.Agreement.{absorbed-agrees};
+ghost use Rattle.std.proofs.Common.{refl};
+
+use crate::traffic::emit;
+use aeth_base::{LinkId, NoMemory, RouterId};
+use aeth_chip::{Chip, Node};
+use aeth_clocked::{Clocked, Flit, Wires};
+use std::alloc::Global;
+use std::marker::Model;
+
+/// A router, after Æthereal (2005).
+///
+/// Each flit that it latches in a cycle it drives in the next, on the port that the flit's header
+/// names, and moves the header on by one port. A port that two latched flits name carries neither,
+/// and a flit whose port is past the router's last is lost; no other flit is.
+#[derive(Debug, Drop)]
+pub struct Router {
+    incoming: Vec<LinkId>,
+    outgoing: Vec<LinkId>,
+    held: Vec<Option<Flit>>,
+}
+
+impl Model for Router {
+    ghost use Rattle.aeth_router.specs.Router.{RouterState, IsRouter, numbers_of};
+
+    ghost Value = { RouterState };
+
+    ghost view = { λ router. record {
+      incoming = numbers_of router.incoming.items;
+      outgoing = numbers_of router.outgoing.items;
+      held = router.held.items;
+    } };
+
+    ghost invariant = { λ router. IsRouter (record {
+      incoming = numbers_of router.incoming.items;
+      outgoing = numbers_of router.outgoing.items;
+      held = router.held.items;
+    }) };
+}
+
+impl Router {
+    /// The chip's router of this number, which holds no flit; without links where the chip has no
+    /// such router.
+    ///
+    /// Later calls take no memory, and time in the number of links of the router.
+    pub fn new(alloc: Global, chip: &Chip, router: RouterId) -> Result<Router, NoMemory>
+        ensures { IfOk result (λ made. made ≡ new_router router chip.now.links) }
+    {
+        let incoming = receiving(alloc, chip, Node::Router(router))?;
+        let outgoing = sending(alloc, chip, Node::Router(router))?;
+        let held = vec![in alloc; None; incoming.len()]?;
+        Ok(Router {
+            incoming,
+            outgoing,
+            held,
+        })
+    }
+}
+
+impl Clocked for Router {
+    ghost outputs = { λ router link. is_among router.outgoing link };
+
+    ghost inputs = { λ router link. is_among router.incoming link };
+
+    ghost emit = { λ router cycle link. emitted_on router.outgoing router.held link };
+
+    ghost after = { λ router cycle. emptied router };
+
+    ghost absorb = { λ router wires. absorbed wires router };
+
+    fn drive(&mut self, _cycle: u64, wires: &mut Wires) {
+        emit(&self.outgoing, &self.held, wires);
+        self.held.fill(None);
+    }
+
+    fn latch(&mut self, wires: &Wires) {
+        take_in(&mut self.held, &self.incoming, wires);
+    }
+
+    ghost outputs_after = { λ router cycle link. refl };
+
+    ghost inputs_after = { λ router cycle link. refl };
+
+    ghost outputs_absorb = { λ router wires link. refl };
+
+    ghost inputs_absorb = { λ router wires link. refl };
+
+    ghost absorb_agrees = { absorbed-agrees };
+}
+
+/// The links on which a node sends.
+fn sending(alloc: Global, chip: &Chip, node: Node) -> Result<Vec<LinkId>, NoMemory>
+    ensures { IfOk result (λ links. numbers_of links.items ≡ sends_on node chip.now.links) }
+{
+    let mut links = Vec::new(alloc);
+    for number in 0..chip.links() {
+        if chip.link(LinkId(number)).begins_at(node) {
+            links.push(LinkId(number))?;
+        }
+    }
+    Ok(links)
+}
+
+/// The links on which a node receives.
+fn receiving(alloc: Global, chip: &Chip, node: Node) -> Result<Vec<LinkId>, NoMemory>
+    ensures { IfOk result (λ links. numbers_of links.items ≡ receives_on node chip.now.links) }
+{
+    let mut links = Vec::new(alloc);
+    for number in 0..chip.links() {
+        if chip.link(LinkId(number)).ends_at(node) {
+            links.push(LinkId(number))?;
+        }
+    }
+    Ok(links)
+}
+
+/// Holds from each incoming link what the wires have there.
+fn take_in(held: &mut [Option<Flit>], incoming: &[LinkId], wires: &Wires)
+    requires links { AreLinks (is_among (numbers_of incoming.now)) (length wires.now) }
+    requires places { length held.old ≡ length incoming.now }
+    ensures { held.new ≡ map (flit_on wires.now) (numbers_of incoming.now) }
+{
+    for place in 0..incoming.len() {
+        held[place] = wires.get(incoming[place]);
+    }
+}
