@@ -1,24 +1,10 @@
 // Chip files, from the words to the bytes. The refusal lines were worked out by hand from the file
 // format.
+use crate::mesh::mesh;
 use crate::status::{DONE, INPUT_REFUSED, READ_FAULT};
-use crate::trial::{answer, shelf_of};
+use crate::trial::{NO_CALL, PAIR, answer, changed, shelf_of};
 use std::alloc::Global;
 use std::test::Fail;
-
-/// Two routers, each with a network interface, and a link each way between them.
-const PAIR: &str = "version = 1
-slots = 8
-routers = [\"r0\", \"r1\"]
-nis = [\"n0\", \"n1\"]
-link = [
-  {from = \"n0\", to = \"r0\"}, {from = \"r0\", to = \"n0\"},
-  {from = \"n1\", to = \"r1\"}, {from = \"r1\", to = \"n1\"},
-  {from = \"r0\", to = \"r1\"}, {from = \"r1\", to = \"r0\"},
-]
-";
-
-/// A call of the shelf that a chip file of this size doesn't need.
-const NO_CALL: u64 = 9;
 
 /// A chip file, the failing call of the shelf, the status, and what is written to `out` and to
 /// `err`.
@@ -57,6 +43,16 @@ fn chips_are_summed_up(rt: HostRuntime) -> Result<(), Fail> {
         assert_eq!(rt; written.out.bytes(), on_out.as_bytes());
         assert_eq!(rt; written.err.bytes(), on_err.as_bytes());
     }
+    Ok(())
+}
+
+#[test]
+fn the_mesh_is_summed_up(rt: HostRuntime) -> Result<(), Fail> {
+    let file = mesh(rt.alloc())?;
+    let mut shelf = shelf_of(rt.alloc(), &[("mesh.toml", file.as_str())], NO_CALL)?;
+    let written = answer(rt.alloc(), "chip mesh.toml", &mut shelf)?;
+    let line = "chip slots 64 routers 16 nis 16 links 80 far 8 unreached 0\n";
+    assert_eq!(rt; written.out.bytes(), line.as_bytes());
     Ok(())
 }
 
@@ -156,16 +152,10 @@ const BROKEN: [(&str, &str, &str); 19] = [
     ),
 ];
 
-/// `PAIR` with one text in place of another.
-fn changed(alloc: Global, old: &str, new: &str) -> Result<String, Fail> {
-    let (before, after) = PAIR.split_once(old).ok_or("a part of the file")?;
-    Ok(format!(in alloc; "{before}{new}{after}")?)
-}
-
 #[test]
 fn the_first_broken_rule_is_answered(rt: HostRuntime) -> Result<(), Fail> {
     for (old, new, line) in BROKEN {
-        let text = changed(rt.alloc(), old, new)?;
+        let text = changed(rt.alloc(), PAIR, old, new)?;
         let mut shelf = shelf_of(rt.alloc(), &[("a", text.as_str())], NO_CALL)?;
         let written = answer(rt.alloc(), "chip a", &mut shelf)?;
         assert_eq!(rt; written.status, INPUT_REFUSED, "{new}");
@@ -204,7 +194,7 @@ fn the_greater_count_is_answered(rt: HostRuntime) -> Result<(), Fail> {
     let last = "{from = \"r1\", to = \"r0\"},";
     for (link, more, line) in CROWDS {
         let links = crowd(rt.alloc(), last, link, more)?;
-        let text = changed(rt.alloc(), last, links.as_str())?;
+        let text = changed(rt.alloc(), PAIR, last, links.as_str())?;
         let mut shelf = shelf_of(rt.alloc(), &[("a", text.as_str())], NO_CALL)?;
         let written = answer(rt.alloc(), "chip a", &mut shelf)?;
         assert_eq!(rt; written.status, INPUT_REFUSED, "{link}");

@@ -3,11 +3,15 @@
 
 mod answer;
 mod app_command;
+#[cfg(test)]
+mod app_tests;
 mod chip_command;
 #[cfg(test)]
 mod chip_tests;
 mod command;
 mod files;
+#[cfg(test)]
+mod mesh;
 mod program;
 mod refusal;
 pub mod status;
@@ -16,6 +20,8 @@ mod tests;
 mod text;
 #[cfg(test)]
 mod trial;
+#[cfg(test)]
+mod video_tests;
 mod words;
 
 pub use program::run;

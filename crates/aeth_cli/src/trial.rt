@@ -4,6 +4,21 @@ use aeth_io::{MemShelf, MemSink};
 use std::alloc::Global;
 use std::test::Fail;
 
+/// Two routers, each with a network interface, and a link each way between them.
+pub(crate) const PAIR: &str = "version = 1
+slots = 8
+routers = [\"r0\", \"r1\"]
+nis = [\"n0\", \"n1\"]
+link = [
+  {from = \"n0\", to = \"r0\"}, {from = \"r0\", to = \"n0\"},
+  {from = \"n1\", to = \"r1\"}, {from = \"r1\", to = \"n1\"},
+  {from = \"r0\", to = \"r1\"}, {from = \"r1\", to = \"r0\"},
+]
+";
+
+/// A call of a shelf that the files of the tests don't need.
+pub(crate) const NO_CALL: u64 = 99;
+
 /// What a command ends with and writes.
 #[derive(Drop)]
 pub(crate) struct Written {
@@ -50,4 +65,10 @@ pub(crate) fn answer(alloc: Global, line: &str, shelf: &mut MemShelf) -> Result<
     let mut err = MemSink::new(alloc, 9_999, 9_999, Vec::new(alloc))?;
     let status = run(alloc, &words, shelf, &mut out, &mut err);
     Ok(Written { status, out, err })
+}
+
+/// A file with one text in place of another.
+pub(crate) fn changed(alloc: Global, file: &str, old: &str, new: &str) -> Result<String, Fail> {
+    let (before, after) = file.split_once(old).ok_or("a part of the file")?;
+    Ok(format!(in alloc; "{before}{new}{after}")?)
 }
