@@ -1,1 +1,8 @@
 pub mod AppLemmas
+mod FileWalks
+mod KeyLemmas
+mod NameLemmas
+mod PartLemmas
+mod RangeLemmas
+mod RepeatLemmas
+mod ToldLemmas

@@ -1,9 +1,10 @@
 -- The limits of an application's cores and connections.
 --
 --   rate_too_high, core_to_itself, core_too_busy, too_few_seats, seats_overfull    the walks
---   within_limits    the application, or the first limit that it breaks
+--   IsWithinLimits    what holds where none finds anything
+--   limits, within_limits    the application, or the first limit that it breaks
 -- This project's own.
-use Rattle.std.specs.Prelude.{ℕ, ◌*◌, ◌==◌, nat_le, List, [], ◌∷◌, map, flat_map, length}
+use Rattle.std.specs.Prelude.{ℕ, ◌≡◌, ◌*◌, ◌==◌, nat_le, List, [], ◌∷◌, map, flat_map, length}
 use Rattle.std.specs.Prelude.{count_by, slice_get, Option, Some, None, Result, Ok}
 use Rattle.std.specs.Prelude.{if◌then◌else◌}
 use Rattle.std.specs.List.{range_with_len}
@@ -65,12 +66,24 @@ abbrev pub seats_overfull : ℕ → List Core → Option Broken
 seats_overfull nis cores =
     first_broken 0 (map (λ ni. above SEATS (count_by (is_fixed_to ni) cores)) (range_with_len 0 nis))
 
+-- What holds where no limit is broken.
+pub record IsWithinLimits (nis : ℕ) (cores : List Core) (connections : List Connection)
+    : Type 0 where
+  pub rates : rate_too_high connections ≡ None
+  pub apart : core_to_itself cores connections ≡ None
+  pub busy : core_too_busy (length cores) connections ≡ None
+  pub seats : too_few_seats nis (length cores) ≡ None
+  pub fixed : seats_overfull nis cores ≡ None
+
+-- The limits of cores and connections on so many network interfaces, one after the other.
+unfoldable pub limits : ℕ → List Core → List Connection → Result (Unit {0}) AppFault
+limits nis cores connections = do
+  rates ← refused RateTooHigh (rate_too_high connections)
+  apart ← refused CoreToItself (core_to_itself cores connections)
+  busy ← refused CoreTooBusy (core_too_busy (length cores) connections)
+  seats ← refused TooFewSeats (too_few_seats nis (length cores))
+  refused SeatsOverfull (seats_overfull nis cores)
+
 -- The application, for a chip with so many network interfaces, or the first limit that it breaks.
-unfoldable pub within_limits : ℕ → AppData → Result AppData AppFault
-within_limits nis app = do
-  rates ← refused RateTooHigh (rate_too_high app.connections)
-  apart ← refused CoreToItself (core_to_itself app.cores app.connections)
-  busy ← refused CoreTooBusy (core_too_busy (length app.cores) app.connections)
-  seats ← refused TooFewSeats (too_few_seats nis (length app.cores))
-  fixed ← refused SeatsOverfull (seats_overfull nis app.cores)
-  Ok app
+abbrev pub within_limits : ℕ → AppData → Result AppData AppFault
+within_limits nis app = limits nis app.cores app.connections >>= (λ _. Ok app)

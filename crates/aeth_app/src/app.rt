@@ -288,7 +288,8 @@ fn place_in(names: &IndexSet<Name>, name: &Name) -> Option<u32>
     }
 }
 
-fn count_ends(connections: &[Connection], core: CoreId) -> usize
+/// How many of the connections have the core as an end.
+pub(crate) fn count_ends(connections: &[Connection], core: CoreId) -> usize
     ensures { result ≡ count_by (is_end core) connections.now }
 {
     connections

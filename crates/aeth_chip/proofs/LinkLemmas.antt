@@ -1,14 +1,11 @@
 -- The links of a file: as many as its tables, and each of them a link of the chip.
-use Rattle.std.proofs.Common.{subst, ◌≡◌, ◌≤◌, ◌<◌, ◌+◌, ◌∙◌, ℕ, zero, suc, false, List, [], ◌∷◌}
+use Rattle.std.proofs.Common.{subst, ◌≡◌, ◌≤◌, ◌+◌, ◌∙◌, ℕ, zero, suc, false, List, [], ◌∷◌}
 use Rattle.std.proofs.Common.{length, map, Option, Some, None, refl, sym, ap, inl, inr, arith}
-use Rattle.std.specs.Prelude.{codes, slice_get, is_none, position, Result, Ok}
-use Rattle.std.specs.Str.{bytes_eq}
+use Rattle.std.specs.Prelude.{codes, slice_get, is_none, Result, Ok}
 use Rattle.std.proofs.lemmas.Bool.{cases_Bool}
 use Rattle.std.proofs.lemmas.List.{length-map}
-use Rattle.std.proofs.lemmas.List.Quantifiers.{position-Some}
-use Rattle.std.proofs.lemmas.Option.{option_and_then_some, same_Some}
+use Rattle.std.proofs.lemmas.Option.{same_Some}
 use Rattle.toml.specs.Data.{Members}
-use Rattle.aeth_base.specs.Name.{name_of}
 use Rattle.aeth_chip.specs.declared.fault.ChipFault.{ChipFault}
 use Rattle.aeth_chip.specs.declared.fault.ChipFault.TheVariants.{UnknownName}
 use Rattle.aeth_chip.specs.declared.node.Link.{Link}
@@ -23,13 +20,7 @@ use Rattle.aeth_document.specs.Chain.{◌>>=◌, refused}
 use Rattle.aeth_document.specs.Values.{text_at}
 use Rattle.aeth_document.specs.Walks.{first_broken, place_of}
 use Rattle.aeth_document.proofs.WalkLemmas.{first_broken-head, first_broken-tail}
-
--- A place of a text is one of the names'.
-place_of-within : (names : List (List ℕ)) (text : List ℕ) (i : ℕ) → place_of names text ≡ Some i
-    → i < length names
-place_of-within names text i found =
-    option_and_then_some (λ name. position (bytes_eq name) names) (name_of text) i found
-    (λ name named at. (position-Some (bytes_eq name) names i [] at).0)
+use Rattle.aeth_document.proofs.WalkLemmas.{place_of-within}
 
 -- A node that a text names is one of the routers or network interfaces.
 node_at-IsNode : (routers nis : List (List ℕ)) (text : List ℕ) (router ni : Option ℕ) (node : Node)

@@ -1,8 +1,7 @@
 -- The walks over routers and network interfaces.
-use Rattle.std.proofs.Common.{◌≡◌, ◌≤◌, ◌<◌, ◌+◌, ◌-◌, ℕ, zero, suc, true, List, [], ◌∷◌, length}
-use Rattle.std.proofs.Common.{map, Option, Some, None, refl, sym, ap, inl, inr, arith}
+use Rattle.std.proofs.Common.{◌≡◌, ◌≤◌, ◌<◌, ◌+◌, ℕ, zero, suc, true, List, [], ◌∷◌, length}
+use Rattle.std.proofs.Common.{Option, Some, None, refl, sym, ap, inl, inr, arith}
 use Rattle.std.specs.Prelude.{slice_get, max, count_by, option_and_then, if◌then◌else◌}
-use Rattle.std.specs.List.{range_with_len}
 use Rattle.std.proofs.lemmas.Bool.{cases_Bool, eqb-true}
 use Rattle.std.proofs.lemmas.Bool.Decides.{nat_tests}
 use Rattle.std.proofs.lemmas.Option.{same_Some}
@@ -19,29 +18,7 @@ use Rattle.aeth_chip.specs.Nodes.{begins_at, ends_at, receives_on, router_of, se
 use Rattle.aeth_document.specs.declared.shown.Shown.{Shown}
 use Rattle.aeth_document.specs.declared.shown.Shown.TheVariants.{Word}
 use Rattle.aeth_document.specs.Walks.{first_broken}
-use Rattle.aeth_document.proofs.WalkLemmas.{first_broken-head, first_broken-tail}
-
--- The numbers below an end that aren't passed begin with the next one.
-pub range_more : (i n : ℕ) → i < n
-    → range_with_len i (n - i) ≡ i ∷ range_with_len (i + 1) (n - (i + 1))
-range_more i n within =
-    let more : n - i ≡ suc (n - (i + 1)) = omega arith in
-    rw more refl
-
--- A walk over numbers that finds nothing finds nothing at each of them.
-none_at : (check : ℕ → Option Shown) (place first count i : ℕ)
-    → first_broken place (map check (range_with_len first count)) ≡ None → i < count
-    → check (first + i) ≡ None
-none_at check place first zero i none within = absurd (omega arith)
-none_at check place first (suc count) zero none within =
-    let same : first + 0 ≡ first = omega arith in
-    rw same (first_broken-head place (check first) (map check (range_with_len (first + 1) count))
-    none)
-none_at check place first (suc count) (suc i) none within =
-    let same : first + suc i ≡ (first + 1) + i = omega arith in
-    let rest = first_broken-tail place (check first)
-    (map check (range_with_len (first + 1) count)) none in
-    rw same (none_at check (place + 1) (first + 1) count i rest (omega arith))
+use Rattle.aeth_document.proofs.WalkLemmas.{first_broken-range, first_broken-tail}
 
 -- A router that isn't crowded has few ports.
 few_ports : (links : List Link) (router : ℕ) → crowded links router ≡ None
@@ -62,7 +39,7 @@ pub each_has_few_ports : (routers : ℕ) (links : List Link) → too_many_ports 
 each_has_few_ports routers links none router within =
     let same : 0 + router.0 ≡ router.0 = omega arith in
     few_ports links router.0
-    (rw same at (none_at (crowded links) 0 0 routers router.0 none within))
+    (rw same at (first_broken-range (crowded links) 0 0 routers router.0 none within))
 
 -- A network interface that shows no name is single.
 single_here : (links : List Link) (ni place : ℕ) (name : List ℕ) (names : List (List ℕ))

@@ -1,13 +1,12 @@
 -- The walk over numbers and names, in parts.
-use Rattle.std.proofs.Common.{◌≡◌, ◌≤◌, ◌+◌, ◌++◌, ◌∙◌, ℕ, ℤ, pos, negsuc, List, [], ◌∷◌, length}
-use Rattle.std.proofs.Common.{map, Option, Some, None, refl, sym, ap}
+use Rattle.std.proofs.Common.{◌≡◌, ◌+◌, ◌++◌, ◌∙◌, ℕ, ℤ, List, [], length, map, None, sym, ap}
 use Rattle.std.specs.Option.{option_or}
 use Rattle.std.proofs.lemmas.List.{map-append, length-map}
 use Rattle.aeth_chip.specs.ChipFile.{IsInRange, name_twice, numbers, out_of_range, wrong_name}
-use Rattle.aeth_document.specs.Walks.{first_broken, no_name, outside, repeats, size_of}
-use Rattle.aeth_document.proofs.WalkLemmas.{first_broken-append, first_broken-repeats}
-use Rattle.aeth_document.proofs.WalkLemmas.{first_broken-head, first_broken-tail}
-use Rattle.aeth_document.proofs.WalkLemmas.{filter_map-name_of, outside-within}
+use Rattle.aeth_document.specs.Walks.{first_broken, no_name, repeats}
+use Rattle.aeth_document.proofs.WalkLemmas.{first_broken-append, first_broken-none}
+use Rattle.aeth_document.proofs.WalkLemmas.{first_broken-repeats, filter_map-name_of}
+use Rattle.aeth_document.proofs.WalkLemmas.{option_or-none, outside-size, outside-within}
 
 -- First the numbers, then the routers' names, then the interfaces'.
 pub out_of_range_split : (version slots : ℤ) (routers nis : List (List ℕ)) (links : ℕ)
@@ -33,45 +32,20 @@ pub name_twice_split : (routers nis : List (List ℕ)) → name_twice routers ni
 unfolding name_twice
 name_twice_split routers nis = first_broken-repeats 0 [] routers nis
 
--- Where neither of two is there, neither is there.
-option_or-none : {T : Type 0} (a b : Option T) → option_or a b ≡ None → (a ≡ None) × (b ≡ None)
-option_or-none None b none = (refl, none)
-option_or-none (Some x) b none = absurd (cc none)
-
--- A number that isn't out of its range is a count within it.
-outside-size : (low high : ℕ) (number : ℤ) → outside low high number ≡ None
-    → (low ≤ size_of number) × (size_of number ≤ high)
-outside-size low high (pos n) none = outside-within low high n none
-outside-size low high (negsuc n) none = absurd (cc none)
-
 -- What holds where the walk finds nothing.
 pub in_range : (version slots : ℤ) (routers nis : List (List ℕ)) (links : ℕ)
     → out_of_range version slots routers nis links ≡ None → IsInRange slots routers nis links
 unfolding numbers wrong_name
 in_range version slots routers nis links none =
-    let version_check = outside 1 1 version in
-    let slots_check = outside 1 64 slots in
-    let routers_check = outside 1 64 (pos (length routers)) in
-    let nis_check = outside 1 64 (pos (length nis)) in
-    let links_check = outside 0 1024 (pos links) in
     let parts = option_or-none _ _ (sym (out_of_range_split version slots routers nis links)
     ∙ none) in
     let names = option_or-none _ _ parts.1 in
-    let after_version = first_broken-tail 1 version_check
-    (slots_check ∷ routers_check ∷ nis_check ∷ links_check ∷ []) parts.0 in
-    let after_slots = first_broken-tail 2 slots_check
-    (routers_check ∷ nis_check ∷ links_check ∷ []) after_version in
-    let after_routers = first_broken-tail 3 routers_check (nis_check ∷ links_check ∷ [])
-    after_slots in
-    let after_nis = first_broken-tail 4 nis_check (links_check ∷ []) after_routers in
-    let slots_are = outside-size 1 64 slots (first_broken-head 2 slots_check
-    (routers_check ∷ nis_check ∷ links_check ∷ []) after_version) in
-    let routers_are = outside-within 1 64 (length routers)
-    (first_broken-head 3 routers_check (nis_check ∷ links_check ∷ []) after_slots) in
-    let nis_are = outside-within 1 64 (length nis)
-    (first_broken-head 4 nis_check (links_check ∷ []) after_routers) in
-    let links_are = outside-within 0 1024 links
-    (first_broken-head 5 links_check [] after_nis) in
+    let checks = first_broken-none 1 (numbers version slots (length routers) (length nis) links)
+    parts.0 in
+    let slots_are = outside-size 1 64 slots checks.1.0 in
+    let routers_are = outside-within 1 64 (length routers) checks.1.1.0 in
+    let nis_are = outside-within 1 64 (length nis) checks.1.1.1.0 in
+    let links_are = outside-within 0 1024 links checks.1.1.1.1.0 in
     record {
       some_slots = slots_are.0;
       few_slots = slots_are.1;

@@ -71,7 +71,7 @@ fn crowded(links: &[Link], router: u32) -> Option<Shown>
 }
 
 /// The first router that has too many links one way.
-#[tactic(auto, using(crate::proofs::PortLemmas::range_more))]
+#[tactic(auto, using(aeth_document::proofs::WalkLemmas::range_more))]
 pub(crate) fn too_many_ports(routers: u32, links: &[Link]) -> Option<Broken>
     ensures { result ≡ too_many_ports routers links.now }
 {

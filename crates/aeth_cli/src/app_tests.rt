@@ -1,7 +1,7 @@
 // Application files, from the words to the bytes. The refusal lines and the needs were worked out by
 // hand from the file format and the rule on rates.
 use crate::status::{DONE, INPUT_REFUSED, READ_FAULT};
-use crate::trial::{NO_CALL, PAIR, answer, changed, shelf_of};
+use crate::trial::{NO_CALL, PAIR, Written, answer, changed, shelf_of};
 use std::alloc::Global;
 use std::test::Fail;
 
@@ -90,8 +90,7 @@ fn the_chip_is_judged_first(rt: HostRuntime) -> Result<(), Fail> {
 fn a_use_case_may_name_itself_and_others_twice(rt: HostRuntime) -> Result<(), Fail> {
     let smooth = "smooth = [\"u0\", \"u1\", \"u1\"]";
     let file = changed(rt.alloc(), TWO, "smooth = [\"u1\"]", smooth)?;
-    let mut shelf = shelf_of(rt.alloc(), &[("pair", PAIR), ("a", file.as_str())], NO_CALL)?;
-    let written = answer(rt.alloc(), "app pair a", &mut shelf)?;
+    let written = judged(rt.alloc(), file.as_str())?;
     assert_eq!(rt; written.out.bytes(), TWO_NEEDS.as_bytes());
     Ok(())
 }
@@ -241,21 +240,20 @@ const BROKEN: [(&str, &str, &str); 29] = [
     ),
 ];
 
-/// The line that refuses an application on the pair.
-fn assert_refused(rt: HostRuntime, file: &str, line: &str) -> Result<(), Fail> {
-    let mut shelf = shelf_of(rt.alloc(), &[("pair", PAIR), ("a", file)], NO_CALL)?;
-    let written = answer(rt.alloc(), "app pair a", &mut shelf)?;
-    assert_eq!(rt; written.status, INPUT_REFUSED, "{line}");
-    assert_eq!(rt; written.out.bytes(), b"".as_slice(), "{line}");
-    assert_eq!(rt; written.err.bytes(), line.as_bytes());
-    Ok(())
+/// What a file for the pair ends with and writes.
+fn judged(alloc: Global, file: &str) -> Result<Written, Fail> {
+    let mut shelf = shelf_of(alloc, &[("pair", PAIR), ("a", file)], NO_CALL)?;
+    answer(alloc, "app pair a", &mut shelf)
 }
 
 #[test]
 fn the_first_broken_rule_is_answered(rt: HostRuntime) -> Result<(), Fail> {
     for (old, new, line) in BROKEN {
         let file = changed(rt.alloc(), TWO, old, new)?;
-        assert_refused(rt, file.as_str(), line)?;
+        let written = judged(rt.alloc(), file.as_str())?;
+        assert_eq!(rt; written.status, INPUT_REFUSED, "{line}");
+        assert_eq!(rt; written.out.bytes(), b"".as_slice(), "{line}");
+        assert_eq!(rt; written.err.bytes(), line.as_bytes());
     }
     Ok(())
 }
@@ -336,7 +334,10 @@ fn grown(alloc: Global, place: &str, head: &str, tail: &str, count: u32) -> Resu
 fn counts_are_limited(rt: HostRuntime) -> Result<(), Fail> {
     for (place, head, tail, count, line) in GROWN {
         let file = grown(rt.alloc(), place, head, tail, count)?;
-        assert_refused(rt, file.as_str(), line)?;
+        let written = judged(rt.alloc(), file.as_str())?;
+        assert_eq!(rt; written.status, INPUT_REFUSED, "{line}");
+        assert_eq!(rt; written.out.bytes(), b"".as_slice(), "{line}");
+        assert_eq!(rt; written.err.bytes(), line.as_bytes());
     }
     Ok(())
 }

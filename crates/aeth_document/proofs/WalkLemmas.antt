@@ -1,13 +1,20 @@
 -- Laws of walks.
-use Rattle.std.proofs.Common.{append_assoc, ◌≡◌, ◌≤◌, ◌+◌, ◌++◌, ℕ, suc, pos, true, List, [], ◌∷◌}
-use Rattle.std.proofs.Common.{length, map, Option, Some, None, refl, ap, inl, inr, arith}
-use Rattle.std.specs.List.{filter_map}
+use Rattle.std.proofs.Common.{append_assoc, ◌≡◌, ◌≤◌, ◌<◌, ◌+◌, ◌-◌, ◌++◌, ◌∙◌, ℕ, zero, suc, ℤ}
+use Rattle.std.proofs.Common.{pos, negsuc, true, List, [], ◌∷◌, length, map, Option, Some, None}
+use Rattle.std.proofs.Common.{refl, sym, ap, inl, inr, arith}
+use Rattle.std.specs.Prelude.{position}
+use Rattle.std.specs.List.{AllByRecursion, filter_map, range_with_len}
+use Rattle.std.specs.Str.{bytes_eq}
 use Rattle.std.specs.Option.{option_or}
 use Rattle.std.proofs.lemmas.Bool.{cases_Bool}
 use Rattle.std.proofs.lemmas.List.{append-nil}
+use Rattle.std.proofs.lemmas.List.Quantifiers.{position-Some}
+use Rattle.std.proofs.lemmas.Option.{option_and_then_some}
 use Rattle.aeth_base.specs.Name.{is_name, name_of}
+use Rattle.aeth_document.specs.declared.shown.Broken.{Broken}
 use Rattle.aeth_document.specs.declared.shown.Shown.{Shown}
-use Rattle.aeth_document.specs.Walks.{first_broken, no_name, outside, repeated, repeats}
+use Rattle.aeth_document.specs.Walks.{first_broken, no_name, outside, place_of, repeated, repeats}
+use Rattle.aeth_document.specs.Walks.{size_of}
 
 -- A walk over two lists finds what the walk over the first finds, and else goes on with the second.
 pub first_broken-append : (place : ℕ) (xs ys : List (Option Shown))
@@ -21,6 +28,18 @@ first_broken-append place (None ∷ xs) ys =
     rw same (first_broken-append (place + 1) xs ys)
 first_broken-append place (Some value ∷ xs) ys = refl
 
+-- What the walk over the first list finds, the walk over both finds.
+pub first_broken-earlier : (place : ℕ) (xs ys : List (Option Shown)) (broken : Broken)
+    → first_broken place xs ≡ Some broken → first_broken place (xs ++ ys) ≡ Some broken
+first_broken-earlier place xs ys broken found =
+    rw (first_broken-append place xs ys, found) refl
+
+-- Where the walk over the first list finds nothing, it goes on with the second.
+pub first_broken-later : (place : ℕ) (xs ys : List (Option Shown))
+    → first_broken place xs ≡ None
+    → first_broken place (xs ++ ys) ≡ first_broken (place + length xs) ys
+first_broken-later place xs ys none = rw (first_broken-append place xs ys, none) refl
+
 -- A walk that finds nothing finds nothing in its first check.
 pub first_broken-head : (place : ℕ) (check : Option Shown) (checks : List (Option Shown))
     → first_broken place (check ∷ checks) ≡ None → check ≡ None
@@ -33,9 +52,35 @@ pub first_broken-tail : (place : ℕ) (check : Option Shown) (checks : List (Opt
 first_broken-tail place None checks none = none
 first_broken-tail place (Some value) checks none = absurd (cc none)
 
+-- A walk that finds nothing finds nothing in any check.
+pub first_broken-none : (place : ℕ) (checks : List (Option Shown))
+    → first_broken place checks ≡ None → AllByRecursion (λ check. check ≡ None) checks
+first_broken-none place [] none = tt
+first_broken-none place (None ∷ checks) none = (refl, first_broken-none (place + 1) checks none)
+first_broken-none place (Some value ∷ checks) none = absurd (cc none)
+
+-- Where neither of two is there, neither is there.
+pub option_or-none : {T : Type 0} (a b : Option T) → option_or a b ≡ None
+    → (a ≡ None) × (b ≡ None)
+option_or-none None b none = (refl, none)
+option_or-none (Some x) b none = absurd (cc none)
+
+-- A walk that finds nothing in two lists finds nothing in either.
+pub first_broken-append_none : (place : ℕ) (xs ys : List (Option Shown))
+    → first_broken place (xs ++ ys) ≡ None
+    → (first_broken place xs ≡ None) × (first_broken (place + length xs) ys ≡ None)
+first_broken-append_none place xs ys none =
+    option_or-none _ _ (sym (first_broken-append place xs ys) ∙ none)
+
 -- A number that isn't out of its range lies within it.
 pub outside-within : (low high n : ℕ) → outside low high (pos n) ≡ None → (low ≤ n) × (n ≤ high)
 outside-within low high n none = grind arith
+
+-- A number that isn't out of its range is a count within it.
+pub outside-size : (low high : ℕ) (number : ℤ) → outside low high number ≡ None
+    → (low ≤ size_of number) × (size_of number ≤ high)
+outside-size low high (pos n) none = outside-within low high n none
+outside-size low high (negsuc n) none = absurd (cc none)
 
 -- A text that isn't refused is a name.
 no_name-none : (text : List ℕ) → no_name text ≡ None → is_name text ≡ true
@@ -80,3 +125,32 @@ first_broken-repeats place others xs ys =
       first_broken-append place (repeats others xs) (repeats (others ++ xs) ys),
       length-repeats others xs,
     ) refl
+
+-- The numbers below an end that aren't passed begin with the next one.
+pub range_more : (i n : ℕ) → i < n
+    → range_with_len i (n - i) ≡ i ∷ range_with_len (i + 1) (n - (i + 1))
+range_more i n within =
+    let more : n - i ≡ suc (n - (i + 1)) = omega arith in
+    rw more refl
+
+-- A walk over numbers that finds nothing finds nothing at each of them.
+pub first_broken-range : (check : ℕ → Option Shown) (place first count i : ℕ)
+    → first_broken place (map check (range_with_len first count)) ≡ None → i < count
+    → check (first + i) ≡ None
+first_broken-range check place first zero i none within = absurd (omega arith)
+first_broken-range check place first (suc count) zero none within =
+    let same : first + 0 ≡ first = omega arith in
+    rw same (first_broken-head place (check first) (map check (range_with_len (first + 1) count))
+    none)
+first_broken-range check place first (suc count) (suc i) none within =
+    let same : first + suc i ≡ (first + 1) + i = omega arith in
+    let rest = first_broken-tail place (check first)
+    (map check (range_with_len (first + 1) count)) none in
+    rw same (first_broken-range check (place + 1) (first + 1) count i rest (omega arith))
+
+-- The place of a text is one of the names'.
+pub place_of-within : (names : List (List ℕ)) (text : List ℕ) (i : ℕ) → place_of names text ≡ Some i
+    → i < length names
+place_of-within names text i found =
+    option_and_then_some (λ name. position (bytes_eq name) names) (name_of text) i found
+    (λ name named at. (position-Some (bytes_eq name) names i [] at).0)

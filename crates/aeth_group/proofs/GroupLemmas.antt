@@ -1,7 +1,7 @@
 -- Laws of groups: their numbers tell which use cases chains of smooth pairs join; each number below
 -- that of groups is one; and they ascend with the least use cases.
-use Rattle.std.proofs.Common.{◌≡◌, ◌∙◌, ◌<◌, ◌≤◌, ◌⊎◌, ℕ, Bool, true, List, length, refl, sym, ap}
-use Rattle.std.proofs.Common.{subst, inl, inr, arith}
+use Rattle.std.proofs.Common.{◌≡◌, ◌∙◌, ◌<◌, ◌≤◌, ℕ, Bool, List, length, sym, ap}
+use Rattle.std.proofs.Common.{inl, inr, arith}
 use Rattle.std.proofs.lemmas.Bool.{cases_order}
 use Rattle.aeth_app.specs.App.{UseData}
 use Rattle.aeth_group.specs.Chains.{SameGroup}

@@ -1,5 +1,6 @@
 -- How the groups of an application are made: use case by use case.
-use Rattle.std.proofs.Common.{◌≡◌, ◌∙◌, ◌<◌, ◌≤◌, ◌+◌, ◌++◌, ℕ, List, [], ◌∷◌, length, map, sym, ap, ap₂}
+use Rattle.std.proofs.Common.{◌≡◌, ◌∙◌, ◌<◌, ◌≤◌, ◌+◌, ◌++◌, ℕ, List, [], ◌∷◌, length, map, sym}
+use Rattle.std.proofs.Common.{ap, ap₂}
 use Rattle.std.proofs.Common.{subst, arith}
 use Rattle.std.specs.Prelude.{All, Bool}
 use Rattle.std.specs.List.{range_with_len}
@@ -32,7 +33,8 @@ uses_below app k default low =
     let count = length app.uses in
     let long = length-map-range_with_len (use_group app) 0 count in
     let within : k < count = omega arith in
-    let there = get_or-map-range_with_len (use_group app) 0 count k k default within (omega arith) in
+    let there =
+    get_or-map-range_with_len (use_group app) 0 count k k default within (omega arith) in
     subst (λ (one : UseGroupData). one.group < group_count app.uses) (sym there)
     (group_of-below app.uses k within)
 

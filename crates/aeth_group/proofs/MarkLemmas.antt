@@ -1,19 +1,21 @@
 -- Laws of tables of marks: what one more mark changes, and how a table is closed by marking.
-use Rattle.std.proofs.Common.{◌≡◌, ◌≢◌, ◌∙◌, ◌<◌, ◌≤◌, ◌+◌, ◌*◌, ◌⊎◌, ◌&&◌, ℕ, zero, suc, Bool, true, false}
+use Rattle.std.proofs.Common.{◌≡◌, ◌≢◌, ◌∙◌, ◌<◌, ◌≤◌, ◌+◌, ◌⊎◌, ◌&&◌, ℕ, zero, suc, Bool, true}
+use Rattle.std.proofs.Common.{false}
 use Rattle.std.proofs.Common.{not, cond, List, length, slice_get, get_or, set, replicate, refl, sym}
 use Rattle.std.proofs.Common.{ap, subst, inl, inr, arith}
-use Rattle.std.specs.Prelude.{Some, ltb, IsTrue, count_by, unwrap_or}
-use Rattle.std.specs.Bool.{OnFalse, OnTrue}
-use Rattle.std.proofs.lemmas.Bool.{and_from, and_parts, and_right, cases_Bool, cases_eq, cases_lt, lt-ltb}
-use Rattle.std.proofs.lemmas.Bool.{ltb-true, false≢true, OnTrue_at, OnFalse_at, OnTrue_from}
+use Rattle.std.specs.Prelude.{ltb, unwrap_or}
+use Rattle.std.specs.Bool.{OnFalse}
+use Rattle.std.proofs.lemmas.Bool.{and_from, and_parts, and_right, cases_Bool, cases_eq, cases_lt}
+use Rattle.std.proofs.lemmas.Bool.{lt-ltb}
+use Rattle.std.proofs.lemmas.Bool.{ltb-true, OnTrue_at, OnFalse_at}
 use Rattle.std.proofs.lemmas.Bool.{OnFalse_from}
 use Rattle.std.proofs.Math.ListN.{length-set}
 use Rattle.std.proofs.lemmas.List.Sums.{sum_by-set}
 use Rattle.std.proofs.lemmas.Option.{slice_get-get_or}
 use Rattle.aeth_base.proofs.Lists.{slice_get-slice_set_same, slice_get-slice_set_other}
-use Rattle.aeth_app.specs.App.{UseData, is_marked, is_smooth}
+use Rattle.aeth_app.specs.App.{is_marked}
 use Rattle.aeth_group.specs.declared.closing.TheConstants.{PLACES, SIZE}
-use Rattle.aeth_group.specs.Marks.{Extends, IsClosure, IsPair, IsTransitive, IsWithin, LeadsOver}
+use Rattle.aeth_group.specs.Marks.{Extends, LeadsOver}
 use Rattle.aeth_group.specs.Marks.{Spreads, marked, place_of, unmarked, with_mark}
 
 -- ---- one more mark
@@ -65,8 +67,8 @@ marked-at_place marks u v default long first second =
     rw (lt-ltb u SIZE first, lt-ltb v SIZE second) (sym at)
 
 -- The pair is marked now.
-pub marked-with_mark_same : (marks : List Bool) (u v : ℕ) → length marks ≡ PLACES → u < SIZE → v < SIZE
-    → marked (with_mark marks u v) u v ≡ true
+pub marked-with_mark_same : (marks : List Bool) (u v : ℕ) → length marks ≡ PLACES → u < SIZE
+    → v < SIZE → marked (with_mark marks u v) u v ≡ true
 marked-with_mark_same marks u v long first second = marked_from (with_mark marks u v) u v (record {
   first = first;
   second = second;

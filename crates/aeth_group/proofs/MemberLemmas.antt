@@ -1,16 +1,15 @@
 -- Laws of the groups of an application: what their readers tell, over the application.
-use Rattle.std.proofs.Common.{◌≡◌, ◌∙◌, ◌<◌, ◌≤◌, ◌&&◌, ◌||◌, ◌==◌, ℕ, Bool, true, false, eqb, List, [], ◌∷◌}
-use Rattle.std.proofs.Common.{length, map, refl, sym, ap, ap₂, subst, arith}
-use Rattle.std.specs.Prelude.{All, Some, slice_get, unwrap_or}
+use Rattle.std.proofs.Common.{◌≡◌, ◌∙◌, ◌<◌, ◌&&◌, ◌||◌, ◌==◌, ℕ, Bool, true, false, List, [], ◌∷◌}
+use Rattle.std.proofs.Common.{length, map, refl, sym, ap, arith}
+use Rattle.std.specs.Prelude.{Some, slice_get, unwrap_or}
 use Rattle.std.specs.List.{list_any, range_with_len}
 use Rattle.std.proofs.lemmas.Bool.{and_from, and_parts, eq-eqb, eqb-true}
 use Rattle.std.proofs.lemmas.List.FromFn.{get_or-map-range_with_len, length-map-range_with_len}
 use Rattle.std.proofs.lemmas.Option.{slice_get-get_or}
 use Rattle.aeth_app.specs.App.{AppData, UseData, has_connection, is_marked}
-use Rattle.aeth_group.specs.Groups.{group_count, group_of}
-use Rattle.aeth_group.specs.Members.{GroupsData, UseGroupData, are_together, group_at, group_in}
+use Rattle.aeth_group.specs.Groups.{group_of}
+use Rattle.aeth_group.specs.Members.{UseGroupData, are_together, group_at, group_in}
 use Rattle.aeth_group.specs.Members.{groups_of, has_at, has_in, is_kept, is_member, use_group}
-use Rattle.aeth_group.proofs.GroupLemmas.{group_of-below}
 use Rattle.aeth_group.proofs.Ranges.{any_from_passer, passer_from_any}
 
 -- ---- one use case

@@ -1,12 +1,12 @@
 -- Laws of a pass over a table of marks, and of the table that it starts from.
-use Rattle.std.proofs.Common.{◌≡◌, ◌∙◌, ◌<◌, ◌≤◌, ◌+◌, ◌⊎◌, ℕ, Bool, true, false, List, length, refl}
+use Rattle.std.proofs.Common.{◌≡◌, ◌∙◌, ◌<◌, ◌≤◌, ◌+◌, ◌⊎◌, ℕ, Bool, true, false, List, length}
 use Rattle.std.proofs.Common.{replicate, sym, ap, subst, inl, inr, arith}
 use Rattle.std.specs.Bool.{OnFalse}
 use Rattle.std.proofs.lemmas.Bool.{cases_eq, cases_lt, false≢true, OnFalse_at, OnFalse_from}
 use Rattle.aeth_app.specs.App.{UseData}
 use Rattle.aeth_group.specs.declared.closing.TheConstants.{PLACES, SIZE}
 use Rattle.aeth_group.specs.Marks.{IsPair, IsTransitive, LeadsOver, Spreads, marked, with_mark}
-use Rattle.aeth_group.proofs.MarkLemmas.{extends-then, marked-none, marked-with_mark_cases}
+use Rattle.aeth_group.proofs.MarkLemmas.{marked-none, marked-with_mark_cases}
 use Rattle.aeth_group.proofs.MarkLemmas.{marked-with_mark_kept, marked-with_mark_same}
 use Rattle.aeth_group.proofs.MarkLemmas.{marked_first, marked_second, spreads-both, spreads-refl}
 
@@ -26,7 +26,8 @@ pub passing-start : (marks : List Bool) → Passing marks marks false 0 0
 unfolding IsBefore
 passing-start marks = record {
   spreads = spreads-refl marks;
-  led = λ a b before. elim before [ inl low ↦ absurd (omega arith) | inr low ↦ absurd (omega arith) ];
+  led = λ a b before.
+      elim before [ inl low ↦ absurd (omega arith) | inr low ↦ absurd (omega arith) ];
 }
 
 -- One more pair, with a mark added.

@@ -1,5 +1,5 @@
 -- Laws of the list of units: what one more connection adds.
-use Rattle.std.proofs.Common.{◌≡◌, ◌∙◌, ◌<◌, ◌≤◌, ◌+◌, ◌*◌, ◌++◌, ℕ, suc, List, [], ◌∷◌, length, refl}
+use Rattle.std.proofs.Common.{◌≡◌, ◌∙◌, ◌≤◌, ◌+◌, ◌*◌, ℕ, suc, [], length, refl}
 use Rattle.std.proofs.Common.{sym, ap, add-one, length-append, arith}
 use Rattle.std.specs.Prelude.{count_by, filter, flat_map}
 use Rattle.std.specs.List.{range_with_len}

@@ -1,6 +1,6 @@
 -- The groups of use cases as functions.
 --
---   is_chained      whether a chain of at most so many smooth pairs leads from a use case to another
+--   is_chained      whether a chain of at most so many pairs leads from a use case to another
 --   in_one_group      whether two use cases are in one group
 --   group_of      the number of a use case's group
 --   group_count      how many groups there are

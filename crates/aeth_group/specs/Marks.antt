@@ -8,8 +8,8 @@
 --   IsClosure      the least transitive table over another
 --   IsPair      two use cases that are one, or smooth
 -- This project's own.
-use Rattle.std.specs.Prelude.{◌≡◌, ◌<◌, ◌+◌, ◌*◌, ◌⊎◌, ◌&&◌, nat_lt, ℕ, Bool, true, not, List, IsTrue}
-use Rattle.std.specs.Prelude.{length, count_by, slice_set}
+use Rattle.std.specs.Prelude.{◌≡◌, ◌<◌, ◌+◌, ◌*◌, ◌⊎◌, ◌&&◌, nat_lt, ℕ, Bool, true, not, List}
+use Rattle.std.specs.Prelude.{IsTrue, length, count_by, slice_set}
 use Rattle.std.specs.Bool.{OnFalse, OnTrue}
 use Rattle.aeth_app.specs.App.{UseData, is_marked, is_smooth}
 use Rattle.aeth_group.specs.declared.closing.TheConstants.{SIZE}

@@ -74,12 +74,12 @@ fn lead_over(marks: &mut Marks, u: usize, w: usize) -> bool
     ensures spreads { Spreads marks.old marks.new result }
     ensures led { OnFalse result (LeadsOver marks.new u w) }
 {
-    if !is_marked(marks, u, w) {
+    if !marked(marks, u, w) {
         return false;
     }
     let mut added = false;
     for v in 0..SIZE {
-        if is_marked(marks, w, v) && !is_marked(marks, u, v) {
+        if marked(marks, w, v) && !marked(marks, u, v) {
             mark(marks, u, v);
             added = true;
         }
@@ -87,6 +87,7 @@ fn lead_over(marks: &mut Marks, u: usize, w: usize) -> bool
     added
 }
 
+/// A table without marks.
 pub(crate) fn no_marks() -> Marks
     ensures { result ≡ replicate PLACES false }
 {
@@ -104,7 +105,7 @@ fn place_of(u: usize, v: usize) -> usize
 }
 
 /// Whether a pair is marked.
-pub(crate) fn is_marked(marks: &Marks, u: usize, v: usize) -> bool
+pub(crate) fn marked(marks: &Marks, u: usize, v: usize) -> bool
     requires first { u < SIZE }
     requires second { v < SIZE }
     ensures { result ≡ marked marks.now u v }

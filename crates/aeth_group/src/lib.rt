@@ -1,5 +1,5 @@
-//! Groups of use cases that smooth switches join, which connections are together in a group, and the
-//! grants and seats that a plan is made of.
+//! Groups of use cases that smooth switches join, which connections are together in a group, and
+//! the grants and seats that a plan is made of.
 #![tactic(auto)]
 
 mod closing;

@@ -3,7 +3,7 @@ ghost use Rattle.std.specs.Prelude.{◌≡◌, ◌<◌, ◌≤◌};
 ghost use Rattle.aeth_group.specs.Marks.{marked};
 ghost use Rattle.aeth_group.specs.Numbering.{class_of, first_with, firsts_below};
 
-use crate::closing::{Marks, SIZE, is_marked};
+use crate::closing::{Marks, SIZE, marked};
 
 /// How many of the use cases below a bound are the least of their groups.
 pub(crate) fn firsts_below(marks: &Marks, uses: u32, bound: u32) -> u32
@@ -38,7 +38,7 @@ fn first_with(marks: &Marks, uses: u32, u: u32) -> u32
     ensures within { result ≤ uses }
 {
     for v in 0..uses {
-        if is_marked(marks, u as usize, v as usize) {
+        if marked(marks, u as usize, v as usize) {
             return v;
         }
     }

@@ -1,10 +1,15 @@
 // What no clause says: that the definitions give the groups that were worked out by hand.
-use crate::closing::{Marks, close, mark, no_marks};
+use crate::closing::{Marks, SIZE, close, mark, no_marks};
 use crate::numbering::{class_of, firsts_below};
 
 /// The number of groups of four use cases, then the group of each, with two smooth pairs.
 fn groups(first: (usize, usize), second: (usize, usize)) -> [u32; 5] {
-    let mut marks = pairs(first, second);
+    let mut marks = no_marks();
+    for u in 0..4usize {
+        mark(&mut marks, u, u);
+    }
+    mark_both_ways(&mut marks, first);
+    mark_both_ways(&mut marks, second);
     close(&mut marks);
     [
         firsts_below(&marks, 4, 4),
@@ -15,23 +20,12 @@ fn groups(first: (usize, usize), second: (usize, usize)) -> [u32; 5] {
     ]
 }
 
-/// The diagonal and two pairs, both ways.
-fn pairs(first: (usize, usize), second: (usize, usize)) -> Marks {
-    let mut marks = no_marks();
-    for u in 0..4usize {
-        mark(&mut marks, u, u);
+fn mark_both_ways(marks: &mut Marks, pair: (usize, usize)) {
+    let (u, v) = pair;
+    if u < SIZE && v < SIZE {
+        mark(marks, u, v);
+        mark(marks, v, u);
     }
-    mark_both_ways(&mut marks, first);
-    mark_both_ways(&mut marks, second);
-    marks
-}
-
-fn mark_both_ways(marks: &mut Marks, pair: (usize, usize))
-    requires first { pair.0 < SIZE }
-    requires second { pair.1 < SIZE }
-{
-    mark(marks, pair.0, pair.1);
-    mark(marks, pair.1, pair.0);
 }
 
 #[test]

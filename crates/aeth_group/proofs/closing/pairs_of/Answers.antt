@@ -1,4 +1,4 @@
-use Rattle.std.proofs.Common.{◌≡◌, ◌⊎◌, ◌∙◌, ◌≤◌, true, List, Bool, length, subst, sym, inl, inr, arith}
+use Rattle.std.proofs.Common.{◌≡◌, ◌⊎◌, ◌∙◌, true, List, Bool, subst, sym, inl, inr, arith}
 use Rattle.std.proofs.lemmas.Bool.{false≢true}
 use Rattle.aeth_app.specs.App.{is_smooth}
 use Rattle.aeth_group.proofs.MarkLemmas.{length-before}
@@ -29,7 +29,8 @@ loop-v-preserved c =
           ] in
           rw (w.marks-is, w.mark.ensures)
           (pairing-mark uses c.loop-v.marks u v c.loop-v.invariant
-          (length-before c.loop-v.marks w.mark.new.marks u v w.mark.ensures w.mark.array_long) (omega arith) (omega arith)
+          (length-before c.loop-v.marks w.mark.new.marks u v w.mark.ensures w.mark.array_long)
+          (omega arith) (omega arith)
           (record { first = omega arith; second = omega arith; joined = joined }))
       | else-u-v+else-smooth w ↦ rw w.marks-is
           (pairing-skip uses c.loop-v.marks u v c.loop-v.invariant (λ pair. elim pair.joined [

@@ -4,10 +4,10 @@ use Rattle.aeth_group.proofs.NumberingLemmas.{first_with_is}
 use Rattle.aeth_group.proofs.numbering.first_with.Goals as goal
 
 -- One that is marked.
-pub returns-then-is_marked-clause-first : goal.returns-then-is_marked-clause-first
-returns-then-is_marked-clause-first c =
+pub returns-then-marked-clause-first : goal.returns-then-marked-clause-first
+returns-then-marked-clause-first c =
     sym (first_with_is (marked c.args.marks.now) c.args.uses c.args.u c.loop-v.v (omega arith)
-    c.loop-v.invariant (λ _. sym c.is_marked.ensures ∙ c.if-is_marked.true))
+    c.loop-v.invariant (λ _. sym c.marked.ensures ∙ c.if-marked.true))
 
 -- None is marked.
 pub returns-clause-first : goal.returns-clause-first

@@ -1,6 +1,6 @@
-use Rattle.std.proofs.Common.{◌≡◌, ◌∙◌, ◌≤◌, length, map, ap, arith}
+use Rattle.std.proofs.Common.{◌≡◌, ◌∙◌, length, map, ap, arith}
 use Rattle.std.specs.List.{range_with_len}
-use Rattle.aeth_group.specs.Members.{GroupsData, use_group}
+use Rattle.aeth_group.specs.Members.{use_group}
 use Rattle.aeth_group.proofs.GroupLemmas.{class_of-marked, firsts_below-marked}
 use Rattle.aeth_group.proofs.MakingLemmas.{AllUses, groups_are, groups_fit, uses-more}
 use Rattle.aeth_group.proofs.groups.Groups.of.Goals as goal

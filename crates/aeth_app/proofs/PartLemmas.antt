@@ -1,0 +1,114 @@
+-- Parts of an application made from tables, and marks at places.
+use Rattle.std.proofs.Common.{◌≡◌, ◌+◌, ◌++◌, ◌<◌, ℕ, zero, suc, true, false, List, [], ◌∷◌}
+use Rattle.std.proofs.Common.{length, map, get_or, Option, Some, None, refl, ap, arith}
+use Rattle.std.proofs.Common.{Bool, ◌||◌, ◌==◌, inl, inr}
+use Rattle.std.specs.Prelude.{All, option_map, replicate, unwrap_or, IsSome}
+use Rattle.std.specs.List.{filter_map, list_any, range_with_len, slice_set}
+use Rattle.std.proofs.lemmas.Bool.{cases_Bool, ne_eqb}
+use Rattle.std.proofs.lemmas.Bool.Decides.{Decides-eqb}
+use Rattle.std.proofs.lemmas.List.{append-nil}
+use Rattle.std.proofs.lemmas.List.FromFn.{length-map-range_with_len}
+use Rattle.std.proofs.lemmas.List.Elements.{All-head, All-tail, filter_map-append}
+use Rattle.toml.specs.Data.{Members, no_members}
+use Rattle.aeth_document.specs.Values.{integer_at}
+use Rattle.aeth_document.specs.Walks.{place_of}
+use Rattle.aeth_app.specs.Parts.{named_marks}
+use Rattle.aeth_app.specs.Ranges.{IsWishInRange}
+
+-- What holds of all things that are seen, holds of each.
+pub each_at : {X M : Type 0} (view : X → M) (P : M → Type 0) (xs : List X) (i : ℕ) (x : X)
+    → All P (map view xs) → i < length xs → x ≡ get_or xs i x → P (view x)
+each_at view P [] i x each within is = absurd (omega arith)
+each_at view P (y ∷ xs) zero x each within is = rw is (All-head P (view y) (map view xs) each)
+each_at view P (y ∷ xs) (suc i) x each within is =
+    each_at view P xs i x (All-tail P (view y) (map view xs) each) (omega arith) is
+
+-- Whether a place is one of some places.
+abbrev marked : List ℕ → ℕ → Bool
+marked places place = list_any (λ m. m == place) places
+
+-- The last place is marked.
+marked-last : (places : List ℕ) (last : ℕ) → marked (places ++ last ∷ []) last ≡ true
+marked-last [] last = rw ((Decides-eqb last last).1 refl) refl
+marked-last (p ∷ places) last =
+    let rest = marked-last places last in
+    elim (cases_Bool (p == last)) [
+      | inl here ↦ rw here refl
+      | inr other ↦ rw other rest
+    ]
+
+-- Another place is marked where it was.
+marked-other : (places : List ℕ) (last place : ℕ) → (last == place) ≡ false
+    → marked (places ++ last ∷ []) place ≡ marked places place
+marked-other [] last place other = rw other refl
+marked-other (p ∷ places) last place other =
+    ap (λ b. (p == place) || b) (marked-other places last place other)
+
+-- A place before the first that is asked for changes no mark.
+marks_past : (first count last : ℕ) (places : List ℕ) → last < first
+    → map (marked places) (range_with_len first count)
+    ≡ map (marked (places ++ last ∷ [])) (range_with_len first count)
+marks_past first zero last places below = refl
+marks_past first (suc count) last places below =
+    let here : marked (places ++ last ∷ []) first ≡ marked places first =
+    marked-other places last first (ne_eqb last first (λ same. absurd (omega arith))) in
+    let rest = marks_past (first + 1) count last places (omega arith) in
+    rw (here, rest) refl
+
+-- Setting a mark marks one place more.
+marks_set : (first count i last : ℕ) (places : List ℕ) → last ≡ first + i
+    → slice_set (map (marked places) (range_with_len first count)) i true
+    ≡ map (marked (places ++ last ∷ [])) (range_with_len first count)
+marks_set first zero i last places is = refl
+marks_set first (suc count) zero last places is =
+    let same : last ≡ first = omega arith in
+    let here : marked (places ++ last ∷ []) first ≡ true = rw same (marked-last places first) in
+    let rest = marks_past (first + 1) count last places (omega arith) in
+    rw (here, rest) refl
+marks_set first (suc count) (suc i) last places is =
+    let here : marked (places ++ last ∷ []) first ≡ marked places first =
+    marked-other places last first (ne_eqb last first (λ equal. absurd (omega arith))) in
+    let rest = marks_set (first + 1) count i last places (omega arith) in
+    rw (here, rest) refl
+
+-- At no places there are no marks.
+marks_none : (first count : ℕ)
+    → replicate count false ≡ map (marked []) (range_with_len first count)
+marks_none first zero = refl
+marks_none first (suc count) = ap (λ ms. false ∷ ms) (marks_none (first + 1) count)
+
+-- There is a mark for each name.
+pub length-named_marks : (names texts : List (List ℕ))
+    → length (named_marks names texts) ≡ length names
+length-named_marks names texts =
+    length-map-range_with_len (marked (filter_map (place_of names) texts)) 0 (length names)
+
+-- At no texts there are no marks.
+pub named_marks-none : (names : List (List ℕ))
+    → replicate (length names) false ≡ named_marks names []
+named_marks-none names = marks_none 0 (length names)
+
+-- The mark of a text that is a name is set.
+pub named_marks-known : (names texts : List (List ℕ)) (text : List ℕ) (place : ℕ)
+    → Some place ≡ place_of names text
+    → slice_set (named_marks names texts) place true ≡ named_marks names (texts ++ text ∷ [])
+named_marks-known names texts text place known =
+    let places = filter_map (place_of names) texts in
+    let set = marks_set 0 (length names) place place places (omega arith) in
+    rw (filter_map-append (place_of names) texts (text ∷ []), ← known) set
+
+-- Another text marks nothing.
+pub named_marks-unknown : (names texts : List (List ℕ)) (text : List ℕ)
+    → None ≡ place_of names text
+    → named_marks names texts ≡ named_marks names (texts ++ text ∷ [])
+named_marks-unknown names texts text unknown =
+    rw (filter_map-append (place_of names) texts (text ∷ []), ← unknown, append-nil) refl
+
+-- Where a wish is in its ranges there is a table for it.
+pub wish_stands : {T : Type 0} (view : T → Members) (table : Option T) (found : Option Members)
+    → option_map view table ≡ found → IsWishInRange (unwrap_or found no_members)
+    → IsSome table
+unfolding integer_at
+wish_stands view None None is range = absurd (omega (arith, range.some_per))
+wish_stands view None (Some wish) is range = absurd (cc is)
+wish_stands view (Some table) found is range = refl

@@ -1,0 +1,181 @@
+// The cores, connections and use cases that the tables of an application file tell.
+ghost use Rattle.std.specs.Prelude.{◌≡◌, ◌<◌, ◌^◌, ◌++◌, ◌∷◌, [], ℕ, codes, length, map};
+ghost use Rattle.std.specs.Prelude.{option_map, true, All, IfOk, List};
+ghost use Rattle.std.specs.List.{filter_map};
+ghost use Rattle.aeth_base.specs.Name.{is_name, name_of};
+ghost use Rattle.aeth_app.specs.Keys.{wish_at};
+ghost use Rattle.aeth_app.specs.Parts.{connection_of, core_of, end_of, named_marks, price_of};
+ghost use Rattle.aeth_app.specs.Parts.{use_of, wish_in};
+ghost use Rattle.aeth_app.specs.Ranges.{IsConnectionInRange, IsWishInRange, names_in};
+ghost use Rattle.aeth_document.specs.Values.{text_at};
+ghost use Rattle.toml.specs.View.{table_view};
+
+use crate::app::Names;
+use crate::connection::{Connection, Core, Price, Wish};
+use crate::names::{name_at, ni_of};
+use crate::use_case::UseCase;
+use aeth_base::{CoreId, Name, NoMemory};
+use aeth_chip::Chip;
+use aeth_document::{integer_at, place_of, size, table_at, text_at, text_if, texts_at};
+use indexmap::IndexSet;
+use std::alloc::Global;
+use toml::Table;
+
+fn core_of(chip: &Chip, table: &Table) -> Core
+    requires { is_name (text_at (codes "name") (table_view table.now)) ≡ true }
+    ensures { result ≡ core_of chip.now.nis (table_view table.now) }
+{
+    Core {
+        name: name_at(table),
+        fixed: ni_of(chip, text_if(table, "ni")),
+    }
+}
+
+/// The cores of the tables.
+pub(crate) fn cores_of(alloc: Global, chip: &Chip, tables: &[&Table]) -> Result<Vec<Core>, NoMemory>
+    requires { filter_map name_of (names_in (map (λ t. table_view t.now) tables.now))
+        ≡ names_in (map (λ t. table_view t.now) tables.now) }
+    ensures { IfOk result (λ cores. cores.items
+        ≡ map (core_of chip.now.nis) (map (λ t. table_view t.now) tables.now)) }
+{
+    let mut cores = Vec::new(alloc);
+    for table in tables {
+        cores.push(core_of(chip, table))?;
+    }
+    Ok(cores)
+}
+
+fn wish_in(table: &Table) -> Wish
+    requires { IsWishInRange (table_view table.now) }
+    ensures { result ≡ wish_in (table_view table.now) }
+{
+    Wish {
+        words: size(integer_at(table, "words")) as u32,
+        per: size(integer_at(table, "per")) as u32,
+        latency: size(integer_at(table, "latency")) as u32,
+        delay: size(integer_at(table, "delay")) as u32,
+    }
+}
+
+fn wish_at(connection: &Table, side: &str) -> Wish
+    requires { IsWishInRange (wish_at side.now (table_view connection.now)) }
+    ensures { result ≡ wish_in (wish_at side.now (table_view connection.now)) }
+{
+    wish_in(table_at(connection, side).unwrap())
+}
+
+fn end_of(cores: &IndexSet<Name>, text: &str) -> CoreId
+    requires { length cores.now.keys < 2 ^ 32 }
+    ensures { result ≡ end_of cores.now.keys text.now }
+{
+    match place_of(cores, text) {
+        Some(core) => CoreId(core),
+        None => CoreId(0),
+    }
+}
+
+fn connection_of(cores: &IndexSet<Name>, table: &Table) -> Connection
+    requires cores { length cores.now.keys < 2 ^ 32 }
+    requires name { is_name (text_at (codes "name") (table_view table.now)) ≡ true }
+    requires wishes { IsConnectionInRange (table_view table.now) }
+    ensures { result ≡ connection_of cores.now.keys (table_view table.now) }
+{
+    Connection {
+        name: name_at(table),
+        from: end_of(cores, text_at(table, "from")),
+        to: end_of(cores, text_at(table, "to")),
+        fwd: wish_at(table, "fwd"),
+        back: wish_at(table, "back"),
+    }
+}
+
+/// The connections of the tables, between cores of these names.
+pub(crate) fn connections_of(
+    alloc: Global,
+    cores: &IndexSet<Name>,
+    tables: &[&Table],
+) -> Result<Vec<Connection>, NoMemory>
+    requires cores { length cores.now.keys < 2 ^ 32 }
+    requires names { filter_map name_of (names_in (map (λ t. table_view t.now) tables.now))
+        ≡ names_in (map (λ t. table_view t.now) tables.now) }
+    requires wishes { All IsConnectionInRange (map (λ t. table_view t.now) tables.now) }
+    ensures { IfOk result (λ connections. connections.items
+        ≡ map (connection_of cores.now.keys) (map (λ t. table_view t.now) tables.now)) }
+{
+    let mut connections = Vec::new(alloc);
+    for table in tables {
+        connections.push(connection_of(cores, table))?;
+    }
+    Ok(connections)
+}
+
+// Sets the mark of the name that a text is, if it is one.
+fn mark(marks: &mut Vec<bool>, names: &IndexSet<Name>, text: &str)
+    requires few { length names.now.keys < 2 ^ 32 }
+    requires size { length marks.old.items ≡ length names.now.keys }
+    ensures { (texts : List (List ℕ)) → marks.old.items ≡ named_marks names.now.keys texts
+        → marks.new.items ≡ named_marks names.now.keys (texts ++ text.now ∷ []) }
+{
+    if let Some(place) = place_of(names, text) {
+        marks[place as usize] = true;
+    }
+}
+
+// For each of the names whether it is among the texts.
+fn named_marks(alloc: Global, names: &IndexSet<Name>, texts: &[&str]) -> Result<Vec<bool>, NoMemory>
+    requires { length names.now.keys < 2 ^ 32 }
+    ensures { IfOk result (λ marks. marks.items
+        ≡ named_marks names.now.keys (map (λ t. t.now) texts.now)) }
+{
+    let mut marks = vec![in alloc; false; names.len()]?;
+    for text in texts {
+        mark(&mut marks, names, text);
+    }
+    Ok(marks)
+}
+
+fn use_of(alloc: Global, names: &Names, table: &Table) -> Result<UseCase, NoMemory>
+    requires connections { length names.now.connections.keys < 2 ^ 32 }
+    requires uses { length names.now.uses.keys < 2 ^ 32 }
+    requires name { is_name (text_at (codes "name") (table_view table.now)) ≡ true }
+    ensures { IfOk result (λ one. one
+        ≡ use_of names.now.connections.keys names.now.uses.keys (table_view table.now)) }
+{
+    let connections = texts_at(alloc, table, "connections")?;
+    let smooth = texts_at(alloc, table, "smooth")?;
+    Ok(UseCase {
+        name: name_at(table),
+        has: named_marks(alloc, &names.connections, &connections)?,
+        smooth: named_marks(alloc, &names.uses, &smooth)?,
+    })
+}
+
+/// The use cases of the tables, with connections and use cases of these names.
+pub(crate) fn uses_of(
+    alloc: Global,
+    names: &Names,
+    tables: &[&Table],
+) -> Result<Vec<UseCase>, NoMemory>
+    requires connections { length names.now.connections.keys < 2 ^ 32 }
+    requires uses { length names.now.uses.keys < 2 ^ 32 }
+    requires names { filter_map name_of (names_in (map (λ t. table_view t.now) tables.now))
+        ≡ names_in (map (λ t. table_view t.now) tables.now) }
+    ensures { IfOk result (λ uses. uses.items ≡ map (use_of names.now.connections.keys
+        names.now.uses.keys) (map (λ t. table_view t.now) tables.now)) }
+{
+    let mut uses = Vec::new(alloc);
+    for table in tables {
+        uses.push(use_of(alloc, names, table)?)?;
+    }
+    Ok(uses)
+}
+
+/// What links cost by a text: pressure where it says so, else each the same.
+pub(crate) fn price_of(text: Option<&str>) -> Price
+    ensures { result ≡ price_of (option_map (λ t. t.now) text.entry) }
+{
+    match text {
+        Some("pressure") => Price::Pressure,
+        _ => Price::Hops,
+    }
+}
