@@ -2,8 +2,8 @@
 use Rattle.std.proofs.Common.{◌≡◌, ◌<◌, ℕ, true, Some, None, length, inl, inr, arith}
 use Rattle.std.specs.Prelude.{slice_get, IsSomeAnd, IsTrue}
 use Rattle.std.proofs.lemmas.Option.{slice_get_cases}
+use Rattle.aeth_base.proofs.Lists.{count_by-before}
 use Rattle.aeth_base.specs.declared.ids.CoreId.{CoreId}
-use Rattle.aeth_chip.proofs.NodeLemmas.{count_by-before}
 use Rattle.aeth_app.specs.App.{AppData, IsApp, is_end, position_of}
 
 -- The position of a connection at one of its ends is below 8.

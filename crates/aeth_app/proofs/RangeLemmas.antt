@@ -18,7 +18,8 @@ use Rattle.aeth_app.proofs.FileWalks.{first_broken-four}
 use Rattle.aeth_app.specs.declared.app.TheConstants.{MAX_CONNECTIONS, MAX_CORES, MAX_DETOUR}
 use Rattle.aeth_app.specs.declared.app.TheConstants.{MAX_USES}
 use Rattle.aeth_app.specs.declared.connection.TheConstants.{MAX_LATENCY, MAX_PER}
-use Rattle.aeth_app.specs.declared.connection.TheConstants.{MAX_RECEIVER_DELAY, MAX_WORDS}
+use Rattle.aeth_app.specs.declared.connection.TheConstants.{MAX_WORDS}
+use Rattle.aeth_base.specs.declared.limits.TheConstants.{MAX_RECEIVER_DELAY}
 use Rattle.aeth_app.specs.Keys.{wish_at}
 use Rattle.aeth_app.specs.Ranges.{IsConnectionInRange, IsInRange, IsWishInRange, names_in, numbers}
 use Rattle.aeth_app.specs.Ranges.{connection_ranges, out_of_range, wish_ranges}

@@ -15,7 +15,7 @@ use Rattle.aeth_document.specs.Values.{text_at, texts_at}
 use Rattle.aeth_document.specs.Walks.{first_broken}
 use Rattle.aeth_document.proofs.WalkLemmas.{first_broken-append_none}
 use Rattle.aeth_app.proofs.FileWalks.{first_broken-four}
-use Rattle.aeth_app.specs.Names.{AreApart, name_twice, twice, twice_after}
+use Rattle.aeth_app.specs.Names.{HasDistinctNames, name_twice, twice, twice_after}
 use Rattle.aeth_app.specs.Ranges.{names_in}
 
 -- A test passes in a mapped list where the test of what it maps to passes.
@@ -92,7 +92,7 @@ name_twice_split view cores connections uses =
 
 -- What holds where the walk finds nothing.
 pub are_apart : (cores connections uses : List Members)
-    → name_twice cores connections uses ≡ None → AreApart cores connections uses
+    → name_twice cores connections uses ≡ None → HasDistinctNames cores connections uses
 unfolding name_twice
 are_apart cores connections uses none =
     let of_cores = twice (names_in cores) in

@@ -31,7 +31,7 @@ use Rattle.aeth_app.specs.AppFile.{told_app}
 use Rattle.aeth_app.specs.Keys.{wish_at}
 use Rattle.aeth_app.specs.Limits.{above, core_too_busy, own_end}
 use Rattle.aeth_app.specs.Limits.{seats_overfull, too_fast, IsWithinLimits}
-use Rattle.aeth_app.specs.Names.{AreApart, ends_in, unknown, unknown_name}
+use Rattle.aeth_app.specs.Names.{HasDistinctNames, ends_in, unknown, unknown_name}
 use Rattle.aeth_app.specs.Parts.{connection_of, core_of, end_of, ni_of, use_of, wish_in}
 use Rattle.aeth_app.specs.Ranges.{IsConnectionInRange, IsInRange, IsWishInRange, names_in}
 use Rattle.aeth_app.proofs.PartLemmas.{length-named_marks}
@@ -265,7 +265,7 @@ are_names chip cores connections uses = record {
 
 -- The application of tables that break no rule is one.
 pub is_app : (chip : ChipData) (root : Members) (cores connections uses : List Members)
-    → IsChip chip → IsInRange root cores connections uses → AreApart cores connections uses
+    → IsChip chip → IsInRange root cores connections uses → HasDistinctNames cores connections uses
     → unknown_name chip.nis cores connections uses ≡ None
     → IsWithinLimits (length chip.nis) (map (core_of chip.nis) cores)
     (map (connection_of (names_in cores)) connections)

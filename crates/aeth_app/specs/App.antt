@@ -16,6 +16,7 @@ use Rattle.aeth_base.specs.declared.ids.CoreId.{CoreId}
 use Rattle.aeth_base.specs.declared.ids.NiId.{NiId}
 use Rattle.aeth_base.specs.declared.ids.Side.{Side}
 use Rattle.aeth_base.specs.declared.ids.Side.TheVariants.{Fwd, Back}
+use Rattle.aeth_base.specs.declared.limits.TheConstants.{MAX_RECEIVER_DELAY, WORDS_PER_FLIT}
 use Rattle.aeth_chip.specs.Chip.{ChipData}
 use Rattle.aeth_chip.specs.declared.chip.TheConstants.{MAX_SLOTS}
 use Rattle.aeth_app.specs.declared.app.TheConstants.{MAX_CONNECTIONS, MAX_CORES}
@@ -26,7 +27,7 @@ use Rattle.aeth_app.specs.declared.connection.Core.{Core}
 use Rattle.aeth_app.specs.declared.connection.Price.{Price}
 use Rattle.aeth_app.specs.declared.connection.Wish.{Wish}
 use Rattle.aeth_app.specs.declared.connection.TheConstants.{MAX_LATENCY, MAX_PER}
-use Rattle.aeth_app.specs.declared.connection.TheConstants.{MAX_RECEIVER_DELAY, MAX_WORDS}
+use Rattle.aeth_app.specs.declared.connection.TheConstants.{MAX_WORDS}
 
 -- A use case: its name, for each connection whether it has it, and for each use case whether its
 -- file names it as smooth.
@@ -83,7 +84,7 @@ wish_of connection Back = connection.back
 -- What holds of every wish: it has at most two words a cycle, and is within the limits.
 pub record IsWish (wish : Wish) : Type 0 where
   pub words : wish.words ≤ MAX_WORDS
-  pub rate : wish.words ≤ 2 * wish.per
+  pub rate : wish.words ≤ WORDS_PER_FLIT * wish.per
   pub some_per : 1 ≤ wish.per
   pub per : wish.per ≤ MAX_PER
   pub some_latency : 1 ≤ wish.latency

@@ -8,6 +8,7 @@ use Rattle.std.specs.Prelude.{ℕ, ◌≡◌, ◌*◌, ◌==◌, nat_le, List, [
 use Rattle.std.specs.Prelude.{count_by, slice_get, Option, Some, None, Result, Ok}
 use Rattle.std.specs.Prelude.{if◌then◌else◌}
 use Rattle.std.specs.List.{range_with_len}
+use Rattle.aeth_base.specs.declared.limits.TheConstants.{WORDS_PER_FLIT}
 use Rattle.aeth_document.specs.Chain.{◌>>=◌, refused}
 use Rattle.aeth_document.specs.declared.shown.Broken.{Broken}
 use Rattle.aeth_document.specs.declared.shown.Shown.{Shown}
@@ -25,7 +26,7 @@ use Rattle.aeth_app.specs.App.{AppData, is_end, is_fixed_to}
 
 -- The words of a wish that has more than two a cycle.
 abbrev pub too_fast : Wish → Option Shown
-too_fast wish = if nat_le wish.words (2 * wish.per) then None else Some (Number wish.words)
+too_fast wish = if nat_le wish.words (WORDS_PER_FLIT * wish.per) then None else Some (Number wish.words)
 
 -- Rates too high: for each connection `fwd`, then `back`.
 abbrev pub rate_too_high : List Connection → Option Broken

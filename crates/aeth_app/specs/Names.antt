@@ -2,7 +2,7 @@
 --
 --   twice    the texts of a list that equal an earlier one
 --   name_twice    the walk over the lists
---   AreApart    what holds where none does
+--   HasDistinctNames    what holds where none does
 --   unknown    a text that names nothing
 --   unknown_name    the walk over all that should name something
 -- This project's own.
@@ -37,7 +37,7 @@ name_twice cores connections uses =
     ++ flat_map (λ one. twice (texts_at (codes "connections") one)) uses)
 
 -- What holds where no name stands twice.
-pub record AreApart (cores connections uses : List Members) : Type 0 where
+pub record HasDistinctNames (cores connections uses : List Members) : Type 0 where
   pub core_names : IsDistinct bytes_eq (names_in cores)
   pub connection_names : IsDistinct bytes_eq (names_in connections)
   pub use_names : IsDistinct bytes_eq (names_in uses)

@@ -20,7 +20,8 @@ use Rattle.aeth_document.specs.Walks.{first_broken, no_name, outside, size_of}
 use Rattle.aeth_app.specs.declared.app.TheConstants.{MAX_CONNECTIONS, MAX_CORES, MAX_DETOUR}
 use Rattle.aeth_app.specs.declared.app.TheConstants.{MAX_USES}
 use Rattle.aeth_app.specs.declared.connection.TheConstants.{MAX_LATENCY, MAX_PER}
-use Rattle.aeth_app.specs.declared.connection.TheConstants.{MAX_RECEIVER_DELAY, MAX_WORDS}
+use Rattle.aeth_app.specs.declared.connection.TheConstants.{MAX_WORDS}
+use Rattle.aeth_base.specs.declared.limits.TheConstants.{MAX_RECEIVER_DELAY}
 use Rattle.aeth_app.specs.Keys.{wish_at}
 
 -- A cost that is neither `hops` nor `pressure`; an absent one is `hops`.

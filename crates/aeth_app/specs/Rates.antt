@@ -8,16 +8,17 @@ use Rattle.std.specs.Prelude.{ℕ, ◌*◌, max}
 use Rattle.std.specs.Int.{div_ceil}
 use Rattle.aeth_base.specs.declared.ids.Side.{Side}
 use Rattle.aeth_base.specs.declared.ids.Side.TheVariants.{Fwd, Back}
+use Rattle.aeth_base.specs.declared.limits.TheConstants.{CREDITS_PER_FLIT, WORDS_PER_FLIT}
 use Rattle.aeth_app.specs.declared.connection.Connection.{Connection}
 use Rattle.aeth_app.specs.declared.connection.Wish.{Wish}
 
 -- The least number of slots of a table that carry a wish's words, two words a slot; at least one.
 abbrev pub own_need : ℕ → Wish → ℕ
-own_need slots wish = max 1 (div_ceil (wish.words * slots) (2 * wish.per))
+own_need slots wish = max 1 (div_ceil (wish.words * slots) (WORDS_PER_FLIT * wish.per))
 
 -- The least number of slots that carry the credits of so many slots' words, 15 credits a slot.
 abbrev pub credit_need : ℕ → ℕ
-credit_need need = div_ceil (2 * need) 15
+credit_need need = div_ceil (WORDS_PER_FLIT * need) CREDITS_PER_FLIT
 
 -- What the channel back needs: its own words, and the credits of the forward words.
 abbrev pub back_need : ℕ → Connection → ℕ
@@ -36,4 +37,4 @@ need_of slots connection Back = back_need slots connection
 
 -- The rate that a need stands for, in words per table: two words a slot.
 abbrev pub rate_of : ℕ → ℕ
-rate_of need = 2 * need
+rate_of need = WORDS_PER_FLIT * need

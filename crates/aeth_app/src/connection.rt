@@ -14,9 +14,6 @@ pub const MAX_PER: u32 = 1_000_000;
 /// The greatest latency of a wish, in cycles.
 pub const MAX_LATENCY: u32 = 4_096;
 
-/// The greatest delay that a receiver declares, in cycles.
-pub const MAX_RECEIVER_DELAY: u32 = 4_096;
-
 /// What a channel wishes: so many words in each `per` cycles, each landed within `latency` cycles
 /// where it comes alone, by a receiver that takes a landed word at most `delay` cycles later.
 #[derive(Clone, Copy, Debug, PartialEq, Eq)]

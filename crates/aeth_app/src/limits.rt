@@ -12,14 +12,14 @@ ghost use Rattle.aeth_app.specs.declared.app.TheConstants.{MAX_CORES};
 use crate::app::{MAX_CORE_CONNECTIONS, MAX_CORES, SEATS, count_ends};
 use crate::connection::{Connection, Core, Wish};
 use crate::fault::AppFault;
-use aeth_base::{CoreId, NoMemory};
+use aeth_base::{CoreId, NoMemory, WORDS_PER_FLIT};
 use aeth_document::{Broken, Shown, next_place};
 
 fn too_fast(wish: &Wish) -> Option<Shown>
     ensures { result ≡ too_fast wish.now }
 {
     let words = wish.words as u64;
-    if words <= 2 * wish.per as u64 {
+    if words <= WORDS_PER_FLIT as u64 * wish.per as u64 {
         None
     } else {
         Some(Shown::Number(words))

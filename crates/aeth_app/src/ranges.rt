@@ -8,8 +8,8 @@ ghost use Rattle.aeth_document.specs.Walks.{first_broken, no_name};
 ghost use Rattle.toml.specs.View.{table_view};
 
 use crate::app::{MAX_CONNECTIONS, MAX_CORES, MAX_DETOUR, MAX_USES};
-use crate::connection::{MAX_LATENCY, MAX_PER, MAX_RECEIVER_DELAY, MAX_WORDS};
-use aeth_base::NoMemory;
+use crate::connection::{MAX_LATENCY, MAX_PER, MAX_WORDS};
+use aeth_base::{MAX_RECEIVER_DELAY, NoMemory};
 use aeth_document::{
     Broken, Shown, count_outside, first_broken, integer_at, next_place, no_names, outside,
     place_after, shown_text, table_at, text_at, text_if,

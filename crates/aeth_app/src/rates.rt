@@ -5,13 +5,7 @@ ghost use Rattle.aeth_app.specs.Rates.{back_need, credit_need, fwd_need, need_of
 ghost use Rattle.aeth_chip.specs.declared.chip.TheConstants.{MAX_SLOTS};
 
 use crate::connection::{Connection, Wish};
-use aeth_base::Side;
-
-/// How many words a flit carries at most.
-const WORDS_PER_FLIT: u64 = 2;
-
-/// How many credits a flit carries at most.
-const CREDITS_PER_FLIT: u32 = 15;
+use aeth_base::{CREDITS_PER_FLIT, Side, WORDS_PER_FLIT};
 
 fn own_need(slots: u32, wish: &Wish) -> u32
     requires some { 1 ≤ slots }
@@ -21,7 +15,7 @@ fn own_need(slots: u32, wish: &Wish) -> u32
     ensures within { result ≤ slots }
 {
     let words = wish.words as u64 * slots as u64;
-    let need = words.div_ceil(WORDS_PER_FLIT * wish.per as u64);
+    let need = words.div_ceil(WORDS_PER_FLIT as u64 * wish.per as u64);
     need.max(1) as u32
 }
 
@@ -29,7 +23,7 @@ fn credit_need(need: u32) -> u32
     requires { need ≤ MAX_SLOTS }
     ensures { result ≡ credit_need need }
 {
-    (2 * need).div_ceil(CREDITS_PER_FLIT)
+    (WORDS_PER_FLIT * need).div_ceil(CREDITS_PER_FLIT)
 }
 
 fn back_need(slots: u32, connection: &Connection) -> u32

@@ -5,7 +5,7 @@ ghost use Rattle.aeth_app.specs.App.{IsAppOf};
 ghost use Rattle.aeth_app.specs.AppFile.{app_in, app_of, judged_app, told_app};
 ghost use Rattle.aeth_app.specs.Keys.{wrong_keys_in};
 ghost use Rattle.aeth_app.specs.Limits.{within_limits};
-ghost use Rattle.aeth_app.specs.Names.{name_twice, unknown_name, AreApart};
+ghost use Rattle.aeth_app.specs.Names.{name_twice, unknown_name, HasDistinctNames};
 ghost use Rattle.aeth_app.specs.Ranges.{out_of_range, names_in, IsInRange};
 ghost use Rattle.aeth_app.specs.declared.app.TheConstants.{MAX_DETOUR};
 ghost use Rattle.aeth_document.specs.Chain.{refused};
@@ -70,7 +70,7 @@ fn judge_repeats(
     ensures gives { Gives AppFault.Memory (λ u. u) result (refused AppFault.NameTwice
         (name_twice (map (λ t. table_view t.now) cores.now)
         (map (λ t. table_view t.now) connections.now) (map (λ t. table_view t.now) uses.now))) }
-    ensures apart { OnOk result (AreApart (map (λ t. table_view t.now) cores.now)
+    ensures apart { OnOk result (HasDistinctNames (map (λ t. table_view t.now) cores.now)
         (map (λ t. table_view t.now) connections.now) (map (λ t. table_view t.now) uses.now)) }
 {
     match name_twice(alloc, cores, connections, uses)? {
@@ -130,7 +130,7 @@ fn kept_app(
     requires uses { names.uses.keys ≡ names_in (map (λ t. table_view t.now) uses.now) }
     requires range { IsInRange (table_view root.now) (map (λ t. table_view t.now) cores.now)
         (map (λ t. table_view t.now) connections.now) (map (λ t. table_view t.now) uses.now) }
-    requires apart { AreApart (map (λ t. table_view t.now) cores.now)
+    requires apart { HasDistinctNames (map (λ t. table_view t.now) cores.now)
         (map (λ t. table_view t.now) connections.now) (map (λ t. table_view t.now) uses.now) }
     requires known { unknown_name chip.now.nis (map (λ t. table_view t.now) cores.now)
         (map (λ t. table_view t.now) connections.now) (map (λ t. table_view t.now) uses.now)

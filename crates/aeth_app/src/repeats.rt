@@ -3,7 +3,7 @@ ghost use Rattle.std.specs.Prelude.{◌≡◌, flat_map, map, not, codes, IfOk, 
 ghost use Rattle.std.specs.List.{list_any};
 ghost use Rattle.std.specs.Str.{bytes_eq};
 ghost use Rattle.indexmap.specs.IndexSet.{insert_key};
-ghost use Rattle.aeth_app.specs.Names.{AreApart, name_twice, twice};
+ghost use Rattle.aeth_app.specs.Names.{HasDistinctNames, name_twice, twice};
 ghost use Rattle.aeth_app.specs.Ranges.{names_in};
 ghost use Rattle.aeth_document.specs.Values.{texts_at};
 ghost use Rattle.aeth_document.specs.Walks.{first_broken};
@@ -95,7 +95,7 @@ pub(crate) fn name_twice(
     ensures found { IfOk result (λ found. found ≡ name_twice
         (map (λ t. table_view t.now) cores.now) (map (λ t. table_view t.now) connections.now)
         (map (λ t. table_view t.now) uses.now)) }
-    ensures none { IfOk result (λ found. found ≡ None → AreApart
+    ensures none { IfOk result (λ found. found ≡ None → HasDistinctNames
         (map (λ t. table_view t.now) cores.now) (map (λ t. table_view t.now) connections.now)
         (map (λ t. table_view t.now) uses.now)) }
 {

@@ -1,7 +1,11 @@
--- Laws of lists read by `slice_get`, where an element may be of any type and so has no default.
-use Rattle.std.proofs.Common.{◌≡◌, ◌≢◌, ℕ, zero, suc, ◌<◌, List, [], ◌∷◌, length, Some, None}
-use Rattle.std.proofs.Common.{slice_get, refl, ap, arith}
-use Rattle.std.specs.List.{slice_set}
+-- Laws of lists read by `slice_get`, where an element may be of any type and so has no default, and
+-- of how many elements pass a test.
+use Rattle.std.proofs.Common.{◌≡◌, ◌≢◌, ◌<◌, ◌+◌, ◌∙◌, ℕ, zero, suc, Bool, true, false, List, []}
+use Rattle.std.proofs.Common.{◌∷◌, length, take, Some, None, slice_get, cond, refl, ap, inl, inr}
+use Rattle.std.proofs.Common.{arith}
+use Rattle.std.specs.List.{count_by, slice_set}
+use Rattle.std.proofs.lemmas.Bool.{cases_Bool}
+use Rattle.std.proofs.lemmas.List.Sums.{sum_by-cons}
 use Rattle.std.proofs.lemmas.Option.{same_Some}
 
 -- Lists with the same element at each place are equal.
@@ -31,3 +35,38 @@ slice_get-slice_set_other (x ∷ xs) zero (suc j) y other = refl
 slice_get-slice_set_other (x ∷ xs) (suc i) zero y other = refl
 slice_get-slice_set_other (x ∷ xs) (suc i) (suc j) y other =
     slice_get-slice_set_other xs i j y (λ same. other (ap (λ k. suc k) same))
+
+-- A first item that passes a test counts.
+pub count_by-yes : {X : Type 0} (test : X → Bool) (x : X) (xs : List X) → test x ≡ true
+    → count_by test (x ∷ xs) ≡ suc (count_by test xs)
+count_by-yes test x xs passes =
+    let more : 1 + count_by test xs ≡ suc (count_by test xs) = omega arith in
+    let here : cond (test x) 1 0 ≡ 1 = rw passes refl in
+    sum_by-cons (λ y. cond (test y) 1 0) x xs ∙ ap (λ n. n + count_by test xs) here ∙ more
+
+-- One that doesn't pass doesn't.
+pub count_by-no : {X : Type 0} (test : X → Bool) (x : X) (xs : List X) → test x ≡ false
+    → count_by test (x ∷ xs) ≡ count_by test xs
+count_by-no test x xs fails =
+    let same : 0 + count_by test xs ≡ count_by test xs = omega arith in
+    let here : cond (test x) 1 0 ≡ 0 = rw fails refl in
+    sum_by-cons (λ y. cond (test y) 1 0) x xs ∙ ap (λ n. n + count_by test xs) here ∙ same
+
+-- Before an item that passes a test fewer pass than in all.
+pub count_by-before : {X : Type 0} (test : X → Bool) (xs : List X) (i : ℕ) (x : X)
+    → slice_get xs i ≡ Some x → test x ≡ true → count_by test (take i xs) < count_by test xs
+count_by-before test [] i x at passes = absurd (cc at)
+count_by-before test (first ∷ xs) zero x at passes =
+    let same : first ≡ x = same_Some first x at in
+    let here : test first ≡ true = rw same passes in
+    let counts = count_by-yes test first xs here in
+    omega arith
+count_by-before test (first ∷ xs) (suc i) x at passes =
+    let rest = count_by-before test xs i x at passes in
+    elim (cases_Bool (test first)) [
+      | inl here ↦
+          rw (count_by-yes test first (take i xs) here, count_by-yes test first xs here)
+          (omega arith)
+      | inr other ↦
+          rw (count_by-no test first (take i xs) other, count_by-no test first xs other) rest
+    ]

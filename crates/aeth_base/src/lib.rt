@@ -3,6 +3,7 @@
 #![tactic(auto)]
 
 mod ids;
+mod limits;
 mod memory;
 mod name;
 mod number;
@@ -11,6 +12,7 @@ mod path;
 mod tests;
 
 pub use ids::{Channel, ConnId, CoreId, GroupId, LinkId, NiId, RouterId, Side, Unit, UseId};
+pub use limits::{CREDITS_PER_FLIT, MAX_RECEIVER_DELAY, WORDS_PER_FLIT};
 pub use memory::NoMemory;
 pub use name::{MAX_NAME, Name};
 pub use number::{ceil_div, push_number, read_number};

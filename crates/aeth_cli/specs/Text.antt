@@ -3,7 +3,7 @@
 use Rattle.std.specs.Prelude.{ℕ, ◌+◌, ◌*◌, ◌++◌, List, map, codes, decimal}
 use Rattle.std.specs.List.{join_with_byte}
 use Rattle.aeth_slots.specs.SlotSet.{Slots}
-use Rattle.aeth_server.specs.declared.limits.TheConstants.{WORDS_PER_FLIT}
+use Rattle.aeth_base.specs.declared.limits.TheConstants.{WORDS_PER_FLIT}
 use Rattle.aeth_server.specs.Latency.{latency_of}
 use Rattle.aeth_cli.specs.declared.words.TheConstants.{COMMA}
 

@@ -3,8 +3,8 @@ ghost use Rattle.aeth_cli.specs.Text.{latency_text, list_text};
 ghost use Rattle.std.specs.Prelude.{◌≡◌, ◌≤◌, ◌++◌, IfOk, OnOk, decimal, length};
 
 use crate::words::COMMA;
-use aeth_base::{NoMemory, push_number};
-use aeth_server::{MAX_PATH, WORDS_PER_FLIT, latency};
+use aeth_base::{NoMemory, WORDS_PER_FLIT, push_number};
+use aeth_server::{MAX_PATH, latency};
 use aeth_slots::{MAX_SIZE, SlotSet};
 use std::alloc::Global;
 

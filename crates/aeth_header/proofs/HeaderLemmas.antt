@@ -1,7 +1,8 @@
 -- Laws of header words, so that no other crate looks at bits.
 use Rattle.std.proofs.Common.{◌≡◌, ℕ, ◌/◌, ◌%◌, ◌^◌, ◌<◌, ◌≤◌, Ok, arith}
 use Rattle.std.proofs.lemmas.Bool.Decides.{nat_tests}
-use Rattle.aeth_header.specs.declared.header.TheConstants.{PORT_BITS, FLIT_WORDS}
+use Rattle.aeth_base.specs.declared.limits.TheConstants.{WORDS_PER_FLIT}
+use Rattle.aeth_header.specs.declared.header.TheConstants.{PORT_BITS}
 use Rattle.aeth_header.specs.declared.header.Header.{Header}
 use Rattle.aeth_header.specs.Header.{IsPackable, word_of, fields_of, header_of, port_of, next_word}
 
@@ -22,7 +23,7 @@ unfolding fields_of word_of
 word_of-fields_of word = omega arith
 
 -- The fields of a word can be packed where its payload count is no fault.
-pub IsPackable-fields_of : (word : ℕ) → (fields_of word).count ≤ FLIT_WORDS →
+pub IsPackable-fields_of : (word : ℕ) → (fields_of word).count ≤ WORDS_PER_FLIT →
     IsPackable (fields_of word)
 unfolding fields_of
 IsPackable-fields_of word count_fits =

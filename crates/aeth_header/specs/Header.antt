@@ -5,7 +5,8 @@
 -- remote queue, the credits and the payload count.
 use Rattle.std.specs.Prelude.{ℕ, ◌+◌, ◌*◌, ◌/◌, ◌%◌, ◌^◌, ◌<◌, ◌≤◌, nat_le}
 use Rattle.std.specs.Prelude.{Result, Ok, Err, if◌then◌else◌}
-use Rattle.aeth_header.specs.declared.header.TheConstants.{ROUTE_BITS, PORT_BITS, FLIT_WORDS}
+use Rattle.aeth_base.specs.declared.limits.TheConstants.{WORDS_PER_FLIT}
+use Rattle.aeth_header.specs.declared.header.TheConstants.{ROUTE_BITS, PORT_BITS}
 use Rattle.aeth_header.specs.declared.header.TheConstants.{QUEUE_BITS, CREDITS_BITS}
 use Rattle.aeth_header.specs.declared.header.TheConstants.{QUEUE_SHIFT, CREDITS_SHIFT, COUNT_SHIFT}
 use Rattle.aeth_header.specs.declared.header.Header.{Header}
@@ -16,7 +17,7 @@ pub record IsPackable (header : Header) : Type 0 where
   pub route : header.route < 2 ^ ROUTE_BITS
   pub queue : header.queue < 2 ^ QUEUE_BITS
   pub credits : header.credits < 2 ^ CREDITS_BITS
-  pub count : header.count ≤ FLIT_WORDS
+  pub count : header.count ≤ WORDS_PER_FLIT
 
 -- The word of a header: the sum of its fields, each at its place.
 unfoldable pub word_of : Header → ℕ
@@ -38,7 +39,7 @@ fields_of word = record {
 -- The header of a word: its fields, or a fault where the payload count is above two.
 abbrev pub header_of : ℕ → Result Header HeaderFault
 header_of word =
-    if nat_le (fields_of word).count FLIT_WORDS then Ok (fields_of word) else Err (record {})
+    if nat_le (fields_of word).count WORDS_PER_FLIT then Ok (fields_of word) else Err (record {})
 
 -- The output port that a router takes: the first of the route.
 abbrev pub port_of : ℕ → ℕ

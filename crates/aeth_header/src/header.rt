@@ -6,6 +6,7 @@ ghost use Rattle.aeth_header.specs.Header.{IsPackable, word_of, fields_of, heade
 ghost use Rattle.aeth_header.specs.Header.{port_of, next_word};
 
 use crate::fault::HeaderFault;
+use aeth_base::WORDS_PER_FLIT;
 
 /// The bits of one output port in the route.
 pub const PORT_BITS: u32 = 3;
@@ -33,9 +34,6 @@ pub const CREDITS_SHIFT: u32 = QUEUE_SHIFT + QUEUE_BITS;
 
 /// The lowest bit of the payload count.
 pub const COUNT_SHIFT: u32 = CREDITS_SHIFT + CREDITS_BITS;
-
-/// The most words that a flit carries beside its header.
-pub const FLIT_WORDS: u8 = 2;
 
 const _: () = prove!(COUNT_SHIFT + COUNT_BITS == u32::BITS);
 
@@ -72,7 +70,7 @@ pub fn unpack(word: u32) -> Result<Header, HeaderFault>
     ensures packs { IfOk result (λ header. word_of header ≡ word) }
 {
     let count = (word >> COUNT_SHIFT) as u8;
-    if count > FLIT_WORDS {
+    if u32::from(count) > WORDS_PER_FLIT {
         return Err(HeaderFault);
     }
     Ok(Header {

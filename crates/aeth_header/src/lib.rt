@@ -6,8 +6,8 @@ mod header;
 
 pub use fault::HeaderFault;
 pub use header::{
-    COUNT_BITS, COUNT_SHIFT, CREDITS_BITS, CREDITS_SHIFT, FLIT_WORDS, Header, PORT_BITS,
-    QUEUE_BITS, QUEUE_SHIFT, ROUTE_BITS, ROUTE_PORTS, hop, pack, unpack,
+    COUNT_BITS, COUNT_SHIFT, CREDITS_BITS, CREDITS_SHIFT, Header, PORT_BITS, QUEUE_BITS,
+    QUEUE_SHIFT, ROUTE_BITS, ROUTE_PORTS, hop, pack, unpack,
 };
 
 #[cfg(test)]

@@ -6,7 +6,7 @@ use Rattle.std.specs.List.{list_any}
 use Rattle.aeth_io.specs.Causes.{one_more}
 
 -- What a sink in memory holds and how many bytes it takes, in all and at a call; the numbers of the
--- calls that fail, one_more from 0; and how many calls were made, and how many failed.
+-- calls that fail, counted from 0; and how many calls were made, and how many failed.
 pub record SinkState : Type 0 where
   pub bytes : List ℕ
   pub room : ℕ

@@ -21,9 +21,10 @@ use Rattle.circular_buffer.specs.Buffer.{keep_last}
 use Rattle.aeth_clocked.specs.declared.flit.Flit.{Flit}
 use Rattle.aeth_header.specs.Header.{word_of}
 use Rattle.aeth_header.specs.declared.header.Header.{Header}
-use Rattle.aeth_header.specs.declared.header.TheConstants.{ROUTE_BITS, QUEUE_BITS, FLIT_WORDS}
+use Rattle.aeth_header.specs.declared.header.TheConstants.{ROUTE_BITS, QUEUE_BITS}
+use Rattle.aeth_base.specs.declared.limits.TheConstants.{CREDITS_PER_FLIT, WORDS_PER_FLIT}
 use Rattle.aeth_ni.specs.declared.queue.Route.{Route}
-use Rattle.aeth_ni.specs.declared.queue.TheConstants.{SOURCE_WORDS, FLIT_CREDITS}
+use Rattle.aeth_ni.specs.declared.queue.TheConstants.{SOURCE_WORDS}
 
 -- What one queue number holds: the words that wait to be sent, the words that were received and
 -- not taken, the room for these, the words that the other end has room for, and the credits that
@@ -93,11 +94,11 @@ finished queue = record queue { waiting = []; received = []; counter = 0; owed =
 -- How many words the next flit takes: no more than a flit carries, than wait, and than the other
 -- end has room for.
 abbrev pub words_sent : QueueState → ℕ
-words_sent queue = min (min (length queue.waiting) FLIT_WORDS) queue.counter
+words_sent queue = min (min (length queue.waiting) WORDS_PER_FLIT) queue.counter
 
 -- How many credits it takes: no more than fit its header.
 abbrev pub credits_sent : QueueState → ℕ
-credits_sent queue = min queue.owed FLIT_CREDITS
+credits_sent queue = min queue.owed CREDITS_PER_FLIT
 
 -- Whether there is nothing to send.
 abbrev pub is_idle : QueueState → Bool

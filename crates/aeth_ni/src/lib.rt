@@ -9,6 +9,6 @@ mod tests;
 mod write;
 
 pub use interface::{Ni, QUEUES};
-pub use queue::{FLIT_CREDITS, SOURCE_WORDS};
+pub use queue::SOURCE_WORDS;
 pub use row::ChannelRow;
 pub use write::Write;

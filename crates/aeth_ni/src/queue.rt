@@ -8,18 +8,15 @@ ghost use Rattle.aeth_ni.specs.Queue.{IsRoute, empty_queue, offered, taken, fini
 ghost use Rattle.aeth_ni.specs.Queue.{emitted, sent, landed, words_of};
 ghost use Rattle.aeth_ni.specs.Queue.{stopped, without_route, with_route};
 
-use aeth_base::NoMemory;
+use aeth_base::{CREDITS_PER_FLIT, NoMemory, WORDS_PER_FLIT};
 use aeth_clocked::Flit;
-use aeth_header::{FLIT_WORDS, Header, pack};
+use aeth_header::{Header, pack};
 use circular_buffer::HeapCircularBuffer;
 use std::alloc::Global;
 use std::marker::Model;
 
 /// The most words that wait in a source queue.
 pub const SOURCE_WORDS: usize = 8;
-
-/// The most credits that a flit brings back.
-pub const FLIT_CREDITS: u32 = 15;
 
 /// Where the flits of a queue go.
 #[derive(Clone, Copy, Debug, PartialEq, Eq)]
@@ -143,9 +140,9 @@ impl Queue {
         if self.halted {
             return None;
         }
-        let ready = self.waiting.len().min(FLIT_WORDS as usize) as u32;
+        let ready = self.waiting.len().min(WORDS_PER_FLIT as usize) as u32;
         let count = ready.min(self.counter);
-        let credits = self.owed.min(FLIT_CREDITS);
+        let credits = self.owed.min(CREDITS_PER_FLIT);
         if count == 0 && credits == 0 {
             return None;
         }
@@ -169,7 +166,7 @@ impl Queue {
     /// Puts the words of a flit behind those that were received, of which the newest stay, and
     /// adds its credits to the counter.
     pub(crate) fn land(&mut self, header: &Header, flit: &Flit)
-        requires { header.now.count ≤ FLIT_WORDS }
+        requires { header.now.count ≤ WORDS_PER_FLIT }
         ensures { self.new ≡ landed header.now.credits (words_of header.now flit.now) self.old }
     {
         let words = [flit.first, flit.second];
@@ -181,7 +178,7 @@ impl Queue {
 
 /// Takes out as many words as a flit has, and gives 0 for each that it hasn't.
 fn take_words(waiting: &mut HeapCircularBuffer<u32>, count: u32) -> (u32, u32)
-    requires flit { count ≤ FLIT_WORDS }
+    requires flit { count ≤ WORDS_PER_FLIT }
     requires waiting { count ≤ length waiting.old.items }
     ensures first { result.0 ≡ slice_index (take count waiting.old.items) 0 }
     ensures second { result.1 ≡ slice_index (take count waiting.old.items) 1 }

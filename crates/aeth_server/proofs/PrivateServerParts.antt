@@ -2,7 +2,7 @@
 use Rattle.std.proofs.Common.{◌&&◌, ℕ, ◌+◌, ◌-◌, ◌≤◌, ◌≡◌, ◌∙◌, zero, suc, Bool, true, false, cond}
 use Rattle.std.proofs.Common.{ltb, min, ap, arith}
 use Rattle.std.proofs.lemmas.Bool.{lt-ltb}
-use Rattle.aeth_server.specs.declared.limits.TheConstants.{WORDS_PER_FLIT, CREDITS_PER_FLIT}
+use Rattle.aeth_base.specs.declared.limits.TheConstants.{WORDS_PER_FLIT, CREDITS_PER_FLIT}
 use Rattle.aeth_server.specs.SlotCycles.{is_slot}
 use Rattle.aeth_server.specs.SlotServer.{served}
 use Rattle.aeth_server.specs.Shape.{IsGranted}

@@ -2,7 +2,7 @@
 use Rattle.std.proofs.Common.{ℕ, ◌+◌, ◌-◌, ◌*◌, ◌<◌, ◌≤◌, ◌≡◌, ap, arith}
 use Rattle.aeth_slots.specs.SlotSet.{IsSlotSet}
 use Rattle.aeth_server.specs.declared.shape.ChannelShape.{ChannelShape}
-use Rattle.aeth_server.specs.declared.limits.TheConstants.{WORDS_PER_FLIT, CREDITS_PER_FLIT}
+use Rattle.aeth_base.specs.declared.limits.TheConstants.{WORDS_PER_FLIT, CREDITS_PER_FLIT}
 use Rattle.aeth_server.specs.ChannelShape.{IsInRange, shape_of}
 use Rattle.aeth_server.specs.Shape.{Shape, IsGranted, payload_latency, credit_latency, round_trip}
 use Rattle.aeth_server.specs.Shape.{buffer_of}

@@ -1,8 +1,9 @@
 -- A `ChannelShape` as the shape of a channel.
 use Rattle.std.specs.Prelude.{◌*◌, ◌≤◌, ◌≡◌, length}
 use Rattle.aeth_server.specs.declared.shape.ChannelShape.{ChannelShape}
-use Rattle.aeth_server.specs.declared.limits.TheConstants.{WORDS_PER_FLIT, CREDITS_PER_FLIT}
-use Rattle.aeth_server.specs.declared.limits.TheConstants.{MAX_PATH, MAX_DELAY}
+use Rattle.aeth_base.specs.declared.limits.TheConstants.{WORDS_PER_FLIT, CREDITS_PER_FLIT}
+use Rattle.aeth_base.specs.declared.limits.TheConstants.{MAX_RECEIVER_DELAY}
+use Rattle.aeth_server.specs.declared.limits.TheConstants.{MAX_PATH}
 use Rattle.aeth_server.specs.Shape.{Shape}
 
 -- The rate is that of the need: a flit of words in each slot that is needed.
@@ -28,4 +29,4 @@ pub record IsInRange (shape : ChannelShape) : Type 0 where
   pub most_links : shape.links ≤ MAX_PATH
   pub least_back : 2 ≤ shape.back_links
   pub most_back : shape.back_links ≤ MAX_PATH
-  pub most_delay : shape.delay ≤ MAX_DELAY
+  pub most_delay : shape.delay ≤ MAX_RECEIVER_DELAY

@@ -2,7 +2,7 @@
 use Rattle.std.specs.Prelude.{ℕ, ◌+◌, ◌*◌, ◌≤◌, max, List}
 use Rattle.aeth_slots.specs.declared.slot_set.TheConstants.{MAX_SIZE}
 use Rattle.aeth_server.specs.declared.limits.TheConstants.{MAX_CYCLE, MAX_PATH, MAX_WORDS}
-use Rattle.aeth_server.specs.declared.limits.TheConstants.{WORDS_PER_FLIT}
+use Rattle.aeth_base.specs.declared.limits.TheConstants.{WORDS_PER_FLIT}
 use Rattle.aeth_server.specs.FinishTimes.{finish_time}
 
 -- How far the words of a session are: the table size, the rate and the latency, how many words

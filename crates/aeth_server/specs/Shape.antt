@@ -4,7 +4,7 @@
 use Rattle.std.specs.Prelude.{ℕ, ◌+◌, ◌*◌, ◌≤◌, List, length}
 use Rattle.std.specs.Int.{div_ceil}
 use Rattle.aeth_slots.specs.SlotSet.{Ascends}
-use Rattle.aeth_server.specs.declared.limits.TheConstants.{WORDS_PER_FLIT, CREDITS_PER_FLIT}
+use Rattle.aeth_base.specs.declared.limits.TheConstants.{WORDS_PER_FLIT, CREDITS_PER_FLIT}
 use Rattle.aeth_server.specs.Latency.{latency_of}
 
 -- The shape of a channel: the table size; its slots, and the delay of its path in cycles; its rate

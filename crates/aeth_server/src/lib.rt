@@ -2,6 +2,8 @@
 #![tactic(auto)]
 
 mod due_times;
+#[cfg(test)]
+mod latency_tests;
 pub mod laws;
 mod limits;
 mod private_server;
@@ -11,9 +13,7 @@ mod shape;
 mod tests;
 
 pub use due_times::{Due, deadline};
-pub use limits::{
-    CREDITS_PER_FLIT, MAX_BUFFER, MAX_CYCLE, MAX_DELAY, MAX_PATH, MAX_WORDS, WORDS_PER_FLIT,
-};
+pub use limits::{MAX_BUFFER, MAX_CYCLE, MAX_PATH, MAX_WORDS};
 pub use private_server::{Alone, AloneStep};
 pub use service_latency::latency;
 pub use shape::{ChannelShape, buffer};

@@ -5,8 +5,9 @@ ghost use Rattle.aeth_server.specs.ChannelShape.{IsInRange, shape_of};
 ghost use Rattle.aeth_server.specs.SlotCycles.{is_slot};
 ghost use Rattle.aeth_server.specs.AloneState.{after_cycle, first_state};
 
-use crate::limits::{CREDITS_PER_FLIT, MAX_BUFFER, MAX_CYCLE, MAX_PATH, MAX_WORDS, WORDS_PER_FLIT};
+use crate::limits::{MAX_BUFFER, MAX_CYCLE, MAX_PATH, MAX_WORDS};
 use crate::shape::ChannelShape;
+use aeth_base::{CREDITS_PER_FLIT, WORDS_PER_FLIT};
 use aeth_slots::SlotSet;
 use std::marker::Model;
 

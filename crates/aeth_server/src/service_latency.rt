@@ -3,7 +3,7 @@ ghost use Rattle.std.specs.Prelude.{◌≡◌, ℕ, ◌+◌, ◌*◌, ◌≤◌,
 ghost use Rattle.aeth_server.specs.Extremes.{greatest_below};
 ghost use Rattle.aeth_server.specs.Latency.{BoundsService, latency_for, latency_of};
 
-use crate::limits::CREDITS_PER_FLIT;
+use aeth_base::CREDITS_PER_FLIT;
 use aeth_slots::{MAX_SIZE, SlotSet};
 
 /// The latency, in cycles, of a server that sends up to `cap` words in each of these slots and

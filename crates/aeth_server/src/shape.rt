@@ -3,8 +3,9 @@ ghost use Rattle.std.specs.Prelude.{◌≡◌, ◌+◌, ◌*◌, ◌≤◌};
 ghost use Rattle.aeth_server.specs.ChannelShape.{IsInRange, shape_of};
 ghost use Rattle.aeth_server.specs.Shape.{buffer_of, channel_latency};
 
-use crate::limits::{CREDITS_PER_FLIT, MAX_BUFFER, MAX_PATH, WORDS_PER_FLIT};
+use crate::limits::{MAX_BUFFER, MAX_PATH};
 use crate::service_latency::latency;
+use aeth_base::{CREDITS_PER_FLIT, WORDS_PER_FLIT};
 use aeth_slots::{MAX_SIZE, SlotSet};
 
 /// What one channel is granted and asks for: its slots and the links of its path; the delay in

@@ -1,5 +1,5 @@
 // What no clause says: that the definitions mean what the rules say. They are compared with worked
-// rows, with a plain search, and with a plain table of counts.
+// rows, and with a plain table of counts.
 ghost use Rattle.std.specs.Prelude.{◌≡◌, ◌<◌, ◌≤◌, IfSome};
 ghost use Rattle.aeth_server.specs.ChannelShape.{IsInRange};
 
@@ -7,7 +7,7 @@ use crate::{Alone, AloneStep, ChannelShape, Due, buffer, latency};
 use aeth_slots::SlotSet;
 
 /// The set of those slots whose bit is in the mask.
-fn set_of(size: u32, mask: u32) -> SlotSet
+pub(crate) fn set_of(size: u32, mask: u32) -> SlotSet
     requires some { 1 ≤ size }
     requires within { size ≤ 8 }
     ensures { result.size ≡ size }
@@ -19,56 +19,6 @@ fn set_of(size: u32, mask: u32) -> SlotSet
         }
     }
     set
-}
-
-/// Whether every slot comes in time with this latency, cycle by cycle from every start.
-fn is_enough(size: u32, mask: u32, cap: u32, rate: u32, theta: u32) -> bool
-    requires some { 1 ≤ size }
-    requires within { size ≤ 8 }
-    requires cap { cap ≤ 15 }
-    requires rate { rate ≤ 128 }
-    requires theta { theta ≤ 64 }
-{
-    for start in 0..size {
-        let mut words = 1;
-        for waited in 0..size {
-            if mask >> ((start + waited) % size) & 1 == 1 {
-                if rate * waited > rate * theta + words * size {
-                    return false;
-                }
-                words += cap;
-            }
-        }
-    }
-    true
-}
-
-/// The least latency with which every slot comes in time.
-fn first_enough(size: u32, mask: u32, cap: u32, rate: u32) -> u32
-    requires some { 1 ≤ size }
-    requires within { size ≤ 8 }
-    requires cap { cap ≤ 15 }
-    requires rate { rate ≤ 128 }
-{
-    for theta in 0..size {
-        if is_enough(size, mask, cap, rate, theta) {
-            return theta;
-        }
-    }
-    size
-}
-
-#[test]
-fn latency_is_the_first_that_is_enough(rt: HostRuntime) {
-    for mask in 0..64 {
-        let slots = set_of(6, mask);
-        for cap in 1..4 {
-            for rate in 1..cap * slots.count() + 1 {
-                let theta = first_enough(6, mask, cap, rate);
-                assert_eq!(rt; latency(&slots, cap, rate), theta, "{mask} {cap} {rate}");
-            }
-        }
-    }
 }
 
 /// How many cycles a channel runs in a test.
@@ -140,15 +90,9 @@ fn run(case: &Case) -> [AloneStep; CYCLES]
         let landed = at(&sent, t, case.links as usize);
         arrived[t] = at(&arrived, t, 1).saturating_add(words_in(case, t));
         let waiting = arrived[t].saturating_sub(sent_before);
-        let allowed = case
-            .buffer
-            .saturating_add(returned)
-            .saturating_sub(sent_before);
-        let words = if sends {
-            waiting.min(allowed).min(2)
-        } else {
-            0
-        };
+        let room = case.buffer.saturating_add(returned);
+        let most = waiting.min(room.saturating_sub(sent_before)).min(2);
+        let words = if sends { most } else { 0 };
         let owed = taken_before.saturating_sub(credited_before);
         let credits = if returns { owed.min(15) } else { 0 };
         sent[t] = sent_before.saturating_add(words);
