@@ -1,5 +1,5 @@
 -- Laws of applications.
-use Rattle.std.proofs.Common.{◌≡◌, ◌<◌, ℕ, true, Some, None, length, inl, inr, arith}
+use Rattle.std.proofs.Common.{◌≡◌, ◌<◌, ℕ, true, length, inl, inr, arith}
 use Rattle.std.specs.Prelude.{slice_get, IsSomeAnd, IsTrue}
 use Rattle.std.proofs.lemmas.Option.{slice_get_cases}
 use Rattle.aeth_base.proofs.Lists.{count_by-before}

@@ -1,6 +1,8 @@
+pub mod AppFileLemmas
 pub mod AppLemmas
 mod FileWalks
 mod KeyLemmas
+mod LimitLemmas
 mod NameLemmas
 mod PartLemmas
 mod RangeLemmas

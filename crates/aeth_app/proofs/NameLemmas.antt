@@ -4,7 +4,7 @@ use Rattle.std.proofs.Common.{map, Option, Some, None, refl, sym, ap, inl, inr, 
 use Rattle.std.proofs.Common.{zero, drop, get_or}
 use Rattle.std.proofs.lemmas.Bool.{cases_Bool}
 use Rattle.std.proofs.lemmas.List.{at_drop_more, length-map}
-use Rattle.std.proofs.lemmas.Slice.Eq.{bytes_eq-Decides}
+use Rattle.std.proofs.lemmas.Cmp.{nat_list_eq_equiv}
 use Rattle.std.specs.Prelude.{IfOk, Result}
 use Rattle.std.specs.List.{filter_map, list_any, IsDistinct, AllByRecursion}
 use Rattle.std.specs.Str.{bytes_eq}
@@ -58,16 +58,6 @@ at_middle : (P : List ℕ → Type 0) (before : List (List ℕ)) (name : List �
 at_middle P [] name after each = each.0
 at_middle P (key ∷ before) name after each = at_middle P before name after each.1
 
-bytes_eq-flip : (a b : List ℕ) → bytes_eq a b ≡ false → bytes_eq b a ≡ false
-bytes_eq-flip a b other =
-    elim (cases_Bool (bytes_eq b a)) [
-      | inl equal ↦
-          let same : b ≡ a = (bytes_eq-Decides b a).0 equal in
-          let found : bytes_eq a b ≡ true = (bytes_eq-Decides a b).1 (sym same) in
-          absurd (cc)
-      | inr differs ↦ differs
-    ]
-
 -- A name among distinct ones is none of those before it.
 new_name : (before : List (List ℕ)) (name : List ℕ) (after : List (List ℕ))
     → IsDistinct bytes_eq (before ++ name ∷ after) → list_any (bytes_eq name) before ≡ false
@@ -75,7 +65,8 @@ unfolding IsDistinct
 new_name [] name after apart = refl
 new_name (key ∷ before) name after apart =
     let other = at_middle (λ y. bytes_eq key y ≡ false) before name after apart.0 in
-    rw (bytes_eq-flip key name other) (new_name before name after apart.1)
+    let differs : bytes_eq name key ≡ false = nat_list_eq_equiv.symm name key ∙ other in
+    rw differs (new_name before name after apart.1)
 
 -- So is the next name, where the ones before it are taken.
 pub next_is_new : {X M : Type 0} (view : X → M) (text : M → List ℕ) (xs : List X) (i : ℕ) (x : X)

@@ -1,19 +1,31 @@
--- Parts of an application made from tables, and marks at places.
+-- Parts of an application made from tables: marks, places of names, and what holds of the parts.
+--
+--   each_at, wish_stands    what holds of tables
+--   length-named_marks, named_marks-none, named_marks-known, named_marks-unknown    marks
+--   end_of-within, ni_of-within    places of names
+--   IsFixedBelow, cores_fixed, uses_marked    what holds of cores and use cases
 use Rattle.std.proofs.Common.{◌≡◌, ◌+◌, ◌++◌, ◌<◌, ℕ, zero, suc, true, false, List, [], ◌∷◌}
-use Rattle.std.proofs.Common.{length, map, get_or, Option, Some, None, refl, ap, arith}
-use Rattle.std.proofs.Common.{Bool, ◌||◌, ◌==◌, inl, inr}
-use Rattle.std.specs.Prelude.{All, option_map, replicate, unwrap_or, IsSome}
+use Rattle.std.proofs.Common.{length, map, get_or, Option, Some, None, refl, ap, arith, Bool}
+use Rattle.std.proofs.Common.{◌||◌, ◌==◌, inl, inr, subst}
+use Rattle.std.specs.Prelude.{All, option_map, replicate, unwrap_or, IsSome, codes}
 use Rattle.std.specs.List.{filter_map, list_any, range_with_len, slice_set}
 use Rattle.std.proofs.lemmas.Bool.{cases_Bool, ne_eqb}
 use Rattle.std.proofs.lemmas.Bool.Decides.{Decides-eqb}
 use Rattle.std.proofs.lemmas.List.{append-nil}
 use Rattle.std.proofs.lemmas.List.FromFn.{length-map-range_with_len}
-use Rattle.std.proofs.lemmas.List.Elements.{All-head, All-tail, filter_map-append}
+use Rattle.std.proofs.lemmas.List.Elements.{All-head, All-tail, filter_map-append, All-cons}
+use Rattle.std.proofs.lemmas.List.Elements.{All-nil}
 use Rattle.toml.specs.Data.{Members, no_members}
-use Rattle.aeth_document.specs.Values.{integer_at}
+use Rattle.aeth_document.specs.Values.{integer_at, text_if, texts_at}
 use Rattle.aeth_document.specs.Walks.{place_of}
-use Rattle.aeth_app.specs.Parts.{named_marks}
+use Rattle.aeth_app.specs.Parts.{named_marks, core_of, end_of, ni_of, use_of}
 use Rattle.aeth_app.specs.Ranges.{IsWishInRange}
+use Rattle.std.proofs.lemmas.Option.{same_Some}
+use Rattle.aeth_base.specs.declared.ids.NiId.{NiId}
+use Rattle.aeth_document.proofs.WalkLemmas.{place_of-within}
+use Rattle.aeth_app.specs.declared.connection.Core.{Core}
+use Rattle.aeth_app.specs.App.{IsUse}
+use Rattle.aeth_app.specs.Names.{unknown}
 
 -- What holds of all things that are seen, holds of each.
 pub each_at : {X M : Type 0} (view : X → M) (P : M → Type 0) (xs : List X) (i : ℕ) (x : X)
@@ -112,3 +124,54 @@ unfolding integer_at
 wish_stands view None None is range = absurd (omega (arith, range.some_per))
 wish_stands view None (Some wish) is range = absurd (cc is)
 wish_stands view (Some table) found is range = refl
+
+end_within : (names : List (List ℕ)) (text : List ℕ) (place : Option ℕ)
+    → place_of names text ≡ place → unknown names text ≡ None
+    → (end_of names text).0 < length names
+end_within names text None is known = absurd (cc (rw is at known))
+end_within names text (Some place) is known = rw is (place_of-within names text place is)
+
+-- An end that isn't unknown is one of the cores.
+pub end_of-within : (names : List (List ℕ)) (text : List ℕ) → unknown names text ≡ None
+    → (end_of names text).0 < length names
+end_of-within names text known = end_within names text (place_of names text) refl known
+
+ni_within : (nis : List (List ℕ)) (text : List ℕ) (place : Option ℕ) (ni : NiId)
+    → place_of nis text ≡ place → option_map (λ p. record { 0 = p }) place ≡ Some ni
+    → ni.0 < length nis
+ni_within nis text None ni is found = absurd (cc found)
+ni_within nis text (Some place) ni is found =
+    let within = place_of-within nis text place is in
+    let same : record { 0 = place } ≡ ni = same_Some _ _ found in
+    subst (λ (n : NiId). n.0 < length nis) same within
+
+-- A network interface that a text names is one of the chip's.
+pub ni_of-within : (nis : List (List ℕ)) (text : Option (List ℕ)) (ni : NiId)
+    → ni_of nis text ≡ Some ni → ni.0 < length nis
+ni_of-within nis None ni found = absurd (cc found)
+ni_of-within nis (Some text) ni found = ni_within nis text (place_of nis text) ni refl found
+
+-- What holds of a core's network interface, if it has one.
+abbrev pub IsFixedBelow : ℕ → Core → Type 0
+IsFixedBelow nis core = (ni : NiId) → core.fixed ≡ Some ni → ni.0 < nis
+
+-- The network interfaces of the cores are the chip's.
+pub cores_fixed : (nis : List (List ℕ)) (tables : List Members)
+    → All (IsFixedBelow (length nis)) (map (core_of nis) tables)
+cores_fixed nis [] = All-nil (IsFixedBelow (length nis))
+cores_fixed nis (table ∷ tables) =
+    All-cons (IsFixedBelow (length nis)) (core_of nis table) (map (core_of nis) tables)
+    (ni_of-within nis (text_if (codes "ni") table)) (cores_fixed nis tables)
+
+-- Each use case has a mark for each connection and for each use case.
+pub uses_marked : (connections uses : List (List ℕ)) (tables : List Members)
+    → All (IsUse (length connections) (length uses)) (map (use_of connections uses) tables)
+uses_marked connections uses [] = All-nil (IsUse (length connections) (length uses))
+uses_marked connections uses (table ∷ tables) =
+    All-cons (IsUse (length connections) (length uses)) (use_of connections uses table)
+    (map (use_of connections uses) tables)
+    (record {
+      has = length-named_marks connections (texts_at (codes "connections") table);
+      smooth = length-named_marks uses (texts_at (codes "smooth") table);
+    })
+    (uses_marked connections uses tables)

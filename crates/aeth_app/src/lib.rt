@@ -16,8 +16,6 @@ mod repeats;
 mod use_case;
 
 pub use app::{App, MAX_CONNECTIONS, MAX_CORE_CONNECTIONS, MAX_CORES, MAX_DETOUR, MAX_USES, SEATS};
-pub use connection::{
-    Connection, Core, MAX_LATENCY, MAX_PER, MAX_WORDS, Price, Wish,
-};
+pub use connection::{Connection, Core, MAX_LATENCY, MAX_PER, MAX_WORDS, Price, Wish};
 pub use fault::AppFault;
 pub use reading::read_app;

@@ -2,3 +2,4 @@ mod Documents
 pub mod Tables
 pub mod Least
 pub mod WalkLemmas
+pub mod ChainLemmas

@@ -3,18 +3,21 @@
 use Rattle.std.proofs.Common.{◌≡◌, ◌∙◌, ◌<◌, ◌≤◌, ℕ, Bool, List, length, sym, ap}
 use Rattle.std.proofs.Common.{inl, inr, arith}
 use Rattle.std.proofs.lemmas.Bool.{cases_order}
+use Rattle.std.specs.List.{range_with_len}
+use Rattle.std.proofs.lemmas.List.FromFn.{length-range_with_len}
+use Rattle.std.proofs.lemmas.List.Sums.{count_by-le-length}
 use Rattle.aeth_app.specs.App.{UseData}
 use Rattle.aeth_group.specs.Chains.{SameGroup}
 use Rattle.aeth_group.specs.Groups.{group_count, group_of, in_one_group}
 use Rattle.aeth_group.specs.Marks.{marked}
-use Rattle.aeth_group.specs.Numbering.{class_of, first_with, firsts_below}
+use Rattle.aeth_group.specs.Numbering.{class_of, first_with, firsts_below, is_first}
 use Rattle.aeth_group.proofs.ChainLemmas.{in_one_group-refl, in_one_group-sym, in_one_group-trans}
 use Rattle.aeth_group.proofs.ChainLemmas.{in_one_group_from_same_group}
 use Rattle.aeth_group.proofs.ChainLemmas.{same_group_from_in_one_group}
 use Rattle.aeth_group.proofs.NumberingLemmas.{AreClasses, class_first, class_of-below, class_of-lt}
-use Rattle.aeth_group.proofs.NumberingLemmas.{class_of-same, class_of-together, first_with-least}
+use Rattle.aeth_group.proofs.NumberingLemmas.{class_of-same, class_of-joined, first_with-least}
 use Rattle.aeth_group.proofs.NumberingLemmas.{belongs_to_first, first_with-low}
-use Rattle.aeth_group.proofs.NumberingLemmas.{firsts_below-same, together_from_class}
+use Rattle.aeth_group.proofs.NumberingLemmas.{firsts_below-same, joined_from_class}
 
 -- Being in one group is an equivalence.
 groups_are_classes : (uses : List UseData) → AreClasses (in_one_group uses) (length uses)
@@ -29,7 +32,7 @@ pub group_of_from_same_group : (uses : List UseData) (u v : ℕ) → u < length 
     → v < length uses → SameGroup uses u v → group_of uses u ≡ group_of uses v
 unfolding group_of
 group_of_from_same_group uses u v first second joined =
-    class_of-together (in_one_group uses) (length uses) u v (groups_are_classes uses) first second
+    class_of-joined (in_one_group uses) (length uses) u v (groups_are_classes uses) first second
     (in_one_group_from_same_group uses u v joined)
 
 -- Use cases with one group are joined by a chain.
@@ -38,7 +41,7 @@ pub same_group_from_group_of : (uses : List UseData) (u v : ℕ) → u < length 
 unfolding group_of
 same_group_from_group_of uses u v first second same =
     same_group_from_in_one_group uses u v
-    (together_from_class (in_one_group uses) (length uses) u v (groups_are_classes uses) first
+    (joined_from_class (in_one_group uses) (length uses) u v (groups_are_classes uses) first
     second same)
 
 -- The number of a group is below that of groups.
@@ -47,6 +50,15 @@ pub group_of-below : (uses : List UseData) (u : ℕ) → u < length uses
 unfolding group_of group_count
 group_of-below uses u within =
     class_of-below (in_one_group uses) (length uses) u (groups_are_classes uses) within
+
+-- There are at most as many groups as use cases.
+pub group_count-le : (uses : List UseData) → group_count uses ≤ length uses
+unfolding group_count
+group_count-le uses =
+    let long = length-range_with_len 0 (length uses) in
+    let most = count_by-le-length (is_first (in_one_group uses) (length uses))
+    (range_with_len 0 (length uses)) in
+    omega arith
 
 -- The least use case of a group.
 pub record GroupFirst (uses : List UseData) (g : ℕ) : Type 0 where
@@ -67,7 +79,7 @@ group_first uses g low =
       below = class.below;
       is = class.is;
       least = λ v within is.
-          let joined = together_from_class test count class.first v (groups_are_classes uses)
+          let joined = joined_from_class test count class.first v (groups_are_classes uses)
           class.below within (class.is ∙ sym is) in
           let most = first_with-least test count class.first v joined in
           let least = class.least in

@@ -7,4 +7,4 @@ mod NumberingLemmas
 pub mod GroupLemmas
 pub mod MemberLemmas
 mod MakingLemmas
-mod UnitLemmas
+pub mod UnitLemmas

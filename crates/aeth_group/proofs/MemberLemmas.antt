@@ -1,16 +1,63 @@
 -- Laws of the groups of an application: what their readers tell, over the application.
 use Rattle.std.proofs.Common.{◌≡◌, ◌∙◌, ◌<◌, ◌&&◌, ◌||◌, ◌==◌, ℕ, Bool, true, false, List, [], ◌∷◌}
-use Rattle.std.proofs.Common.{length, map, refl, sym, ap, arith}
-use Rattle.std.specs.Prelude.{Some, slice_get, unwrap_or}
+use Rattle.std.proofs.Common.{◌≤◌, length, map, refl, sym, ap, subst, arith}
+use Rattle.std.specs.Prelude.{All, Some, slice_get, unwrap_or}
 use Rattle.std.specs.List.{list_any, range_with_len}
 use Rattle.std.proofs.lemmas.Bool.{and_from, and_parts, eq-eqb, eqb-true}
 use Rattle.std.proofs.lemmas.List.FromFn.{get_or-map-range_with_len, length-map-range_with_len}
 use Rattle.std.proofs.lemmas.Option.{slice_get-get_or}
 use Rattle.aeth_app.specs.App.{AppData, UseData, has_connection, is_marked}
-use Rattle.aeth_group.specs.Groups.{group_of}
-use Rattle.aeth_group.specs.Members.{UseGroupData, are_together, group_at, group_in}
+use Rattle.aeth_app.specs.declared.app.TheConstants.{MAX_CONNECTIONS, MAX_USES}
+use Rattle.aeth_group.specs.Groups.{group_count, group_of}
+use Rattle.aeth_group.specs.Members.{IsGroups, UseGroupData, are_together, group_at, group_in}
 use Rattle.aeth_group.specs.Members.{groups_of, has_at, has_in, is_kept, is_member, use_group}
+use Rattle.aeth_group.proofs.GroupLemmas.{group_count-le, group_of-below}
 use Rattle.aeth_group.proofs.Ranges.{any_from_passer, passer_from_any}
+
+-- ---- all use cases
+
+-- The groups of all use cases are below their number.
+uses_below : (app : AppData)
+    → All (λ one. one.group < group_count app.uses)
+    (map (use_group app) (range_with_len 0 (length app.uses)))
+uses_below app k default low =
+    let count = length app.uses in
+    let long = length-map-range_with_len (use_group app) 0 count in
+    let within : k < count = omega arith in
+    let there =
+    get_or-map-range_with_len (use_group app) 0 count k k default within (omega arith) in
+    subst (λ (one : UseGroupData). one.group < group_count app.uses) (sym there)
+    (group_of-below app.uses k within)
+
+-- There are as many use cases.
+pub length-groups_of : (app : AppData) → length (groups_of app).uses ≡ length app.uses
+unfolding groups_of
+length-groups_of app = length-map-range_with_len (use_group app) 0 (length app.uses)
+
+-- There are as many connections.
+pub connections-groups_of : (app : AppData)
+    → (groups_of app).connections ≡ length app.connections
+unfolding groups_of
+connections-groups_of app = refl
+
+-- There are as many groups.
+pub count-groups_of : (app : AppData) → (groups_of app).count ≡ group_count app.uses
+unfolding groups_of
+count-groups_of app = refl
+
+-- What holds of all groups holds of those of an application within its limits.
+pub is_groups-groups_of : (app : AppData) → length app.connections ≤ MAX_CONNECTIONS
+    → length app.uses ≤ MAX_USES → IsGroups (groups_of app)
+unfolding groups_of
+is_groups-groups_of app connections uses =
+    let few = group_count-le app.uses in
+    let long = length-map-range_with_len (use_group app) 0 (length app.uses) in
+    record {
+      connections = connections;
+      count = omega arith;
+      uses = omega arith;
+      below = uses_below app;
+    }
 
 -- ---- one use case
 

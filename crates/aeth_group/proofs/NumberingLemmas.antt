@@ -21,189 +21,189 @@ at_place test count k low =
     ap test is
 
 -- The least number is where no lesser number belongs to it, and it does unless it is the count.
-pub first_with_is : (together : ℕ → ℕ → Bool) (count u first : ℕ) → first ≤ count
-    → ((k : ℕ) → k < first → together u k ≡ false) → (first < count → together u first ≡ true)
-    → first_with together count u ≡ first
-first_with_is together count u first few none some =
+pub first_with_is : (joined : ℕ → ℕ → Bool) (count u first : ℕ) → first ≤ count
+    → ((k : ℕ) → k < first → joined u k ≡ false) → (first < count → joined u first ≡ true)
+    → first_with joined count u ≡ first
+first_with_is joined count u first few none some =
     let size = length-range_with_len 0 count in
-    position_or_len_is (together u) (range_with_len 0 count) first 0 (omega arith)
-    (λ k low. at_place (together u) count k (omega arith) ∙ none k low)
-    (λ low. at_place (together u) count first (omega arith) ∙ some (omega arith))
+    position_or_len_is (joined u) (range_with_len 0 count) first 0 (omega arith)
+    (λ k low. at_place (joined u) count k (omega arith) ∙ none k low)
+    (λ low. at_place (joined u) count first (omega arith) ∙ some (omega arith))
 
 -- The least number is at most the count.
-pub first_with-le : (together : ℕ → ℕ → Bool) (count u : ℕ) → first_with together count u ≤ count
-first_with-le together count u =
+pub first_with-le : (joined : ℕ → ℕ → Bool) (count u : ℕ) → first_with joined count u ≤ count
+first_with-le joined count u =
     let size = length-range_with_len 0 count in
-    let most : first_with together count u ≤ length (range_with_len 0 count) =
+    let most : first_with joined count u ≤ length (range_with_len 0 count) =
     prefix_len-le-length _ (range_with_len 0 count) in
     omega arith
 
 -- No lesser number belongs to it.
-pub none_before_first : (together : ℕ → ℕ → Bool) (count u k : ℕ)
-    → k < first_with together count u → together u k ≡ false
-none_before_first together count u k low =
-    let most = first_with-le together count u in
-    sym (at_place (together u) count k (omega arith))
-    ∙ fails_before_first (together u) (range_with_len 0 count) k 0 low
+pub none_before_first : (joined : ℕ → ℕ → Bool) (count u k : ℕ)
+    → k < first_with joined count u → joined u k ≡ false
+none_before_first joined count u k low =
+    let most = first_with-le joined count u in
+    sym (at_place (joined u) count k (omega arith))
+    ∙ fails_before_first (joined u) (range_with_len 0 count) k 0 low
 
 -- It belongs to it, unless none does.
-pub first_belongs : (together : ℕ → ℕ → Bool) (count u : ℕ) → first_with together count u < count
-    → together u (first_with together count u) ≡ true
-first_belongs together count u low =
+pub first_belongs : (joined : ℕ → ℕ → Bool) (count u : ℕ) → first_with joined count u < count
+    → joined u (first_with joined count u) ≡ true
+first_belongs joined count u low =
     let size = length-range_with_len 0 count in
-    sym (at_place (together u) count (first_with together count u) low)
-    ∙ passes_at_first (together u) (range_with_len 0 count) 0 (omega arith)
+    sym (at_place (joined u) count (first_with joined count u) low)
+    ∙ passes_at_first (joined u) (range_with_len 0 count) 0 (omega arith)
 
 -- It is at most any number that belongs to it.
-pub first_with-least : (together : ℕ → ℕ → Bool) (count u v : ℕ) → together u v ≡ true
-    → first_with together count u ≤ v
-first_with-least together count u v is = elim (cases_lt v (first_with together count u)) [
-  | inl low ↦ absurd (both_ways _ (none_before_first together count u v low) is)
+pub first_with-least : (joined : ℕ → ℕ → Bool) (count u v : ℕ) → joined u v ≡ true
+    → first_with joined count u ≤ v
+first_with-least joined count u v is = elim (cases_lt v (first_with joined count u)) [
+  | inl low ↦ absurd (both_ways _ (none_before_first joined count u v low) is)
   | inr high ↦ high
 ]
 
 -- ---- tests that agree
 
 -- Tests that agree give the same least number.
-first_with-same : (together other : ℕ → ℕ → Bool) (count u : ℕ)
-    → ((v : ℕ) → v < count → together u v ≡ other u v)
-    → first_with together count u ≡ first_with other count u
-first_with-same together other count u same =
+first_with-same : (joined other : ℕ → ℕ → Bool) (count u : ℕ)
+    → ((v : ℕ) → v < count → joined u v ≡ other u v)
+    → first_with joined count u ≡ first_with other count u
+first_with-same joined other count u same =
     let most = first_with-le other count u in
-    first_with_is together count u (first_with other count u) most
+    first_with_is joined count u (first_with other count u) most
     (λ k low. same k (omega arith) ∙ none_before_first other count u k low)
     (λ low. same (first_with other count u) low ∙ first_belongs other count u low)
 
 -- Tests that agree count as many least numbers.
-pub firsts_below-same : (together other : ℕ → ℕ → Bool) (count bound : ℕ) → bound ≤ count
-    → ((u v : ℕ) → u < count → v < count → together u v ≡ other u v)
-    → firsts_below together count bound ≡ firsts_below other count bound
-firsts_below-same together other count bound few same =
-    count_by-range_same (is_first together count) (is_first other count) bound
+pub firsts_below-same : (joined other : ℕ → ℕ → Bool) (count bound : ℕ) → bound ≤ count
+    → ((u v : ℕ) → u < count → v < count → joined u v ≡ other u v)
+    → firsts_below joined count bound ≡ firsts_below other count bound
+firsts_below-same joined other count bound few same =
+    count_by-range_same (is_first joined count) (is_first other count) bound
     (λ u low. ap (λ first. eqb first u)
-    (first_with-same together other count u (λ v. same u v (omega arith))))
+    (first_with-same joined other count u (λ v. same u v (omega arith))))
 
 -- Tests that agree give the same classes.
-pub class_of-same : (together other : ℕ → ℕ → Bool) (count u : ℕ) → u < count
-    → ((a b : ℕ) → a < count → b < count → together a b ≡ other a b)
-    → class_of together count u ≡ class_of other count u
-class_of-same together other count u within same =
-    let first = first_with-same together other count u (λ v. same u v within) in
+pub class_of-same : (joined other : ℕ → ℕ → Bool) (count u : ℕ) → u < count
+    → ((a b : ℕ) → a < count → b < count → joined a b ≡ other a b)
+    → class_of joined count u ≡ class_of other count u
+class_of-same joined other count u within same =
+    let first = first_with-same joined other count u (λ v. same u v within) in
     let few = first_with-le other count u in
-    ap (firsts_below together count) first
-    ∙ firsts_below-same together other count (first_with other count u) few same
+    ap (firsts_below joined count) first
+    ∙ firsts_below-same joined other count (first_with other count u) few same
 
 -- ---- classes of an equivalence
 
 -- The test is an equivalence on the numbers below a count.
-pub record AreClasses (together : ℕ → ℕ → Bool) (count : ℕ) : Type 0 where
-  pub itself : (u : ℕ) → u < count → together u u ≡ true
-  pub back : (u v : ℕ) → u < count → together u v ≡ true → together v u ≡ true
-  pub onward : (u w v : ℕ) → together u w ≡ true → together w v ≡ true → together u v ≡ true
+pub record AreClasses (joined : ℕ → ℕ → Bool) (count : ℕ) : Type 0 where
+  pub itself : (u : ℕ) → u < count → joined u u ≡ true
+  pub back : (u v : ℕ) → u < count → joined u v ≡ true → joined v u ≡ true
+  pub onward : (u w v : ℕ) → joined u w ≡ true → joined w v ≡ true → joined u v ≡ true
 
 -- The least number of a class is at most each of it.
-pub first_with-low : (together : ℕ → ℕ → Bool) (count u : ℕ) → AreClasses together count
-    → u < count → first_with together count u ≤ u
-first_with-low together count u classes within =
-    first_with-least together count u u (classes.itself u within)
+pub first_with-low : (joined : ℕ → ℕ → Bool) (count u : ℕ) → AreClasses joined count
+    → u < count → first_with joined count u ≤ u
+first_with-low joined count u classes within =
+    first_with-least joined count u u (classes.itself u within)
 
 -- A number belongs to the least of its class.
-pub belongs_to_first : (together : ℕ → ℕ → Bool) (count u : ℕ) → AreClasses together count
-    → u < count → together u (first_with together count u) ≡ true
-belongs_to_first together count u classes within =
-    let low = first_with-low together count u classes within in
-    first_belongs together count u (omega arith)
+pub belongs_to_first : (joined : ℕ → ℕ → Bool) (count u : ℕ) → AreClasses joined count
+    → u < count → joined u (first_with joined count u) ≡ true
+belongs_to_first joined count u classes within =
+    let low = first_with-low joined count u classes within in
+    first_belongs joined count u (omega arith)
 
 -- Numbers that belong together have the same least number.
-pub first_with-together : (together : ℕ → ℕ → Bool) (count u v : ℕ) → AreClasses together count
-    → u < count → v < count → together u v ≡ true
-    → first_with together count u ≡ first_with together count v
-first_with-together together count u v classes first second is =
-    let mine = first_with-least together count u (first_with together count v)
-    (classes.onward u v _ is (belongs_to_first together count v classes second)) in
-    let other = first_with-least together count v (first_with together count u)
+pub first_with-joined : (joined : ℕ → ℕ → Bool) (count u v : ℕ) → AreClasses joined count
+    → u < count → v < count → joined u v ≡ true
+    → first_with joined count u ≡ first_with joined count v
+first_with-joined joined count u v classes first second is =
+    let mine = first_with-least joined count u (first_with joined count v)
+    (classes.onward u v _ is (belongs_to_first joined count v classes second)) in
+    let other = first_with-least joined count v (first_with joined count u)
     (classes.onward v u _ (classes.back u v first is)
-    (belongs_to_first together count u classes first)) in
+    (belongs_to_first joined count u classes first)) in
     omega arith
 
 -- Numbers with the same least number belong together.
-pub together_from_first : (together : ℕ → ℕ → Bool) (count u v : ℕ) → AreClasses together count
-    → u < count → v < count → first_with together count u ≡ first_with together count v
-    → together u v ≡ true
-together_from_first together count u v classes first second same =
-    classes.onward u (first_with together count u) v
-    (belongs_to_first together count u classes first)
-    (subst (λ (p : ℕ). together p v ≡ true) (sym same)
-    (classes.back v (first_with together count v) second
-    (belongs_to_first together count v classes second)))
+pub joined_from_first : (joined : ℕ → ℕ → Bool) (count u v : ℕ) → AreClasses joined count
+    → u < count → v < count → first_with joined count u ≡ first_with joined count v
+    → joined u v ≡ true
+joined_from_first joined count u v classes first second same =
+    classes.onward u (first_with joined count u) v
+    (belongs_to_first joined count u classes first)
+    (subst (λ (p : ℕ). joined p v ≡ true) (sym same)
+    (classes.back v (first_with joined count v) second
+    (belongs_to_first joined count v classes second)))
 
 -- The least of a class is the least of its own class.
-pub first_is_first : (together : ℕ → ℕ → Bool) (count u : ℕ) → AreClasses together count
-    → u < count → is_first together count (first_with together count u) ≡ true
-first_is_first together count u classes within =
-    let first = first_with together count u in
-    let low = first_with-low together count u classes within in
-    eq-eqb (first_with together count first) first
-    (first_with-together together count first u classes (omega arith) within
-    (classes.back u first within (belongs_to_first together count u classes within)))
+pub first_is_first : (joined : ℕ → ℕ → Bool) (count u : ℕ) → AreClasses joined count
+    → u < count → is_first joined count (first_with joined count u) ≡ true
+first_is_first joined count u classes within =
+    let first = first_with joined count u in
+    let low = first_with-low joined count u classes within in
+    eq-eqb (first_with joined count first) first
+    (first_with-joined joined count first u classes (omega arith) within
+    (classes.back u first within (belongs_to_first joined count u classes within)))
 
 -- ---- numbers of classes
 
 -- Numbers that belong together have one class.
-pub class_of-together : (together : ℕ → ℕ → Bool) (count u v : ℕ) → AreClasses together count
-    → u < count → v < count → together u v ≡ true
-    → class_of together count u ≡ class_of together count v
-class_of-together together count u v classes first second is =
-    ap (firsts_below together count)
-    (first_with-together together count u v classes first second is)
+pub class_of-joined : (joined : ℕ → ℕ → Bool) (count u v : ℕ) → AreClasses joined count
+    → u < count → v < count → joined u v ≡ true
+    → class_of joined count u ≡ class_of joined count v
+class_of-joined joined count u v classes first second is =
+    ap (firsts_below joined count)
+    (first_with-joined joined count u v classes first second is)
 
 -- A class with a lesser least number has a lesser number.
-pub class_of-lt : (together : ℕ → ℕ → Bool) (count u v : ℕ) → AreClasses together count
-    → u < count → first_with together count u < first_with together count v
-    → class_of together count u < class_of together count v
-class_of-lt together count u v classes within low =
-    count_by-range_lt (is_first together count) (first_with together count u)
-    (first_with together count v) low (first_is_first together count u classes within)
+pub class_of-lt : (joined : ℕ → ℕ → Bool) (count u v : ℕ) → AreClasses joined count
+    → u < count → first_with joined count u < first_with joined count v
+    → class_of joined count u < class_of joined count v
+class_of-lt joined count u v classes within low =
+    count_by-range_lt (is_first joined count) (first_with joined count u)
+    (first_with joined count v) low (first_is_first joined count u classes within)
 
 -- Numbers of one class belong together.
-pub together_from_class : (together : ℕ → ℕ → Bool) (count u v : ℕ) → AreClasses together count
-    → u < count → v < count → class_of together count u ≡ class_of together count v
-    → together u v ≡ true
-together_from_class together count u v classes first second same =
-    elim (cases_order (first_with together count u) (first_with together count v)) [
-      | inl equal ↦ together_from_first together count u v classes first second equal
+pub joined_from_class : (joined : ℕ → ℕ → Bool) (count u v : ℕ) → AreClasses joined count
+    → u < count → v < count → class_of joined count u ≡ class_of joined count v
+    → joined u v ≡ true
+joined_from_class joined count u v classes first second same =
+    elim (cases_order (first_with joined count u) (first_with joined count v)) [
+      | inl equal ↦ joined_from_first joined count u v classes first second equal
       | inr apart ↦ elim apart [
         | inl low ↦
-            let less = class_of-lt together count u v classes first low in absurd (omega arith)
+            let less = class_of-lt joined count u v classes first low in absurd (omega arith)
         | inr high ↦
-            let less = class_of-lt together count v u classes second high in absurd (omega arith)
+            let less = class_of-lt joined count v u classes second high in absurd (omega arith)
       ]
     ]
 
 -- The number of a class is below their number.
-pub class_of-below : (together : ℕ → ℕ → Bool) (count u : ℕ) → AreClasses together count
-    → u < count → class_of together count u < firsts_below together count count
-class_of-below together count u classes within =
-    let low = first_with-low together count u classes within in
-    count_by-range_lt (is_first together count) (first_with together count u) count (omega arith)
-    (first_is_first together count u classes within)
+pub class_of-below : (joined : ℕ → ℕ → Bool) (count u : ℕ) → AreClasses joined count
+    → u < count → class_of joined count u < firsts_below joined count count
+class_of-below joined count u classes within =
+    let low = first_with-low joined count u classes within in
+    count_by-range_lt (is_first joined count) (first_with joined count u) count (omega arith)
+    (first_is_first joined count u classes within)
 
 -- The least number of a class with this number.
-pub record ClassFirst (together : ℕ → ℕ → Bool) (count class : ℕ) : Type 0 where
+pub record ClassFirst (joined : ℕ → ℕ → Bool) (count class : ℕ) : Type 0 where
   pub first : ℕ
   pub below : first < count
-  pub least : first_with together count first ≡ first
-  pub is : class_of together count first ≡ class
+  pub least : first_with joined count first ≡ first
+  pub is : class_of joined count first ≡ class
 
 -- Each number below that of classes is the number of one.
-pub class_first : (together : ℕ → ℕ → Bool) (count class : ℕ)
-    → class < firsts_below together count count → ClassFirst together count class
-class_first together count class low =
-    let nth = nth_passer (is_first together count) count class low in
-    let least = eqb-true (first_with together count nth.number) nth.number nth.passes in
+pub class_first : (joined : ℕ → ℕ → Bool) (count class : ℕ)
+    → class < firsts_below joined count count → ClassFirst joined count class
+class_first joined count class low =
+    let nth = nth_passer (is_first joined count) count class low in
+    let least = eqb-true (first_with joined count nth.number) nth.number nth.passes in
     record {
       first = nth.number;
       below = nth.below;
       least = least;
-      is = ap (firsts_below together count) least ∙ nth.before;
+      is = ap (firsts_below joined count) least ∙ nth.before;
     }

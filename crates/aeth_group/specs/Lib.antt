@@ -3,4 +3,3 @@ pub mod Numbering
 pub mod Groups
 pub mod Marks
 pub mod Members
-pub use Rattle.aeth_app.specs.App

@@ -59,13 +59,13 @@ abbrev pub group_at : GroupsData → ℕ → ℕ
 group_at groups u = group_in (slice_get groups.uses u)
 
 -- Whether a use case, which may be missing, has a connection.
-abbrev pub has_in : Option UseGroupData → ℕ → Bool
-has_in (Some one) c = is_marked one.has c
-has_in None c = false
+abbrev pub use_has : Option UseGroupData → ℕ → Bool
+use_has (Some one) c = is_marked one.has c
+use_has None c = false
 
 -- Whether a use case has a connection.
 abbrev pub has_at : GroupsData → ℕ → ℕ → Bool
-has_at groups u c = has_in (slice_get groups.uses u) c
+has_at groups u c = use_has (slice_get groups.uses u) c
 
 -- Whether some use case of a group has a connection.
 abbrev pub is_member : GroupsData → ℕ → ℕ → Bool

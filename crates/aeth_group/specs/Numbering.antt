@@ -11,17 +11,17 @@ use Rattle.std.specs.List.{position_or_len, range_with_len}
 
 -- The least number below a count that belongs to a number; the count where none does.
 abbrev pub first_with : (ℕ → ℕ → Bool) → ℕ → ℕ → ℕ
-first_with together count u = position_or_len (together u) (range_with_len 0 count)
+first_with joined count u = position_or_len (joined u) (range_with_len 0 count)
 
 -- Whether a number is the least of its class.
 abbrev pub is_first : (ℕ → ℕ → Bool) → ℕ → ℕ → Bool
-is_first together count u = first_with together count u == u
+is_first joined count u = first_with joined count u == u
 
 -- How many numbers below a bound are the least of their classes.
 abbrev pub firsts_below : (ℕ → ℕ → Bool) → ℕ → ℕ → ℕ
-firsts_below together count bound =
-    count_by (is_first together count) (range_with_len 0 bound)
+firsts_below joined count bound =
+    count_by (is_first joined count) (range_with_len 0 bound)
 
 -- The number of a number's class: how many classes have a lesser least member.
 abbrev pub class_of : (ℕ → ℕ → Bool) → ℕ → ℕ → ℕ
-class_of together count u = firsts_below together count (first_with together count u)
+class_of joined count u = firsts_below joined count (first_with joined count u)

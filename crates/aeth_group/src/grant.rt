@@ -3,7 +3,7 @@
 use aeth_base::{CoreId, NiId, Path, Side, Unit};
 use aeth_slots::SlotSet;
 
-/// A reservation for one side of a unit: slots along a path. After Æthereal (2005).
+/// A reservation of slots along a path, for one side of a unit. After Æthereal (2005).
 #[derive(Clone, Copy, Debug)]
 pub struct Grant {
     pub unit: Unit,
@@ -13,7 +13,8 @@ pub struct Grant {
     pub slots: SlotSet,
 }
 
-/// Where a core is seated. After UMARS (2005), which places cores.
+/// Where a core is seated: on which network interface, after UMARS (2005), and on which of its four
+/// seats.
 #[derive(Clone, Copy, Debug, PartialEq, Eq)]
 pub struct SeatLine {
     pub core: CoreId,

@@ -38,10 +38,10 @@ impl UseGroup {
     }
 }
 
-/// The groups of an application's use cases. A switch within a group is smooth, or goes over use
-/// cases between which it is.
+/// The groups of an application's use cases: chains of smooth switches join the use cases of one. A
+/// connection keeps its reservations in a switch within a group.
 ///
-/// A group is numbered from 0 in the order of its least use case. This project's own.
+/// Groups are numbered from 0 in the order of their least use cases. This project's own.
 #[derive(Drop)]
 pub struct Groups {
     connections: u32,

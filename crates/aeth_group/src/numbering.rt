@@ -30,7 +30,7 @@ pub(crate) fn class_of(marks: &Marks, uses: u32, u: u32) -> u32
     firsts_below(marks, uses, first_with(marks, uses, u))
 }
 
-/// The least use case that a use case is marked with.
+/// The least use case that a use case is marked with; the number of use cases where there is none.
 fn first_with(marks: &Marks, uses: u32, u: u32) -> u32
     requires uses { uses ≤ SIZE }
     requires u { u < uses }

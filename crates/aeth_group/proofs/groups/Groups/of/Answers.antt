@@ -1,8 +1,9 @@
-use Rattle.std.proofs.Common.{◌≡◌, ◌∙◌, length, map, ap, arith}
+use Rattle.std.proofs.Common.{◌≡◌, ◌∙◌, length, map, ap, subst, sym, arith}
 use Rattle.std.specs.List.{range_with_len}
-use Rattle.aeth_group.specs.Members.{use_group}
+use Rattle.aeth_group.specs.Members.{IsGroups, use_group}
 use Rattle.aeth_group.proofs.GroupLemmas.{class_of-marked, firsts_below-marked}
-use Rattle.aeth_group.proofs.MakingLemmas.{AllUses, groups_are, groups_fit, uses-more}
+use Rattle.aeth_group.proofs.MakingLemmas.{groups_are, uses-more}
+use Rattle.aeth_group.proofs.MemberLemmas.{is_groups-groups_of}
 use Rattle.aeth_group.proofs.groups.Groups.of.Goals as goal
 
 -- One more use case.
@@ -18,30 +19,23 @@ loop-u-preserved c =
     c.in_ok-has.ensures
 
 -- The groups are those of all use cases.
-all_uses : (c : goal.After-firsts_below)
-    → AllUses c.args.app.now (record {
-      connections = c.connections.result;
-      count = c.firsts_below.result;
-      uses = c.loop-u.uses.items;
-    })
-all_uses c = record {
-  connections = c.connections.ensures.connections;
-  count = c.firsts_below.ensures.firsts
-      ∙ firsts_below-marked c.args.app.now.uses c.chained-marks.result c.uses-count.result
-      c.chained-marks.ensures c.uses-count.ensures.uses;
-  uses =
-      let uses = c.uses-count.ensures.uses in
-      let all : c.loop-u.u ≡ length c.args.app.now.uses = omega arith in
-      c.loop-u.invariant ∙ ap (λ n. map (use_group c.args.app.now) (range_with_len 0 n)) all;
-}
+pub returns : goal.returns
+returns c =
+    let app = c.args.app.now in
+    let uses = c.uses-count.ensures.uses in
+    let all : c.loop-u.u ≡ length app.uses = omega arith in
+    groups_are app _ c.connections.ensures.connections
+    (c.firsts_below.ensures.firsts
+    ∙ firsts_below-marked app.uses c.chained-marks.result c.uses-count.result
+    c.chained-marks.ensures uses)
+    (c.loop-u.invariant ∙ ap (λ n. map (use_group app) (range_with_len 0 n)) all)
 
 -- What holds of all groups.
 pub invariant_of-result : goal.invariant_of-result
 invariant_of-result c =
+    let uses = c.uses-count.ensures.uses in
     let few = c.uses-count.ensures.most in
-    let within = c.firsts_below.ensures.within in
-    groups_fit c.args.app.now _ (all_uses c) c.connections.ensures.most (omega arith) (omega arith)
-
--- All use cases.
-pub returns : goal.returns
-returns c = groups_are c.args.app.now _ (all_uses c)
+    let connections = c.connections.ensures.connections in
+    let most = c.connections.ensures.most in
+    subst IsGroups (sym (returns c))
+    (is_groups-groups_of c.args.app.now (omega arith) (omega arith))
