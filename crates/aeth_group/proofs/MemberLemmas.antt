@@ -10,7 +10,7 @@ use Rattle.aeth_app.specs.App.{AppData, UseData, has_connection, is_marked}
 use Rattle.aeth_app.specs.declared.app.TheConstants.{MAX_CONNECTIONS, MAX_USES}
 use Rattle.aeth_group.specs.Groups.{group_count, group_of}
 use Rattle.aeth_group.specs.Members.{IsGroups, UseGroupData, are_together, group_at, group_in}
-use Rattle.aeth_group.specs.Members.{groups_of, has_at, has_in, is_kept, is_member, use_group}
+use Rattle.aeth_group.specs.Members.{groups_of, has_at, is_kept, is_member, use_group, use_has}
 use Rattle.aeth_group.proofs.GroupLemmas.{group_count-le, group_of-below}
 use Rattle.aeth_group.proofs.Ranges.{any_from_passer, passer_from_any}
 
@@ -90,7 +90,7 @@ group_at-groups_of app u within = ap group_in (use_at app u within)
 pub has_at-groups_of : (app : AppData) (u c : ℕ) → u < length app.uses
     → c < length app.connections → has_at (groups_of app) u c ≡ has_connection app.uses u c
 has_at-groups_of app u c within below =
-    ap (λ one. has_in one c) (use_at app u within) ∙ is_marked-use_group app u c below
+    ap (λ one. use_has one c) (use_at app u within) ∙ is_marked-use_group app u c below
 
 -- A switch keeps a connection where both use cases have it, and they are in one group.
 pub is_kept-groups_of : (app : AppData) (u v c : ℕ) → u < length app.uses → v < length app.uses
