@@ -7,9 +7,10 @@
 --   wish_of      what a channel wishes
 --   IsWish, IsConnection, IsUse, IsApp      what holds of every application
 --   is_fixed_to, IsAppOf      what holds of an application that was read with a chip
--- Connections and use cases: after Æthereal (2005) and UMARS (2005). The rest is this project's own.
+-- Connections and use cases: after Æthereal (2005) and UMARS (2005). The rest: this project's own.
 use Rattle.std.specs.Prelude.{◌≡◌, ◌≢◌, ◌≤◌, ◌<◌, ℕ, ◌*◌, ◌==◌, ◌||◌, Bool, false, List, length}
-use Rattle.std.specs.Prelude.{map, take, slice_get, count_by, Option, Some, None, All, Contains, unwrap_or}
+use Rattle.std.specs.Prelude.{map, take, slice_get, count_by, Option, Some, None, All, Contains}
+use Rattle.std.specs.Prelude.{unwrap_or}
 use Rattle.std.specs.List.{IsDistinct}
 use Rattle.std.specs.Str.{bytes_eq}
 use Rattle.aeth_base.specs.declared.ids.CoreId.{CoreId}

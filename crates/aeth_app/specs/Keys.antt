@@ -5,7 +5,6 @@
 --   wrong_keys_in    the walk over all tables
 -- This project's own.
 use Rattle.std.specs.Prelude.{ℕ, List, [], ◌∷◌, ◌++◌, map, flat_map, codes, Option, unwrap_or}
-use Rattle.std.specs.Prelude.{option_and_then}
 use Rattle.toml.specs.Data.{Members, no_members}
 use Rattle.aeth_document.specs.declared.keys.Kind.TheVariants as kind
 use Rattle.aeth_document.specs.declared.shown.Broken.{Broken}

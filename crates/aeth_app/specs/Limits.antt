@@ -26,7 +26,8 @@ use Rattle.aeth_app.specs.App.{AppData, is_end, is_fixed_to}
 
 -- The words of a wish that has more than two a cycle.
 abbrev pub too_fast : Wish → Option Shown
-too_fast wish = if nat_le wish.words (WORDS_PER_FLIT * wish.per) then None else Some (Number wish.words)
+too_fast wish =
+    if nat_le wish.words (WORDS_PER_FLIT * wish.per) then None else Some (Number wish.words)
 
 -- Rates too high: for each connection `fwd`, then `back`.
 abbrev pub rate_too_high : List Connection → Option Broken
@@ -41,7 +42,8 @@ shown_core (Some core) = Word core.name
 -- The core that a connection leads from and to, where it is one.
 abbrev pub own_end : List Core → Connection → Option Shown
 own_end cores connection =
-    if connection.from.0 == connection.to.0 then Some (shown_core (slice_get cores connection.from.0))
+    if connection.from.0 == connection.to.0
+    then Some (shown_core (slice_get cores connection.from.0))
     else None
 
 -- Cores to themselves: the connections.
@@ -65,7 +67,8 @@ too_few_seats nis cores = first_broken 0 (above (SEATS * nis) cores ∷ [])
 -- Seats overfull: the network interfaces.
 abbrev pub seats_overfull : ℕ → List Core → Option Broken
 seats_overfull nis cores =
-    first_broken 0 (map (λ ni. above SEATS (count_by (is_fixed_to ni) cores)) (range_with_len 0 nis))
+    first_broken 0
+    (map (λ ni. above SEATS (count_by (is_fixed_to ni) cores)) (range_with_len 0 nis))
 
 -- What holds where no limit is broken.
 pub record IsWithinLimits (nis : ℕ) (cores : List Core) (connections : List Connection)

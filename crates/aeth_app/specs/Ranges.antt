@@ -6,7 +6,7 @@
 --   out_of_range    the walk over all of them
 --   IsWishInRange, IsInRange    what holds where none is
 -- This project's own.
-use Rattle.std.specs.Prelude.{ℕ, ℤ, pos, List, [], ◌∷◌, ◌++◌, ◌||◌, map, flat_map, length, codes}
+use Rattle.std.specs.Prelude.{ℕ, pos, List, [], ◌∷◌, ◌++◌, ◌||◌, map, flat_map, length, codes}
 use Rattle.std.specs.Prelude.{◌≡◌, ◌≤◌, All, Option, Some, None, if◌then◌else◌}
 use Rattle.std.specs.List.{filter_map}
 use Rattle.std.specs.Str.{bytes_eq}

@@ -140,20 +140,16 @@ fn kept_app(
         (map (λ t. table_view t.now) connections.now) (map (λ t. table_view t.now) uses.now))) }
     ensures chip { IfOk result (IsAppOf chip.now) }
 {
-    let slots = chip.slots();
-    let detour = detour_of(root);
-    let price = price_of(text_if(root, "cost"));
+    let tables = (
+        chip.slots(),
+        detour_of(root),
+        price_of(text_if(root, "cost")),
+    );
     let told_cores = cores_of(alloc, chip, cores)?;
     let told_connections = connections_of(alloc, &names.cores, connections)?;
     let told_uses = uses_of(alloc, &names, uses)?;
     judge_limits(chip.nis(), &told_cores, &told_connections)?;
-    Ok(App::new(
-        (slots, detour, price),
-        told_cores,
-        told_connections,
-        told_uses,
-        names,
-    ))
+    Ok(App::new(tables, told_cores, told_connections, told_uses, names))
 }
 
 #[tactic(auto, unfolding(crate::specs::AppFile::judged_app))]

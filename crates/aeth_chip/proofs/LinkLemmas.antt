@@ -1,12 +1,11 @@
 -- The links of a file: as many as its tables, and each of them a link of the chip.
 use Rattle.std.proofs.Common.{subst, ◌≡◌, ◌≤◌, ◌+◌, ◌∙◌, ℕ, zero, suc, false, List, [], ◌∷◌}
 use Rattle.std.proofs.Common.{length, map, Option, Some, None, refl, sym, ap, inl, inr, arith}
-use Rattle.std.specs.Prelude.{codes, slice_get, is_none, Result, Ok}
+use Rattle.std.specs.Prelude.{codes, slice_get, is_none, Ok}
 use Rattle.std.proofs.lemmas.Bool.{cases_Bool}
 use Rattle.std.proofs.lemmas.List.{length-map}
 use Rattle.std.proofs.lemmas.Option.{same_Some}
 use Rattle.toml.specs.Data.{Members}
-use Rattle.aeth_chip.specs.declared.fault.ChipFault.{ChipFault}
 use Rattle.aeth_chip.specs.declared.fault.ChipFault.TheVariants.{UnknownName}
 use Rattle.aeth_chip.specs.declared.node.Link.{Link}
 use Rattle.aeth_chip.specs.declared.node.Node.{Node}
@@ -15,10 +14,9 @@ use Rattle.aeth_chip.specs.Chip.{ChipData, IsChip, IsLinkOf, IsNode}
 use Rattle.aeth_chip.specs.ChipFile.{known, known_links, link_of, node_at, node_of, not_single}
 use Rattle.aeth_chip.specs.ChipFile.{too_many_ports, unknown_end}
 use Rattle.aeth_chip.proofs.PortLemmas.{each_has_few_ports, each_is_single}
-use Rattle.aeth_document.specs.declared.shown.Broken.{Broken}
-use Rattle.aeth_document.specs.Chain.{◌>>=◌, refused}
 use Rattle.aeth_document.specs.Values.{text_at}
 use Rattle.aeth_document.specs.Walks.{first_broken, place_of}
+use Rattle.aeth_document.proofs.ChainLemmas.{refused-kept}
 use Rattle.aeth_document.proofs.WalkLemmas.{first_broken-head, first_broken-tail}
 use Rattle.aeth_document.proofs.WalkLemmas.{place_of-within}
 
@@ -91,14 +89,6 @@ each_is_link chip place (table ∷ tables) none (suc l) link at =
     (map (unknown_end chip.routers chip.nis) tables) none in
     each_is_link chip (place + 1) tables rest l link at
 
--- What a rule that is kept hands on.
-kept_parts : (found : Option Broken) (made links : List Link)
-    → ◌≡◌ {A = Result (List Link) ChipFault} (refused UnknownName found >>= (λ _. Ok made))
-    (Ok links)
-    → (found ≡ None) × (made ≡ links)
-kept_parts None made links kept = (refl, cc kept)
-kept_parts (Some broken) made links kept = absurd (cc kept)
-
 -- Where the links of some tables are known, no end is unknown, and there is a link for each table.
 known_links-parts : (routers nis : List (List ℕ)) (place : ℕ) (tables : List Members)
     (links : List Link) → known_links routers nis place tables ≡ Ok links
@@ -106,8 +96,10 @@ known_links-parts : (routers nis : List (List ℕ)) (place : ℕ) (tables : List
     × (map (link_of routers nis) tables ≡ links)
 unfolding known_links
 known_links-parts routers nis place tables links known_are =
-    kept_parts (first_broken place (map (unknown_end routers nis) tables))
-    (map (link_of routers nis) tables) links known_are
+    let made = map (link_of routers nis) tables in
+    let kept = refused-kept UnknownName (first_broken place (map (unknown_end routers nis) tables))
+    (Ok made) links known_are in
+    (kept.0, cc kept.1)
 
 -- There are as many links as tables.
 pub length-known_links : (routers nis : List (List ℕ)) (tables : List Members) (links : List Link)

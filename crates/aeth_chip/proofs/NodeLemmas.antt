@@ -1,7 +1,7 @@
 -- Laws of nodes and of the numbers of links.
-use Rattle.std.proofs.Common.{◌≡◌, ◌<◌, ◌+◌, ◌∙◌, ℕ, zero, suc, true, false, List, [], ◌∷◌, Some}
+use Rattle.std.proofs.Common.{◌≡◌, ◌<◌, ◌+◌, ℕ, zero, suc, true, List, [], ◌∷◌, Some}
 use Rattle.std.proofs.Common.{Bool, length, None, get_or, take, refl, ap, inl, inr, arith}
-use Rattle.std.specs.Prelude.{count_by, slice_get, cond, IsSome, IfSome}
+use Rattle.std.specs.Prelude.{count_by, slice_get, IsSome, IfSome}
 use Rattle.std.proofs.lemmas.Bool.{cases_Bool, eq-eqb}
 use Rattle.std.proofs.lemmas.Option.{same_Some, slice_get_read}
 use Rattle.aeth_base.proofs.Lists.{count_by-before, count_by-no, count_by-yes}

@@ -1,6 +1,6 @@
 -- Laws of files that are read and judged.
-use Rattle.std.proofs.Common.{◌≡◌, ◌≢◌, ◌∙◌, ◌≤◌, ◌<◌, ℕ, true, List, length, Option, Some, Result}
-use Rattle.std.proofs.Common.{Ok, Err, ap, refl, subst, sym, arith, if◌then◌else◌}
+use Rattle.std.proofs.Common.{◌≡◌, ◌≤◌, ℕ, List, length, Option, Some, Result}
+use Rattle.std.proofs.Common.{refl, subst, sym, arith, if◌then◌else◌}
 use Rattle.std.specs.Prelude.{nat_le}
 use Rattle.std.proofs.lemmas.Bool.{le-leb}
 use Rattle.aeth_app.specs.declared.fault.AppFault.{AppFault}

@@ -1,10 +1,10 @@
 -- Laws of tasks: what answers them while their files are read.
-use Rattle.std.proofs.Common.{◌≡◌, ◌∙◌, ◌≤◌, ◌<◌, ℕ, List, Option, Some, None, Err, inl, inr}
+use Rattle.std.proofs.Common.{◌≡◌, ◌∙◌, ◌≤◌, ◌<◌, ℕ, List, Option, Some, None, inl, inr}
 use Rattle.std.proofs.Common.{ap, refl, sym, subst, arith}
 use Rattle.std.proofs.lemmas.Option.{none-some, same_Some}
 use Rattle.aeth_io.specs.Causes.{Rose}
 use Rattle.aeth_cli.specs.Job.{Job}
-use Rattle.aeth_cli.specs.Task.{IsAnswer, IsReadFault, Leads, OnTold, Reaches, Task, ends}
+use Rattle.aeth_cli.specs.Task.{IsAnswer, Leads, OnTold, Reaches, Task, ends}
 use Rattle.aeth_cli.specs.Task.{job_with, read_fault, reads, told}
 
 -- A task that is at its end is answered by its job.

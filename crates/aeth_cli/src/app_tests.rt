@@ -1,5 +1,5 @@
-// Application files, from the words to the bytes. The refusal lines and the needs were worked out by
-// hand from the file format and the rule on rates.
+// Application files, from the words to the bytes. The refusal lines and the needs were worked out
+// by hand from the file format and the rule on rates.
 use crate::status::{DONE, INPUT_REFUSED, READ_FAULT};
 use crate::trial::{NO_CALL, PAIR, Written, answer, changed, shelf_of};
 use std::alloc::Global;
@@ -278,14 +278,16 @@ const GROWN: [(&str, &str, &str, u32, &str); 8] = [
     (
         "[[use]]\nname = \"u0\"",
         "[[connection]]\nname = \"d",
-        "\"\nfrom = \"cpu\"\nto = \"mem\"\nfwd = {words = 0, per = 1, latency = 12, delay = 0}\nback = {words = 0, per = 1, latency = 12, delay = 0}\n",
+        "\"\nfrom = \"cpu\"\nto = \"mem\"\nfwd = {words = 0, per = 1, latency = 12, delay = 0}\n\
+            back = {words = 0, per = 1, latency = 12, delay = 0}\n",
         7,
         "refused app 8 CoreTooBusy 1 9\n",
     ),
     (
         "[[use]]\nname = \"u0\"",
         "[[connection]]\nname = \"d",
-        "\"\nfrom = \"cpu\"\nto = \"dsp\"\nfwd = {words = 0, per = 1, latency = 12, delay = 0}\nback = {words = 0, per = 1, latency = 12, delay = 0}\n",
+        "\"\nfrom = \"cpu\"\nto = \"dsp\"\nfwd = {words = 0, per = 1, latency = 12, delay = 0}\n\
+            back = {words = 0, per = 1, latency = 12, delay = 0}\n",
         8,
         "refused app 8 CoreTooBusy 0 9\n",
     ),

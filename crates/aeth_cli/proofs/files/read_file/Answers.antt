@@ -22,6 +22,6 @@ returns-in_ok-read_fault-in-Err-Fault-clause-goes_on g c =
     let status : answer.status ≡ 4 = ap (λ (job : Job). job.status) is in (
       λ usage. absurd (omega (arith, status, usage)),
       λ next. IsAnswer-fault (g.H.Shelf.content c.args.shelf.now)
-          (g.H.Shelf.faults c.args.shelf.now) (g.H.Shelf.faults c.read_all.new.shelf) c.args.file.now
-          c.args.name.now _ answer rose is,
+          (g.H.Shelf.faults c.args.shelf.now) (g.H.Shelf.faults c.read_all.new.shelf)
+          c.args.file.now c.args.name.now _ answer rose is,
     )

@@ -11,8 +11,8 @@ latch-requires c = λ link is.
     rw (c.put-2.ensures, c.put.ensures, c.in-Ok-new.ensures) refl in
     let count = c.links.ensures in
     let six = c.if-links-ne-LINKS.false in
-    let below = AreLinks-numbers_from (ends_at (Router (record { 0 = 0 }))) c.in_ok-chip.chip.links link
-    (rw c.in-Ok.ensures at is) in
+    let below = AreLinks-numbers_from (ends_at (Router (record { 0 = 0 })))
+    c.in_ok-chip.chip.links link (rw c.in-Ok.ensures at is) in
     omega arith
 
 -- So are those on which it sends.
@@ -22,6 +22,6 @@ drive-requires c = λ link is.
     rw (c.put-2.ensures, c.put.ensures, c.in-Ok-new.ensures) refl in
     let count = c.links.ensures in
     let six = c.if-links-ne-LINKS.false in
-    let below = AreLinks-numbers_from (begins_at (Router (record { 0 = 0 }))) c.in_ok-chip.chip.links link
-    (rw (c.latch.ensures, c.in-Ok.ensures) at is) in
+    let below = AreLinks-numbers_from (begins_at (Router (record { 0 = 0 })))
+    c.in_ok-chip.chip.links link (rw (c.latch.ensures, c.in-Ok.ensures) at is) in
     omega arith
