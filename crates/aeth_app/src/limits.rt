@@ -88,7 +88,7 @@ fn above(most: u64, count: u64) -> Option<Shown>
 }
 
 // The first core that is an end of too many connections.
-#[tactic(auto, using(aeth_document::proofs::WalkLemmas::range_more))]
+#[tactic(auto, using(aeth_base::proofs::Ranges::range_more))]
 fn core_too_busy(cores: u32, connections: &[Connection]) -> Option<Broken>
     ensures { result ≡ core_too_busy cores connections.now }
 {
@@ -127,7 +127,7 @@ fn count_fixed(cores: &[Core], ni: u32) -> usize
 }
 
 // The first network interface to which more cores are fixed than it has seats.
-#[tactic(auto, using(aeth_document::proofs::WalkLemmas::range_more))]
+#[tactic(auto, using(aeth_base::proofs::Ranges::range_more))]
 fn seats_overfull(nis: u32, cores: &[Core]) -> Option<Broken>
     ensures { result ≡ seats_overfull nis cores.now }
 {

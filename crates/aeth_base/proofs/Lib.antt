@@ -2,3 +2,4 @@ pub mod Lists
 pub mod NameLemmas
 pub mod Numbers
 mod PathLemmas
+pub mod Ranges

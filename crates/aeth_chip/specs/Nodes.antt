@@ -1,12 +1,14 @@
 -- Nodes of a chip, and the links that begin or end there.
 --
---   same_node, begins_at, ends_at    what is one node, and where a link begins and ends
+--   same_node, begins_at, ends_at, has_end    what is one node, and where a link begins and ends
 --   numbers_from, sends_on, receives_on    the numbers of the links of a node
 --   router_of, sender_of    the router that a node is, and that sends on a link
 -- This project's own.
 use Rattle.std.specs.Prelude.{ℕ, ◌+◌, ◌==◌, Bool, false, List, [], ◌∷◌, Option, Some, None}
 use Rattle.std.specs.Prelude.{option_and_then, slice_get, if◌then◌else◌}
 use Rattle.aeth_base.specs.declared.ids.RouterId.{RouterId}
+use Rattle.aeth_chip.specs.declared.node.End.{End}
+use Rattle.aeth_chip.specs.declared.node.End.TheVariants.{From, To}
 use Rattle.aeth_chip.specs.declared.node.Link.{Link}
 use Rattle.aeth_chip.specs.declared.node.Node.{Node}
 use Rattle.aeth_chip.specs.declared.node.Node.TheVariants.{Router, Ni}
@@ -25,6 +27,11 @@ begins_at node link = same_node link.from node
 -- Whether a link ends at a node.
 abbrev pub ends_at : Node → Link → Bool
 ends_at node link = same_node link.to node
+
+-- Whether a node is at an end of a link.
+abbrev pub has_end : End → Node → Link → Bool
+has_end From = begins_at
+has_end To = ends_at
 
 -- The numbers of the links that pass a test, where the first link has this number.
 abbrev pub numbers_from : ℕ → (Link → Bool) → List Link → List ℕ

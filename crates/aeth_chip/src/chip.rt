@@ -6,8 +6,8 @@ ghost use Rattle.aeth_chip.specs.declared.node.Node.TheVariants.{Router, Ni};
 ghost use Rattle.aeth_chip.specs.Chip.{IsChip, IsNode};
 ghost use Rattle.aeth_chip.specs.Nodes.{receives_on, sender_of, sends_on};
 
-use crate::node::{Link, MAX_DELAY, Node};
-use crate::ports::{count_sent, nth_received, nth_sent};
+use crate::node::{End, Link, MAX_DELAY, Node};
+use crate::ports::{count_links, nth_link};
 use aeth_base::{LinkId, Name, NiId, RouterId};
 use indexmap::IndexSet;
 use std::marker::Model;
@@ -137,7 +137,7 @@ impl Chip {
         ensures few { result < MAX_PORTS }
     {
         let from = self.links[link.0 as usize].from;
-        count_sent(&self.links[..link.0 as usize], from) as u8
+        count_links(&self.links[..link.0 as usize], End::From, from) as u8
     }
 
     /// The link on which a router sends through a port; `None` exactly where the port is past the
@@ -146,7 +146,7 @@ impl Chip {
         ensures { option_map (λ link. link.0) result
             ≡ slice_get (sends_on (Router router) self.now.links) port }
     {
-        nth_sent(&self.links, Node::Router(router), port as u32)
+        nth_link(&self.links, End::From, Node::Router(router), port as u32)
     }
 
     /// The one link on which a network interface sends.
@@ -154,7 +154,7 @@ impl Chip {
         requires { ni.0 < length self.now.nis }
         ensures { sends_on (Ni ni) self.now.links ≡ result.0 ∷ [] }
     {
-        nth_sent(&self.links, Node::Ni(ni), 0).unwrap()
+        nth_link(&self.links, End::From, Node::Ni(ni), 0).unwrap()
     }
 
     /// The one link on which a network interface receives.
@@ -162,7 +162,7 @@ impl Chip {
         requires { ni.0 < length self.now.nis }
         ensures { receives_on (Ni ni) self.now.links ≡ result.0 ∷ [] }
     {
-        nth_received(&self.links, Node::Ni(ni), 0).unwrap()
+        nth_link(&self.links, End::To, Node::Ni(ni), 0).unwrap()
     }
 
     /// The name of a network interface.

@@ -1,6 +1,6 @@
 // Routers and network interfaces, and the links that join them.
 ghost use Rattle.std.specs.Prelude.{◌≡◌};
-ghost use Rattle.aeth_chip.specs.Nodes.{begins_at, ends_at, same_node};
+ghost use Rattle.aeth_chip.specs.Nodes.{begins_at, ends_at, has_end, same_node};
 
 use aeth_base::{NiId, RouterId};
 
@@ -40,6 +40,13 @@ impl Node {
     }
 }
 
+/// One of the two ends of a link.
+#[derive(Clone, Copy, Debug, PartialEq, Eq)]
+pub(crate) enum End {
+    From,
+    To,
+}
+
 impl Link {
     /// Whether the link begins at the node.
     pub fn begins_at(&self, node: Node) -> bool
@@ -53,5 +60,15 @@ impl Link {
         ensures { result ≡ ends_at node self.now }
     {
         self.to.is_same(node)
+    }
+
+    /// Whether the node is at this end of the link.
+    pub(crate) fn has_end(&self, end: End, node: Node) -> bool
+        ensures { result ≡ has_end end node self.now }
+    {
+        match end {
+            End::From => self.begins_at(node),
+            End::To => self.ends_at(node),
+        }
     }
 }

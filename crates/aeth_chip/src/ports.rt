@@ -3,21 +3,22 @@ ghost use Rattle.std.specs.Prelude.{◌≡◌, ◌<◌, ◌≤◌, ◌^◌, leng
 ghost use Rattle.std.specs.Prelude.{IfOk};
 ghost use Rattle.aeth_chip.specs.ChipFile.{crowded, is_single, not_single, only, router_at};
 ghost use Rattle.aeth_chip.specs.ChipFile.{same_router, too_many_ports};
-ghost use Rattle.aeth_chip.specs.Nodes.{begins_at, ends_at, receives_on, router_of, sends_on};
+ghost use Rattle.aeth_chip.specs.Nodes.{has_end, numbers_from, receives_on, router_of, sends_on};
 
 use crate::chip::MAX_PORTS;
-use crate::node::{Link, Node};
+use crate::node::{End, Link, Node};
 use aeth_base::{LinkId, Name, NiId, NoMemory, RouterId};
 use aeth_document::{Broken, Shown, next_place};
 
-/// The link at a place among those on which the node sends.
-pub(crate) fn nth_sent(links: &[Link], node: Node, place: u32) -> Option<LinkId>
+/// The link at a place among those that have the node at this end.
+pub(crate) fn nth_link(links: &[Link], end: End, node: Node, place: u32) -> Option<LinkId>
     requires { length links.now < 2 ^ 32 }
-    ensures { option_map (λ l. l.0) result ≡ slice_get (sends_on node links.now) place }
+    ensures { option_map (λ l. l.0) result
+        ≡ slice_get (numbers_from 0 (has_end end node) links.now) place }
 {
     let mut left = place;
     for (number, link) in links.iter().enumerate() {
-        if link.begins_at(node) {
+        if link.has_end(end, node) {
             if left == 0 {
                 return Some(LinkId(number as u32));
             }
@@ -27,42 +28,19 @@ pub(crate) fn nth_sent(links: &[Link], node: Node, place: u32) -> Option<LinkId>
     None
 }
 
-/// The link at a place among those on which the node receives.
-pub(crate) fn nth_received(links: &[Link], node: Node, place: u32) -> Option<LinkId>
-    requires { length links.now < 2 ^ 32 }
-    ensures { option_map (λ l. l.0) result ≡ slice_get (receives_on node links.now) place }
+/// How many links have the node at this end.
+pub(crate) fn count_links(links: &[Link], end: End, node: Node) -> usize
+    ensures { result ≡ count_by (has_end end node) links.now }
 {
-    let mut left = place;
-    for (number, link) in links.iter().enumerate() {
-        if link.ends_at(node) {
-            if left == 0 {
-                return Some(LinkId(number as u32));
-            }
-            left -= 1;
-        }
-    }
-    None
-}
-
-/// How many links begin at the node.
-pub(crate) fn count_sent(links: &[Link], node: Node) -> usize
-    ensures { result ≡ count_by (begins_at node) links.now }
-{
-    links.iter().filter(|link| link.begins_at(node)).count()
-}
-
-/// How many links end at the node.
-pub(crate) fn count_received(links: &[Link], node: Node) -> usize
-    ensures { result ≡ count_by (ends_at node) links.now }
-{
-    links.iter().filter(|link| link.ends_at(node)).count()
+    links.iter().filter(|link| link.has_end(end, node)).count()
 }
 
 fn crowded(links: &[Link], router: u32) -> Option<Shown>
     ensures { result ≡ crowded links.now router }
 {
     let node = Node::Router(RouterId(router));
-    let ports = count_sent(links, node).max(count_received(links, node)) as u64;
+    let sent = count_links(links, End::From, node);
+    let ports = sent.max(count_links(links, End::To, node)) as u64;
     if ports <= MAX_PORTS as u64 {
         None
     } else {
@@ -71,7 +49,7 @@ fn crowded(links: &[Link], router: u32) -> Option<Shown>
 }
 
 /// The first router that has too many links one way.
-#[tactic(auto, using(aeth_document::proofs::WalkLemmas::range_more))]
+#[tactic(auto, using(aeth_base::proofs::Ranges::range_more))]
 pub(crate) fn too_many_ports(routers: u32, links: &[Link]) -> Option<Broken>
     ensures { result ≡ too_many_ports routers links.now }
 {
@@ -86,23 +64,14 @@ pub(crate) fn too_many_ports(routers: u32, links: &[Link]) -> Option<Broken>
     None
 }
 
-fn only_sent(links: &[Link], node: Node) -> Option<LinkId>
+fn only_link(links: &[Link], end: End, node: Node) -> Option<LinkId>
     requires { length links.now < 2 ^ 32 }
-    ensures { option_map (λ l. l.0) result ≡ only (sends_on node links.now) }
+    ensures { option_map (λ l. l.0) result
+        ≡ only (numbers_from 0 (has_end end node) links.now) }
 {
-    match nth_sent(links, node, 1) {
+    match nth_link(links, end, node, 1) {
         Some(_) => None,
-        None => nth_sent(links, node, 0),
-    }
-}
-
-fn only_received(links: &[Link], node: Node) -> Option<LinkId>
-    requires { length links.now < 2 ^ 32 }
-    ensures { option_map (λ l. l.0) result ≡ only (receives_on node links.now) }
-{
-    match nth_received(links, node, 1) {
-        Some(_) => None,
-        None => nth_received(links, node, 0),
+        None => nth_link(links, end, node, 0),
     }
 }
 
@@ -119,7 +88,7 @@ fn router_after(links: &[Link], node: Node) -> Option<RouterId>
     requires { length links.now < 2 ^ 32 }
     ensures { result ≡ router_at (λ link. link.to) links.now (sends_on node links.now) }
 {
-    match only_sent(links, node) {
+    match only_link(links, End::From, node) {
         None => None,
         Some(number) => match links.get(number.0 as usize) {
             None => None,
@@ -132,7 +101,7 @@ fn router_before(links: &[Link], node: Node) -> Option<RouterId>
     requires { length links.now < 2 ^ 32 }
     ensures { result ≡ router_at (λ link. link.from) links.now (receives_on node links.now) }
 {
-    match only_received(links, node) {
+    match only_link(links, End::To, node) {
         None => None,
         Some(number) => match links.get(number.0 as usize) {
             None => None,

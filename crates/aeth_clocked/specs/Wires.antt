@@ -2,8 +2,12 @@
 -- are tests.
 -- Simultaneous components over shared wires: this project's own.
 use Rattle.std.specs.Prelude.{◌≡◌, ℕ, ◌<◌, Bool, true, if◌then◌else◌}
-use Rattle.std.specs.Prelude.{List, length, Option, Some, slice_get}
+use Rattle.std.specs.Prelude.{List, length, Option, Some, None, slice_get, unwrap_or}
 use Rattle.aeth_clocked.specs.declared.flit.Flit.{Flit}
+
+-- The flit on a link.
+abbrev pub flit_on : List (Option Flit) → ℕ → Option Flit
+flit_on wires link = unwrap_or (slice_get wires link) None
 
 -- Each link of the set is below the number of links.
 abbrev pub AreLinks : (ℕ → Bool) → ℕ → Type 0

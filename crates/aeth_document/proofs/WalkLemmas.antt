@@ -1,5 +1,5 @@
 -- Laws of walks.
-use Rattle.std.proofs.Common.{append_assoc, ◌≡◌, ◌≤◌, ◌<◌, ◌+◌, ◌-◌, ◌++◌, ◌∙◌, ℕ, zero, suc, ℤ}
+use Rattle.std.proofs.Common.{append_assoc, ◌≡◌, ◌≤◌, ◌<◌, ◌+◌, ◌++◌, ◌∙◌, ℕ, zero, suc, ℤ}
 use Rattle.std.proofs.Common.{pos, negsuc, true, List, [], ◌∷◌, length, map, Option, Some, None}
 use Rattle.std.proofs.Common.{refl, sym, ap, inl, inr, arith}
 use Rattle.std.specs.Prelude.{position}
@@ -125,13 +125,6 @@ first_broken-repeats place others xs ys =
       first_broken-append place (repeats others xs) (repeats (others ++ xs) ys),
       length-repeats others xs,
     ) refl
-
--- The numbers below an end that aren't passed begin with the next one.
-pub range_more : (i n : ℕ) → i < n
-    → range_with_len i (n - i) ≡ i ∷ range_with_len (i + 1) (n - (i + 1))
-range_more i n within =
-    let more : n - i ≡ suc (n - (i + 1)) = omega arith in
-    rw more refl
 
 -- A walk over numbers that finds nothing finds nothing at each of them.
 pub first_broken-range : (check : ℕ → Option Shown) (place first count i : ℕ)

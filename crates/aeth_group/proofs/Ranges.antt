@@ -1,20 +1,13 @@
 -- Laws of the numbers below a count: tests of some of them, and how many pass.
-use Rattle.std.proofs.Common.{◌≡◌, ◌∙◌, ◌<◌, ◌≤◌, ◌+◌, ◌++◌, ℕ, zero, suc, Bool, true, false, cond}
-use Rattle.std.proofs.Common.{[], ◌∷◌, refl, sym, ap, inl, inr, add-one, arith}
+use Rattle.std.proofs.Common.{◌≡◌, ◌∙◌, ◌<◌, ◌≤◌, ◌+◌, ℕ, zero, suc, Bool, true, false, cond}
+use Rattle.std.proofs.Common.{refl, sym, ap, inl, inr, add-one, arith}
 use Rattle.std.specs.Prelude.{count_by}
 use Rattle.std.specs.List.{list_any, range_with_len}
 use Rattle.std.proofs.lemmas.Bool.{cases_Bool, cases_lt}
 use Rattle.std.proofs.lemmas.List.FromFn.{get_or-range_with_len, length-range_with_len}
 use Rattle.std.proofs.lemmas.List.Folds.{Any-from_list_any, list_any-from_Any}
 use Rattle.std.proofs.lemmas.List.Sums.{sum_by_push}
-
--- One more number of a range.
-pub range_with_len-more : (start size last : ℕ) → start + size ≡ last
-    → range_with_len start (suc size) ≡ range_with_len start size ++ last ∷ []
-range_with_len-more start zero last is =
-    let same : start ≡ last = omega arith in ap (λ n. n ∷ []) same
-range_with_len-more start (suc size) last is =
-    ap (λ ns. start ∷ ns) (range_with_len-more (start + 1) size last (omega arith))
+use Rattle.aeth_base.proofs.Ranges.{range_with_len-more}
 
 -- ---- some number passes a test
 

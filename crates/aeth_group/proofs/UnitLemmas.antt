@@ -14,7 +14,7 @@ use Rattle.aeth_slots.proofs.Lists.{Contains-cases, Contains-filter, Contains-he
 use Rattle.aeth_slots.proofs.Lists.{Contains-nil, Contains-there, filter-Contains, map-Contains}
 use Rattle.aeth_app.specs.declared.app.TheConstants.{MAX_USES}
 use Rattle.aeth_group.specs.Members.{GroupsData, is_member, units_of, units_with}
-use Rattle.aeth_group.proofs.Ranges.{range_with_len-more}
+use Rattle.aeth_base.proofs.Ranges.{range_with_len-more}
 
 -- ---- which units there are
 

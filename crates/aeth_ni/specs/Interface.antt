@@ -12,7 +12,7 @@
 -- Slot tables in network interfaces: after Æthereal (2005).
 use Rattle.std.specs.Prelude.{◌≡◌, ◌<◌, ℕ, ◌%◌, Option, Some, None, IfSome}
 use Rattle.std.specs.Prelude.{Result, Ok, Err, List, length, map, replicate, All}
-use Rattle.std.specs.Prelude.{slice_get, slice_set, unwrap_or}
+use Rattle.std.specs.Prelude.{slice_set}
 use Rattle.std.specs.List.{slice_index_or}
 use Rattle.aeth_base.specs.declared.ids.LinkId.{LinkId}
 use Rattle.aeth_base.specs.declared.ids.NiId.{NiId}
@@ -98,10 +98,6 @@ arrival_by flit (Err fault) = None
 abbrev pub arrival_of : Option Flit → Option Arrival
 arrival_of None = None
 arrival_of (Some flit) = arrival_by flit (header_of flit.header)
-
--- The flit on a link.
-abbrev pub flit_on : List (Option Flit) → ℕ → Option Flit
-flit_on wires link = unwrap_or (slice_get wires link) None
 
 -- The queues once it has come.
 abbrev pub landed_at : Option Arrival → List QueueState → List QueueState

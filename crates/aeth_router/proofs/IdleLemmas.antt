@@ -5,9 +5,9 @@ use Rattle.std.proofs.Common.{Option, Some, None, slice_get}
 use Rattle.std.specs.Prelude.{◌==◌, option_and_then, position}
 use Rattle.std.proofs.lemmas.Bool.{cases_Bool}
 use Rattle.aeth_clocked.specs.declared.flit.Flit.{Flit}
-use Rattle.aeth_clocked.specs.Wires.{Drives}
+use Rattle.aeth_clocked.specs.Wires.{Drives, flit_on}
 use Rattle.aeth_router.specs.Ports.{flits_for, sole}
-use Rattle.aeth_router.specs.Router.{RouterState, absorbed, emitted_on, emptied, flit_on, is_among}
+use Rattle.aeth_router.specs.Router.{RouterState, absorbed, emitted_on, emptied, is_among}
 
 -- Where none is held, there is no flit for a port.
 flits_for-idle : (port count : ℕ) → flits_for port (replicate count None) ≡ []

@@ -5,7 +5,8 @@ use Rattle.std.specs.Prelude.{unwrap_or}
 use Rattle.std.proofs.lemmas.Option.{slice_get-map}
 use Rattle.aeth_clocked.specs.declared.flit.Flit.{Flit}
 use Rattle.aeth_router.specs.Ports.{flits_for, sole}
-use Rattle.aeth_router.specs.Router.{AreApart, RouterState, absorbed, emitted_on, flit_on}
+use Rattle.aeth_router.specs.Router.{AreApart, RouterState, absorbed, emitted_on}
+use Rattle.aeth_clocked.specs.Wires.{flit_on}
 use Rattle.aeth_router.proofs.LinkLemmas.{position-at}
 use Rattle.aeth_router.proofs.PortLemmas.{Alone, Alone-from_sole, Names, flits_for-none}
 use Rattle.aeth_router.proofs.PortLemmas.{sole-contended, sole-from_Alone}

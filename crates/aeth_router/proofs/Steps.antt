@@ -15,9 +15,9 @@ use Rattle.aeth_base.specs.declared.ids.LinkId.{LinkId}
 use Rattle.aeth_chip.specs.declared.node.Link.{Link}
 use Rattle.aeth_chip.specs.Nodes.{numbers_from}
 use Rattle.aeth_clocked.specs.declared.flit.Flit.{Flit}
-use Rattle.aeth_clocked.specs.Wires.{AreLinks, Drives}
+use Rattle.aeth_clocked.specs.Wires.{AreLinks, Drives, flit_on}
 use Rattle.aeth_clocked.proofs.WiresLemmas.{Drives-same, Drives-slice_set, Drives-then}
-use Rattle.aeth_router.specs.Router.{flit_on, is_among, numbers_of}
+use Rattle.aeth_router.specs.Router.{is_among, numbers_of}
 use Rattle.aeth_router.proofs.LinkLemmas.{is_among-at}
 
 module _ (test : Link → Bool) (links : List Link) (front : List LinkId) (all : List ℕ)

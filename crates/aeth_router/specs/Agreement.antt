@@ -6,8 +6,8 @@ use Rattle.std.proofs.Common.{refl, ap, suc}
 use Rattle.std.proofs.lemmas.Bool.{eq-eqb}
 use Rattle.std.proofs.lemmas.Map.Keys.{any_passes_from_place}
 use Rattle.aeth_clocked.specs.declared.flit.Flit.{Flit}
-use Rattle.aeth_clocked.specs.Wires.{AgreeOn}
-use Rattle.aeth_router.specs.Router.{RouterState, absorbed, flit_on, is_among}
+use Rattle.aeth_clocked.specs.Wires.{AgreeOn, flit_on}
+use Rattle.aeth_router.specs.Router.{RouterState, absorbed, is_among}
 
 -- Wires that agree on each link of a list have the same flits there.
 flits-agree : (links : List ℕ) (some other : List (Option Flit)) →

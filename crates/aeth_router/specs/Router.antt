@@ -1,6 +1,6 @@
 -- A router: its state, what it emits, and what it latches.
 -- Routers that forward by one hop in a cycle: after Æthereal (2005).
-use Rattle.std.specs.Prelude.{◌≡◌, ℕ, ◌==◌, Bool, Option, Some, None, option_and_then, unwrap_or}
+use Rattle.std.specs.Prelude.{◌≡◌, ℕ, ◌==◌, Bool, Option, Some, None, option_and_then}
 use Rattle.std.specs.Prelude.{List, length, map, replicate, slice_get, position}
 use Rattle.std.specs.List.{list_any}
 use Rattle.aeth_base.specs.declared.ids.LinkId.{LinkId}
@@ -8,6 +8,7 @@ use Rattle.aeth_base.specs.declared.ids.RouterId.{RouterId}
 use Rattle.aeth_chip.specs.Nodes.{receives_on, sends_on}
 use Rattle.aeth_chip.specs.declared.node.Link.{Link}
 use Rattle.aeth_chip.specs.declared.node.Node.TheVariants.{Router}
+use Rattle.aeth_clocked.specs.Wires.{flit_on}
 use Rattle.aeth_clocked.specs.declared.flit.Flit.{Flit}
 use Rattle.aeth_router.specs.Ports.{flits_for, sole}
 
@@ -54,10 +55,6 @@ emitted_on outgoing held link =
 -- The router without the flits that it held.
 abbrev pub emptied : RouterState → RouterState
 emptied router = record router { held = replicate (length router.held) None }
-
--- The flit on a link.
-abbrev pub flit_on : List (Option Flit) → ℕ → Option Flit
-flit_on wires link = unwrap_or (slice_get wires link) None
 
 -- The router that holds what these wires have on the links on which it receives.
 abbrev pub absorbed : List (Option Flit) → RouterState → RouterState

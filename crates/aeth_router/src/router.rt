@@ -2,8 +2,8 @@
 
 ghost use Rattle.std.specs.Prelude.{◌≡◌, IfOk, length, map};
 ghost use Rattle.aeth_chip.specs.Nodes.{receives_on, sends_on};
-ghost use Rattle.aeth_clocked.specs.Wires.{AreLinks};
-ghost use Rattle.aeth_router.specs.Router.{absorbed, emitted_on, emptied, flit_on, is_among};
+ghost use Rattle.aeth_clocked.specs.Wires.{AreLinks, flit_on};
+ghost use Rattle.aeth_router.specs.Router.{absorbed, emitted_on, emptied, is_among};
 ghost use Rattle.aeth_router.specs.Router.{new_router, numbers_of};
 ghost use Rattle.aeth_router.specs.Agreement.{absorbed-agrees};
 ghost use Rattle.std.proofs.Common.{refl};

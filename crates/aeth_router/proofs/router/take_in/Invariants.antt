@@ -1,5 +1,6 @@
 use Rattle.std.proofs.Common.{◌≡◌, map, take}
-use Rattle.aeth_router.specs.Router.{flit_on, numbers_of}
+use Rattle.aeth_router.specs.Router.{numbers_of}
+use Rattle.aeth_clocked.specs.Wires.{flit_on}
 use Rattle.aeth_router.proofs.router.take_in.Given as goal
 
 -- What has been latched so far.
