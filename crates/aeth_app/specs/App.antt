@@ -1,12 +1,13 @@
 -- What an application is seen as, and what holds of every application.
 --
 --   AppData, UseData      an application, and one of its use cases
---   is_marked, has_connection, is_smooth      which connections run in a use case, and which use
---                                             cases go over smoothly
+--   is_marked, has_in, has_connection      which connections run in a use case
+--   names_smooth_in, is_smooth      between which use cases a switch is smooth
 --   is_end, position_of      the connections of a core
 --   wish_of      what a channel wishes
 --   IsWish, IsConnection, IsUse, IsApp      what holds of every application
---   is_fixed_to, IsAppOf      what holds of an application that was read with a chip
+--   AreNames      the names of its parts
+--   is_ni, is_fixed_to, IsAppOf      what holds of an application that was read with a chip
 -- Connections and use cases: after Æthereal (2005) and UMARS (2005). The rest: this project's own.
 use Rattle.std.specs.Prelude.{◌≡◌, ◌≢◌, ◌≤◌, ◌<◌, ℕ, ◌*◌, ◌==◌, ◌||◌, Bool, false, List, length}
 use Rattle.std.specs.Prelude.{map, take, slice_get, count_by, Option, Some, None, All, Contains}
@@ -30,8 +31,8 @@ use Rattle.aeth_app.specs.declared.connection.Wish.{Wish}
 use Rattle.aeth_app.specs.declared.connection.TheConstants.{MAX_LATENCY, MAX_PER}
 use Rattle.aeth_app.specs.declared.connection.TheConstants.{MAX_WORDS}
 
--- A use case: its name, for each connection whether it has it, and for each use case whether its
--- file names it as smooth.
+-- A use case: its name, for each connection whether it has it, and for each use case whether it
+-- names that one as smooth.
 pub record UseData : Type 0 where
   pub name : List ℕ
   pub has : List Bool
@@ -61,13 +62,13 @@ abbrev pub has_connection : List UseData → ℕ → ℕ → Bool
 has_connection uses u connection = has_in (slice_get uses u) connection
 
 -- Whether a use case, which may be missing, names another as smooth.
-abbrev pub names_in : Option UseData → ℕ → Bool
-names_in None v = false
-names_in (Some one) v = is_marked one.smooth v
+abbrev pub names_smooth_in : Option UseData → ℕ → Bool
+names_smooth_in None v = false
+names_smooth_in (Some one) v = is_marked one.smooth v
 
 -- Whether a switch between two use cases is smooth: one of them names the other.
 abbrev pub is_smooth : List UseData → ℕ → ℕ → Bool
-is_smooth uses u v = names_in (slice_get uses u) v || names_in (slice_get uses v) u
+is_smooth uses u v = names_smooth_in (slice_get uses u) v || names_smooth_in (slice_get uses v) u
 
 -- Whether a core is an end of a connection.
 abbrev pub is_end : CoreId → Connection → Bool

@@ -53,7 +53,8 @@ wrong_connection_keys connection =
     ∷ wrong_key wish_fields (wish_at (codes "fwd") connection)
     ∷ wrong_key wish_fields (wish_at (codes "back") connection) ∷ []
 
--- Wrong keys: the root, the cores, the connections with their wishes, the use cases.
+-- The first table with a wrong key: the root, the cores, each connection with its `fwd` and `back`,
+-- the use cases.
 unfoldable pub wrong_keys_in : Members → List Members → List Members → List Members
     → Option Broken
 wrong_keys_in root cores connections uses =

@@ -29,7 +29,7 @@ abbrev pub too_fast : Wish → Option Shown
 too_fast wish =
     if nat_le wish.words (WORDS_PER_FLIT * wish.per) then None else Some (Number wish.words)
 
--- Rates too high: for each connection `fwd`, then `back`.
+-- The first wish with more than two words a cycle: for each connection `fwd`, then `back`.
 abbrev pub rate_too_high : List Connection → Option Broken
 rate_too_high connections =
     first_broken 0 (flat_map (λ c. too_fast c.fwd ∷ too_fast c.back ∷ []) connections)
@@ -46,7 +46,7 @@ own_end cores connection =
     then Some (shown_core (slice_get cores connection.from.0))
     else None
 
--- Cores to themselves: the connections.
+-- The first connection that leads from a core to itself, with that core's name.
 abbrev pub core_to_itself : List Core → List Connection → Option Broken
 core_to_itself cores connections = first_broken 0 (map (own_end cores) connections)
 
@@ -54,17 +54,17 @@ core_to_itself cores connections = first_broken 0 (map (own_end cores) connectio
 abbrev pub above : ℕ → ℕ → Option Shown
 above most count = if nat_le count most then None else Some (Number count)
 
--- Cores too busy: the cores.
+-- The first core that is an end of too many connections, with their number.
 abbrev pub core_too_busy : ℕ → List Connection → Option Broken
 core_too_busy cores connections =
     first_broken 0 (map (λ core. above MAX_CORE_CONNECTIONS
     (count_by (is_end (record { 0 = core })) connections)) (range_with_len 0 cores))
 
--- Too few seats: the number of cores.
+-- The number of cores, where there are more than seats.
 abbrev pub too_few_seats : ℕ → ℕ → Option Broken
 too_few_seats nis cores = first_broken 0 (above (SEATS * nis) cores ∷ [])
 
--- Seats overfull: the network interfaces.
+-- The first network interface to which too many cores are fixed, with their number.
 abbrev pub seats_overfull : ℕ → List Core → Option Broken
 seats_overfull nis cores =
     first_broken 0

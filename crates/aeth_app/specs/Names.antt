@@ -30,7 +30,8 @@ twice_after seen (text ∷ texts) =
 abbrev pub twice : List (List ℕ) → List (Option Shown)
 twice texts = twice_after [] texts
 
--- Repeated names: the cores, the connections, the use cases, then the connections of each use case.
+-- The first text that equals an earlier one of its list: the cores, the connections, the use cases,
+-- then the connections of each use case.
 unfoldable pub name_twice : List Members → List Members → List Members → Option Broken
 name_twice cores connections uses =
     first_broken 0 (twice (names_in cores) ++ twice (names_in connections) ++ twice (names_in uses)
@@ -50,8 +51,8 @@ unknown names text = if is_none (place_of names text) then Some (shown_text text
 abbrev pub ends_in : Members → List (List ℕ)
 ends_in connection = text_at (codes "from") connection ∷ text_at (codes "to") connection ∷ []
 
--- Unknown names: the interfaces of the cores that have one, the ends of the connections, the
--- connections of the use cases, and the use cases with which they are smooth.
+-- The first text that names nothing: the interfaces of the cores that have one, the ends of the
+-- connections, the connections of the use cases, and the use cases with which they are smooth.
 unfoldable pub unknown_name : List (List ℕ) → List Members → List Members → List Members
     → Option Broken
 unknown_name nis cores connections uses =

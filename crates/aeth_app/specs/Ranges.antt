@@ -57,7 +57,8 @@ connection_ranges connection =
     wish_ranges (wish_at (codes "fwd") connection)
     ++ wish_ranges (wish_at (codes "back") connection)
 
--- Ranges: the numbers, the names of cores, connections and use cases, and the wishes' numbers.
+-- The first number or name that is out of its range: the file's numbers, the names of cores,
+-- connections and use cases, then the numbers of each wish.
 unfoldable pub out_of_range : Members → List Members → List Members → List Members
     → Option Broken
 out_of_range root cores connections uses =

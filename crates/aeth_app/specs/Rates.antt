@@ -2,7 +2,7 @@
 --
 --   own_need      the slots for a wish's own words
 --   credit_need      the slots for the credits of the other direction's words
---   need_of, rate_of      what a channel needs, and the rate that this stands for
+--   back_need, fwd_need, need_of      what a channel needs
 -- Slots and credits: after Æthereal (2005). The numbers: this project's own.
 use Rattle.std.specs.Prelude.{ℕ, ◌*◌, max}
 use Rattle.std.specs.Int.{div_ceil}
@@ -34,7 +34,3 @@ fwd_need slots connection =
 unfoldable pub need_of : ℕ → Connection → Side → ℕ
 need_of slots connection Fwd = fwd_need slots connection
 need_of slots connection Back = back_need slots connection
-
--- The rate that a need stands for, in words per table: two words a slot.
-abbrev pub rate_of : ℕ → ℕ
-rate_of need = WORDS_PER_FLIT * need

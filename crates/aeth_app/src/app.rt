@@ -244,7 +244,7 @@ impl App {
         self.uses[u.0 as usize].name
     }
 
-    /// The core of this name.
+    /// The core of this name; `None` exactly where no core has it.
     pub fn find_core(&self, name: &Name) -> Option<CoreId>
         ensures { option_map (λ core. core.0) result
             ≡ position (bytes_eq name.now) (map (λ core. core.name) self.now.cores) }
@@ -255,7 +255,7 @@ impl App {
         }
     }
 
-    /// The connection of this name.
+    /// The connection of this name; `None` exactly where no connection has it.
     pub fn find_connection(&self, name: &Name) -> Option<ConnId>
         ensures { option_map (λ connection. connection.0) result ≡ position (bytes_eq name.now)
             (map (λ connection. connection.name) self.now.connections) }
@@ -266,7 +266,7 @@ impl App {
         }
     }
 
-    /// The use case of this name.
+    /// The use case of this name; `None` exactly where no use case has it.
     pub fn find_use(&self, name: &Name) -> Option<UseId>
         ensures { option_map (λ u. u.0) result
             ≡ position (bytes_eq name.now) (map (λ one. one.name) self.now.uses) }

@@ -14,8 +14,8 @@ pub const MAX_PER: u32 = 1_000_000;
 /// The greatest latency of a wish, in cycles.
 pub const MAX_LATENCY: u32 = 4_096;
 
-/// What a channel wishes: so many words in each `per` cycles, each landed within `latency` cycles
-/// where it comes alone, by a receiver that takes a landed word at most `delay` cycles later.
+/// What a channel wishes: so many words in each `per` cycles. A word that comes alone lands within
+/// `latency` cycles, and the receiver takes a landed word at most `delay` cycles later.
 #[derive(Clone, Copy, Debug, PartialEq, Eq)]
 pub struct Wish {
     /// 0 to 2,000,000, and at most two a cycle.

@@ -6,24 +6,27 @@ use aeth_base::NoMemory;
 use aeth_document::Broken;
 use std::alloc::{AllocError, AllocFailed};
 
-/// The first rule that an application file breaks, with the first place of its walk and the value
-/// there.
+/// The first rule that an application file breaks, with the first place in its walk where it is
+/// broken, and the value there.
 #[derive(Clone, Copy, Debug, PartialEq, Eq)]
 pub enum AppFault {
     /// The bytes are no UTF-8 or no TOML.
     BadToml,
     /// A key is missing, unknown or of another type. The root is place 0; the cores follow, then
-    /// each connection's own table, its `fwd` and its `back`, then the use cases.
+    /// each connection's own table, its `fwd` and its `back`, then the use cases. In a table it is
+    /// the least such key in byte order. The value is the key.
     WrongKey(Broken),
-    /// A number is out of its range, a text is no name, or the cost is none of the two. Places
-    /// count from 1: the version, the detour, the cost, the numbers of cores, connections and use
-    /// cases, their names, then the four numbers of each wish.
+    /// A number is out of its range, a text is no name, or the cost is neither `hops` nor
+    /// `pressure`. Places count from 1: the version, the detour, the cost, which has its place also
+    /// where it is absent, the numbers of cores, connections and use cases, their names, then for
+    /// each connection `fwd` before `back`: `words`, `per`, `latency`, `delay`. The value is the
+    /// number, the cost's text, or `Odd` for a name.
     OutOfRange(Broken),
     /// A text stands twice in one list: the cores, the connections, the use cases, or the
-    /// connections of a use case. Places run through these lists from 0.
+    /// connections of a use case. Places run through these lists from 0. The value is the text.
     NameTwice(Broken),
     /// A text names nothing: a core's interface, an end of a connection, a connection of a use
-    /// case, a smooth use case. Places run through these from 0.
+    /// case, a smooth use case. Places run through these from 0. The value is the text.
     UnknownName(Broken),
     /// A wish has more than two words a cycle. The place is twice the connection, and one more
     /// for `back`; the value is the words.
@@ -32,12 +35,12 @@ pub enum AppFault {
     CoreToItself(Broken),
     /// A core is an end of more than 8 connections. The place is the core, the value their number.
     CoreTooBusy(Broken),
-    /// There are more cores than seats. The value is the number of cores.
+    /// There are more cores than seats. The place is 0, the value the number of cores.
     TooFewSeats(Broken),
     /// More cores are fixed to an interface than it has seats. The place is the interface, the
     /// value their number.
     SeatsOverfull(Broken),
-    /// There was no memory.
+    /// There was no memory, or a place of a walk doesn't fit 32 bits.
     Memory,
 }
 

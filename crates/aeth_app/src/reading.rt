@@ -115,7 +115,7 @@ fn detour_of(root: &Table) -> u32
 }
 
 // The application of tables in which all names are known, or the first limit that it breaks.
-fn kept_app(
+fn app_within_limits(
     alloc: Global,
     chip: &Chip,
     root: &Table,
@@ -175,7 +175,7 @@ fn judged_app(
         uses: names_in(alloc, uses)?,
     };
     judge_known(alloc, chip, &names, cores, connections, uses)?;
-    kept_app(alloc, chip, root, names, cores, connections, uses)
+    app_within_limits(alloc, chip, root, names, cores, connections, uses)
 }
 
 #[tactic(auto, unfolding(crate::specs::AppFile::app_in))]

@@ -3,8 +3,8 @@
 use aeth_base::Name;
 use std::marker::Model;
 
-/// A use case: for each connection whether it has it, and for each use case whether its file names
-/// it as smooth.
+/// A use case: for each connection whether it has it, and for each use case whether it names that
+/// one as smooth.
 #[derive(Drop)]
 pub(crate) struct UseCase {
     pub name: Name,

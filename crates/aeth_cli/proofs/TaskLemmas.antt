@@ -52,7 +52,7 @@ job_next (Some held) bytes next asked answer read gives is =
 reached_next : (content : Option (List ℕ)) (bytes : List ℕ) (Reached : List ℕ → Type 0)
     → ((held : List ℕ) → content ≡ Some held → bytes ≡ held)
     → Reached bytes → OnTold content Reached
-reached_next None bytes Reached read reached = tt
+reached_next None bytes Reached read reached = (bytes, reached)
 reached_next (Some held) bytes Reached read reached = subst Reached (read held refl) reached
 
 -- Once a file was read, what comes next of its bytes is left.

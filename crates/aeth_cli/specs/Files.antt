@@ -5,7 +5,7 @@
 --   chip_refusal, with_chip      a chip file
 --   app_refusal, with_app      an application file
 --   GoesOn      what a call leaves of a task that begins with such a file
---   IsJudged      what a call gives of a value, or of the rule that is broken
+--   IsJudged      what a call gives where a file was judged
 -- This project's own.
 use Rattle.std.specs.Prelude.{ℕ, ◌≡◌, ◌≢◌, nat_le, List, length, Option, Result, Ok, Err, codes}
 use Rattle.std.specs.Prelude.{if◌then◌else◌}
@@ -42,7 +42,7 @@ abbrev pub judged : {A E : Type 0} → (E → Job) → Result A E → (A → Tas
 judged refusal (Ok value) next = next value
 judged refusal (Err fault) next = ends (refusal fault)
 
--- What is refused of a chip file. Its definition never lacks memory.
+-- The refusal of a chip file by a fault. `chip_of` never lacks memory, so the last is never asked.
 abbrev pub chip_refusal : ChipFault → Job
 chip_refusal BadToml = refused_file (codes "chip") 1 (codes "BadToml") nowhere
 chip_refusal (WrongKey broken) = refused_file (codes "chip") 2 (codes "WrongKey") broken
@@ -58,7 +58,8 @@ abbrev pub with_chip : List ℕ → (ChipData → Task) → Task
 with_chip name next =
     reads_file (codes "chip") name (λ bytes. judged chip_refusal (chip_of bytes) next)
 
--- What is refused of an application file. Its definition never lacks memory.
+-- The refusal of an application file by a fault. `app_of` never lacks memory, so the last is never
+-- asked.
 abbrev pub app_refusal : AppFault → Job
 app_refusal app.BadToml = refused_file (codes "app") 1 (codes "BadToml") nowhere
 app_refusal (app.WrongKey broken) = refused_file (codes "app") 2 (codes "WrongKey") broken
@@ -87,7 +88,8 @@ GoesOn {X} {A} content old new task view (Told value) =
 GoesOn {X} {A} content old new task view (Ends answer) =
     (answer.status ≢ USAGE) × ((next : A → Task) → IsAnswer content old new (task next) answer)
 
--- What a call gives of a value, or of the rule that is broken: the value, or the refusal.
+-- What a call gives where a file was judged: the value of its definition, or the refusal of its
+-- fault.
 abbrev pub IsJudged : {X A E : Type 0} → (E → Job) → Result A E → (X → A) → Judged X → Type 0
 IsJudged {X} {A} {E} refusal defined view (Told value) = defined ≡ Ok (view value)
 IsJudged {X} {A} {E} refusal defined view (Ends answer) =

@@ -11,8 +11,8 @@ use Rattle.aeth_io.specs.Causes.{Rose}
 use Rattle.aeth_cli.specs.declared.status.TheConstants.{READ_FAULT}
 use Rattle.aeth_cli.specs.Job.{Job, refused}
 
--- A task is at its end, with a job; or it reads a file, which is called so in texts and lies under
--- such a name, and goes on with its bytes.
+-- A task ends with a job; or it reads a file, which has a word in texts and a name on the shelf,
+-- and goes on with its bytes.
 pub data Task : Type 0 where
   ends : Job → Task
   reads : List ℕ → List ℕ → (List ℕ → Task) → Task
@@ -28,9 +28,9 @@ job_with content (ends job) = Some job
 job_with content (reads file name next) =
     told (content name) (λ bytes. job_with content (next bytes))
 
--- What holds of the bytes of a file, where they are told.
+-- What holds of the bytes of a file: of those that are told, or of some where none are.
 abbrev pub OnTold : Option (List ℕ) → (List ℕ → Type 0) → Type 0
-OnTold None Holds = Unit {0}
+OnTold None Holds = (bytes : List ℕ) × Holds bytes
 OnTold (Some bytes) Holds = Holds bytes
 
 -- The task comes to read this file under this name: none of what it judges before is refused.

@@ -67,7 +67,11 @@ fn applications_are_summed_up(rt: HostRuntime) -> Result<(), Fail> {
     Ok(())
 }
 
-/// Words, and what is written to `err`: a file that follows a failure isn't read.
+/// The first call of the shelf for a second file.
+const THIRD_CALL: u64 = 2;
+
+/// Words, and what is written to `err` where that call fails: a file that follows a failure isn't
+/// read.
 const ORDER: [(&str, &str); 4] = [
     ("app none two", "read fault chip\n"),
     ("app two none", "refused chip 2 WrongKey 0 connection\n"),
@@ -78,7 +82,7 @@ const ORDER: [(&str, &str); 4] = [
 #[test]
 fn the_chip_is_judged_first(rt: HostRuntime) -> Result<(), Fail> {
     for (line, on_err) in ORDER {
-        let mut shelf = shelf_of(rt.alloc(), &[("pair", PAIR), ("two", TWO)], NO_CALL)?;
+        let mut shelf = shelf_of(rt.alloc(), &[("pair", PAIR), ("two", TWO)], THIRD_CALL)?;
         let written = answer(rt.alloc(), line, &mut shelf)?;
         assert_eq!(rt; written.out.bytes(), b"".as_slice(), "{line}");
         assert_eq!(rt; written.err.bytes(), on_err.as_bytes(), "{line}");

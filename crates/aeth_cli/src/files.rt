@@ -28,7 +28,7 @@ pub enum Judged<T: Drop> {
     Ends(Answer),
 }
 
-/// The bytes of a file, which is called so in texts and lies under such a name.
+/// The bytes of a file, by its word in texts and its name on the shelf.
 fn read_file<H: Shelf>(
     alloc: Global,
     file: &str,

@@ -32,7 +32,7 @@ pub fn shown_text(text: &str) -> Shown
     }
 }
 
-/// The next place of a walk. There is no memory for so many places that it doesn't fit.
+/// The next place of a walk. `Err` exactly where it doesn't fit 32 bits.
 pub fn next_place(place: u32) -> Result<u32, NoMemory>
     ensures { IfOk result (λ next. next ≡ place + 1) }
 {
@@ -42,7 +42,7 @@ pub fn next_place(place: u32) -> Result<u32, NoMemory>
     }
 }
 
-/// The place so many places on. There is no memory for so many that it doesn't fit.
+/// The place so many places on. `Err` exactly where it doesn't fit 32 bits.
 pub fn place_after(place: u32, count: usize) -> Result<u32, NoMemory>
     ensures { IfOk result (λ after. after ≡ place + count) }
 {

@@ -8,7 +8,7 @@ use Rattle.std.proofs.lemmas.Bool.{and_from, and_parts, cases_Bool, eq-eqb, eqb-
 use Rattle.std.proofs.lemmas.Bool.{or_cases, or_left, or_parts, or_right}
 use Rattle.std.proofs.lemmas.Map.Keys.{IsDistinct-cons, IsDistinct-head, IsDistinct-tail}
 use Rattle.std.proofs.lemmas.Map.Steps.{length-le_from_distinct_below}
-use Rattle.aeth_app.specs.App.{UseData, is_smooth, names_in}
+use Rattle.aeth_app.specs.App.{UseData, is_smooth, names_smooth_in}
 use Rattle.aeth_group.specs.Chains.{SameGroup, SmoothChain}
 use Rattle.aeth_group.specs.Groups.{in_one_group, is_chained}
 use Rattle.aeth_group.proofs.Ranges.{any_from_passer, passer_from_any}
@@ -48,8 +48,8 @@ same_group-trans uses u w v first second = record {
 pub is_smooth-sym : (uses : List UseData) (u v : ℕ) → is_smooth uses u v ≡ true
     → is_smooth uses v u ≡ true
 is_smooth-sym uses u v smooth =
-    let names = names_in (slice_get uses u) v in
-    let named = names_in (slice_get uses v) u in
+    let names = names_smooth_in (slice_get uses u) v in
+    let named = names_smooth_in (slice_get uses v) u in
     elim (or_cases names named smooth) [
       | inl is ↦ or_right named names is
       | inr is ↦ or_left named names is

@@ -1,11 +1,12 @@
 -- What the groups of an application are seen as, and what their readers tell.
 --
 --   UseGroupData, GroupsData      a use case's group and connections, and those of all use cases
---   groups_of      the groups of an application
+--   use_group, groups_of      the groups of an application
 --   IsGroups      what holds of all groups
---   group_at, has_at      the group of a use case, and whether it has a connection
+--   group_in, group_at      the group of a use case
+--   use_has, has_at      whether a use case has a connection
 --   is_member, are_together, is_kept      which connections are in a group, together, and kept
---   units_of      the units
+--   units_with, units_of      the units
 -- This project's own.
 use Rattle.std.specs.Prelude.{ℕ, ◌≤◌, ◌<◌, ◌==◌, ◌&&◌, Bool, false, List, All, Option, Some, None}
 use Rattle.std.specs.Prelude.{length, map, filter, flat_map, slice_get}

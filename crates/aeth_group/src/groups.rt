@@ -39,7 +39,7 @@ impl UseGroup {
 }
 
 /// The groups of an application's use cases: chains of smooth switches join the use cases of one. A
-/// connection keeps its reservations in a switch within a group.
+/// switch within a group keeps the reservations of the connections that both use cases have.
 ///
 /// Groups are numbered from 0 in the order of their least use cases. This project's own.
 #[derive(Drop)]

@@ -1,4 +1,4 @@
-//! Where bytes are read and written, with the faults of each place one_more.
+//! Where bytes are read and written, with the faults of each place counted.
 #![tactic(auto)]
 
 mod host_shelf;

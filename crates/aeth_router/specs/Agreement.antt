@@ -1,5 +1,6 @@
--- The law of latching that components owe: what a router holds from its incoming links is what
--- these have, alone.
+-- The law of latching that components owe: what a router holds then depends on its incoming links
+-- alone.
+-- This project's own.
 use Rattle.std.specs.Prelude.{◌≡◌, ℕ, ◌==◌, List, [], ◌∷◌, Option, Some, None, map}
 use Rattle.std.specs.Prelude.{slice_get, unwrap_or}
 use Rattle.std.proofs.Common.{refl, ap, suc}

@@ -1,4 +1,4 @@
-//! Routers: each flit moved on by one hop in a cycle.
+//! Routers: each flit that alone names a port moves on by one hop in a cycle.
 #![tactic(auto)]
 
 mod router;

@@ -18,8 +18,9 @@ use std::marker::Model;
 /// A router, after Æthereal (2005).
 ///
 /// Each flit that it latches in a cycle it drives in the next, on the port that the flit's header
-/// names, and moves the header on by one port. A port that two latched flits name carries neither,
-/// and a flit whose port is past the router's last is lost; no other flit is.
+/// names, and moves the header on by one port. A port that two or more latched flits name carries
+/// none of them, and they are lost. A flit whose port is past the router's last is lost. Every
+/// other flit is driven.
 #[derive(Debug, Drop)]
 pub struct Router {
     incoming: Vec<LinkId>,

@@ -4,8 +4,8 @@ use Rattle.aeth_app.specs.Limits.{IsWithinLimits}
 use Rattle.aeth_app.specs.Parts.{connection_of, core_of}
 use Rattle.aeth_app.specs.Ranges.{names_in}
 use Rattle.aeth_app.proofs.ToldLemmas.{are_names, is_app, is_app_of}
-use Rattle.aeth_app.proofs.reading.kept_app.Goals.{In_ok-judge_limits}
-use Rattle.aeth_app.proofs.reading.kept_app.Goals as goal
+use Rattle.aeth_app.proofs.reading.app_within_limits.Goals.{In_ok-judge_limits}
+use Rattle.aeth_app.proofs.reading.app_within_limits.Goals as goal
 
 -- No limit is broken by what the tables tell.
 within : (c : In_ok-judge_limits) → IsWithinLimits (length c.args.chip.now.nis)
