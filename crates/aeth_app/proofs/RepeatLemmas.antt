@@ -12,10 +12,10 @@ use Rattle.std.proofs.lemmas.Map.Keys.{IsDistinct-push}
 use Rattle.indexmap.specs.IndexSet.{insert_key}
 use Rattle.toml.specs.Data.{Members}
 use Rattle.aeth_document.specs.Values.{text_at, texts_at}
-use Rattle.aeth_document.specs.Walks.{first_broken}
-use Rattle.aeth_document.proofs.WalkLemmas.{first_broken-append_none}
+use Rattle.aeth_document.specs.Walks.{first_broken, repeats}
+use Rattle.aeth_document.proofs.WalkLemmas.{first_broken-append_none, length-repeats}
 use Rattle.aeth_app.proofs.FileWalks.{first_broken-four}
-use Rattle.aeth_app.specs.Names.{HasDistinctNames, name_twice, twice, twice_after}
+use Rattle.aeth_app.specs.Names.{HasDistinctNames, name_twice}
 use Rattle.aeth_app.specs.Ranges.{names_in}
 
 -- A test passes in a mapped list where the test of what it maps to passes.
@@ -35,59 +35,52 @@ map-insert_key f xs x =
       | inr new ↦ rw new (map-append f xs (x ∷ []))
     ])
 
--- There is a check for each text.
-pub length-twice_after : (seen texts : List (List ℕ))
-    → length (twice_after seen texts) ≡ length texts
-length-twice_after seen [] = refl
-length-twice_after seen (text ∷ texts) =
-    ap (λ n. suc n) (length-twice_after (seen ++ text ∷ []) texts)
-
 -- There is a check for each name.
-length-twice_names : {X : Type 0} (view : X → Members) (tables : List X)
-    → length (twice (names_in (map view tables))) ≡ length tables
-length-twice_names view tables =
-    length-twice_after [] (names_in (map view tables))
+length-repeats_names : {X : Type 0} (view : X → Members) (tables : List X)
+    → length (repeats [] (names_in (map view tables))) ≡ length tables
+length-repeats_names view tables =
+    length-repeats [] (names_in (map view tables))
     ∙ length-map (map view tables) (text_at (codes "name")) ∙ length-map tables view
 
 -- Texts of which none stands twice, after some that are distinct, are distinct with them.
-twice_after-none : (place : ℕ) (seen texts : List (List ℕ))
-    → first_broken place (twice_after seen texts) ≡ None → IsDistinct bytes_eq seen
+repeats-none : (place : ℕ) (seen texts : List (List ℕ))
+    → first_broken place (repeats seen texts) ≡ None → IsDistinct bytes_eq seen
     → IsDistinct bytes_eq (seen ++ texts)
-twice_after-none place seen [] none apart = rw append-nil apart
-twice_after-none place seen (text ∷ texts) none apart =
+repeats-none place seen [] none apart = rw append-nil apart
+repeats-none place seen (text ∷ texts) none apart =
     elim (cases_Bool (list_any (bytes_eq text) seen)) [
       | inl old ↦ absurd (cc (rw old at none))
       | inr new ↦
           rw (← append_assoc seen (text ∷ []) texts)
-          (twice_after-none (place + 1) (seen ++ text ∷ []) texts (rw new at none)
+          (repeats-none (place + 1) (seen ++ text ∷ []) texts (rw new at none)
           (IsDistinct-push nat_list_eq_equiv seen text apart new))
     ]
 
 -- Texts of which none stands twice are distinct.
-pub twice-none : (place : ℕ) (texts : List (List ℕ)) → first_broken place (twice texts) ≡ None
+pub no_repeats : (place : ℕ) (texts : List (List ℕ)) → first_broken place (repeats [] texts) ≡ None
     → IsDistinct bytes_eq texts
 unfolding IsDistinct
-twice-none place texts none = twice_after-none place [] texts none tt
+no_repeats place texts none = repeats-none place [] texts none tt
 
 -- First the cores, then the connections, then the use cases, then the lists of these.
 pub name_twice_split : {X : Type 0} (view : X → Members) (cores connections uses : List X)
     → name_twice (map view cores) (map view connections) (map view uses)
     ≡ option_or (option_or (option_or
-    (first_broken 0 (twice (names_in (map view cores))))
-    (first_broken (0 + length cores) (twice (names_in (map view connections)))))
+    (first_broken 0 (repeats [] (names_in (map view cores))))
+    (first_broken (0 + length cores) (repeats [] (names_in (map view connections)))))
     (first_broken ((0 + length cores) + length connections)
-    (twice (names_in (map view uses)))))
+    (repeats [] (names_in (map view uses)))))
     (first_broken (((0 + length cores) + length connections) + length uses)
-    (flat_map (λ one. twice (texts_at (codes "connections") one)) (map view uses)))
+    (flat_map (λ one. repeats [] (texts_at (codes "connections") one)) (map view uses)))
 unfolding name_twice
 name_twice_split view cores connections uses =
     rw (
-      first_broken-four 0 (twice (names_in (map view cores)))
-          (twice (names_in (map view connections))) (twice (names_in (map view uses)))
-          (flat_map (λ one. twice (texts_at (codes "connections") one)) (map view uses)),
-      length-twice_names view cores,
-      length-twice_names view connections,
-      length-twice_names view uses,
+      first_broken-four 0 (repeats [] (names_in (map view cores)))
+          (repeats [] (names_in (map view connections))) (repeats [] (names_in (map view uses)))
+          (flat_map (λ one. repeats [] (texts_at (codes "connections") one)) (map view uses)),
+      length-repeats_names view cores,
+      length-repeats_names view connections,
+      length-repeats_names view uses,
     ) refl
 
 -- What holds where the walk finds nothing.
@@ -95,15 +88,15 @@ pub are_apart : (cores connections uses : List Members)
     → name_twice cores connections uses ≡ None → HasDistinctNames cores connections uses
 unfolding name_twice
 are_apart cores connections uses none =
-    let of_cores = twice (names_in cores) in
-    let of_connections = twice (names_in connections) in
-    let of_uses = twice (names_in uses) in
-    let lists = flat_map (λ one. twice (texts_at (codes "connections") one)) uses in
+    let of_cores = repeats [] (names_in cores) in
+    let of_connections = repeats [] (names_in connections) in
+    let of_uses = repeats [] (names_in uses) in
+    let lists = flat_map (λ one. repeats [] (texts_at (codes "connections") one)) uses in
     let names = first_broken-append_none 0 (of_cores ++ of_connections ++ of_uses) lists none in
     let last = first_broken-append_none 0 (of_cores ++ of_connections) of_uses names.0 in
     let front = first_broken-append_none 0 of_cores of_connections last.0 in
     record {
-      core_names = twice-none 0 (names_in cores) front.0;
-      connection_names = twice-none _ (names_in connections) front.1;
-      use_names = twice-none _ (names_in uses) last.1;
+      core_names = no_repeats 0 (names_in cores) front.0;
+      connection_names = no_repeats _ (names_in connections) front.1;
+      use_names = no_repeats _ (names_in uses) last.1;
     }

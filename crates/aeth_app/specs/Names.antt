@@ -1,6 +1,5 @@
 -- The names of an application file: which stand twice, and which name nothing.
 --
---   twice    the texts of a list that equal an earlier one
 --   name_twice    the walk over the lists
 --   HasDistinctNames    what holds where none does
 --   unknown    a text that names nothing
@@ -15,27 +14,15 @@ use Rattle.aeth_document.specs.declared.shown.Broken.{Broken}
 use Rattle.aeth_document.specs.declared.shown.Shown.{Shown}
 use Rattle.aeth_document.specs.Shown.{shown_text}
 use Rattle.aeth_document.specs.Values.{text_at, text_if, texts_at}
-use Rattle.aeth_document.specs.Walks.{first_broken, place_of}
+use Rattle.aeth_document.specs.Walks.{first_broken, place_of, repeats}
 use Rattle.aeth_app.specs.Ranges.{names_in}
-
--- For each text whether it equals one of the seen ones or an earlier one. The texts needn't be
--- names.
-abbrev pub twice_after : List (List ℕ) → List (List ℕ) → List (Option Shown)
-twice_after seen [] = []
-twice_after seen (text ∷ texts) =
-    (if list_any (bytes_eq text) seen then Some (shown_text text) else None)
-    ∷ twice_after (seen ++ text ∷ []) texts
-
--- For each text of a list whether it equals an earlier one.
-abbrev pub twice : List (List ℕ) → List (Option Shown)
-twice texts = twice_after [] texts
 
 -- The first text that equals an earlier one of its list: the cores, the connections, the use cases,
 -- then the connections of each use case.
 unfoldable pub name_twice : List Members → List Members → List Members → Option Broken
 name_twice cores connections uses =
-    first_broken 0 (twice (names_in cores) ++ twice (names_in connections) ++ twice (names_in uses)
-    ++ flat_map (λ one. twice (texts_at (codes "connections") one)) uses)
+    first_broken 0 (repeats [] (names_in cores) ++ repeats [] (names_in connections)
+    ++ repeats [] (names_in uses) ++ flat_map (λ one. repeats [] (texts_at (codes "connections") one)) uses)
 
 -- What holds where no name stands twice.
 pub record HasDistinctNames (cores connections uses : List Members) : Type 0 where

@@ -1,12 +1,12 @@
 // Names that stand twice in an application file.
-ghost use Rattle.std.specs.Prelude.{◌≡◌, flat_map, map, not, codes, IfOk, OnOk, None};
+ghost use Rattle.std.specs.Prelude.{◌≡◌, [], flat_map, map, not, codes, IfOk, OnOk, None};
 ghost use Rattle.std.specs.List.{list_any};
 ghost use Rattle.std.specs.Str.{bytes_eq};
 ghost use Rattle.indexmap.specs.IndexSet.{insert_key};
-ghost use Rattle.aeth_app.specs.Names.{HasDistinctNames, name_twice, twice};
+ghost use Rattle.aeth_app.specs.Names.{HasDistinctNames, name_twice};
 ghost use Rattle.aeth_app.specs.Ranges.{names_in};
 ghost use Rattle.aeth_document.specs.Values.{texts_at};
-ghost use Rattle.aeth_document.specs.Walks.{first_broken};
+ghost use Rattle.aeth_document.specs.Walks.{first_broken, repeats};
 ghost use Rattle.toml.specs.View.{table_view};
 
 use aeth_base::NoMemory;
@@ -40,7 +40,7 @@ fn add<'a>(seen: &mut IndexSet<&'a str>, text: &'a str) -> Result<bool, NoMemory
 // The first of the texts, counted from a place on, that equals an earlier one.
 fn repeated(alloc: Global, first: u32, texts: &[&str]) -> Result<Option<Broken>, NoMemory>
     ensures { IfOk result (λ found. found
-        ≡ first_broken first (twice (map (λ t. t.now) texts.now))) }
+        ≡ first_broken first (repeats [] (map (λ t. t.now) texts.now))) }
 {
     let mut seen = IndexSet::new(alloc);
     let mut place = first;
@@ -58,7 +58,7 @@ fn repeated(alloc: Global, first: u32, texts: &[&str]) -> Result<Option<Broken>,
 
 fn repeated_name(alloc: Global, first: u32, tables: &[&Table]) -> Result<Option<Broken>, NoMemory>
     ensures { IfOk result (λ found. found
-        ≡ first_broken first (twice (names_in (map (λ t. table_view t.now) tables.now)))) }
+        ≡ first_broken first (repeats [] (names_in (map (λ t. table_view t.now) tables.now)))) }
 {
     let names = names_in(alloc, tables)?;
     repeated(alloc, first, &names)
@@ -70,7 +70,7 @@ fn repeated_connection(
     uses: &[&Table],
 ) -> Result<Option<Broken>, NoMemory>
     ensures { IfOk result (λ found. found ≡ first_broken first
-        (flat_map (λ one. twice (texts_at (codes "connections") one))
+        (flat_map (λ one. repeats [] (texts_at (codes "connections") one))
         (map (λ t. table_view t.now) uses.now))) }
 {
     let mut place = first;

@@ -7,7 +7,8 @@ use Rattle.std.specs.Str.{bytes_eq}
 use Rattle.aeth_base.specs.Name.{is_name, name_of}
 use Rattle.aeth_document.specs.declared.shown.Broken.{Broken}
 use Rattle.aeth_document.specs.declared.shown.Shown.{Shown}
-use Rattle.aeth_document.specs.declared.shown.Shown.TheVariants.{Odd, Number, Word}
+use Rattle.aeth_document.specs.declared.shown.Shown.TheVariants.{Odd, Number}
+use Rattle.aeth_document.specs.Shown.{shown_text}
 
 -- The first check of a walk that is broken, with its place. The first check stands at `place`,
 -- and a check that isn't broken shows nothing.
@@ -25,14 +26,14 @@ outside low high (negsuc n) = Some Odd
 abbrev pub no_name : List ℕ → Option Shown
 no_name text = if is_name text then None else Some Odd
 
--- A name that is among some others.
+-- A text that is among some others.
 abbrev pub repeated : List (List ℕ) → List ℕ → Option Shown
-repeated others name = if list_any (bytes_eq name) others then Some (Word name) else None
+repeated others text = if list_any (bytes_eq text) others then Some (shown_text text) else None
 
--- For each name whether it equals one of the others or an earlier one.
+-- For each text whether it equals one of the others or an earlier one. The texts needn't be names.
 abbrev pub repeats : List (List ℕ) → List (List ℕ) → List (Option Shown)
 repeats others [] = []
-repeats others (name ∷ names) = repeated others name ∷ repeats (others ++ name ∷ []) names
+repeats others (text ∷ texts) = repeated others text ∷ repeats (others ++ text ∷ []) texts
 
 -- The place of a text among the names.
 abbrev pub place_of : List (List ℕ) → List ℕ → Option ℕ

@@ -26,7 +26,14 @@ pub struct Broken {
 pub fn shown_text(text: &str) -> Shown
     ensures { result ≡ shown_text text.now }
 {
-    match Name::new(text.as_bytes()) {
+    shown_bytes(text.as_bytes())
+}
+
+/// The bytes of a text as a refusal shows it.
+pub(crate) fn shown_bytes(text: &[u8]) -> Shown
+    ensures { result ≡ shown_text text.now }
+{
+    match Name::new(text) {
         Some(name) => Shown::Word(name),
         None => Shown::Odd,
     }
