@@ -22,7 +22,8 @@ use Rattle.aeth_app.specs.Ranges.{names_in}
 unfoldable pub name_twice : List Members → List Members → List Members → Option Broken
 name_twice cores connections uses =
     first_broken 0 (repeats [] (names_in cores) ++ repeats [] (names_in connections)
-    ++ repeats [] (names_in uses) ++ flat_map (λ one. repeats [] (texts_at (codes "connections") one)) uses)
+    ++ repeats [] (names_in uses)
+    ++ flat_map (λ one. repeats [] (texts_at (codes "connections") one)) uses)
 
 -- What holds where no name stands twice.
 pub record HasDistinctNames (cores connections uses : List Members) : Type 0 where

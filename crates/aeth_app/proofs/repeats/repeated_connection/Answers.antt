@@ -23,8 +23,8 @@ loop-one-preserved c =
     let step = first_broken-each (λ t. table_view t.now)
     (λ one. repeats [] (texts_at (codes "connections") one)) c.loop-one.place c.loop-one.one-index
     c.args.uses.now c.one-item.result c.loop-one-test.true c.one-item.is in
-    let count : length (repeats [] (texts_at (codes "connections") (table_view c.one-item.result.now)))
-    ≡ c.len.result =
+    let count : length (repeats []
+    (texts_at (codes "connections") (table_view c.one-item.result.now))) ≡ c.len.result =
     length-repeats [] _ ∙ ap length (sym c.in_ok-texts.ensures)
     ∙ length-map c.in_ok-texts.texts.items (λ t. t.now)
     ∙ (rw c.deref.ensures.value at c.deref.ensures.len) ∙ sym c.len.ensures in
