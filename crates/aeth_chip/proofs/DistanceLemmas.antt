@@ -1,10 +1,10 @@
 -- Levels of places are least numbers of links of paths.
 use Rattle.std.proofs.Common.{◌≡◌, ◌⊎◌, ◌∙◌, ◌+◌, ◌<◌, ◌≤◌, ◌++◌, ℕ, zero, suc, List, [], ◌∷◌}
-use Rattle.std.proofs.Common.{Option, Some, None, length, slice_get, refl, sym, ap, subst, inl, inr}
+use Rattle.std.proofs.Common.{Option, Some, None, length, slice_get, refl, sym, subst, inl, inr}
 use Rattle.std.proofs.Common.{arith}
 use Rattle.std.specs.declared.vec.Vec.{Vec}
 use Rattle.std.specs.declared.alloc.Global.{Global}
-use Rattle.std.proofs.lemmas.Option.{none-some, same_Some, slice_get_within, slice_get_cases}
+use Rattle.std.proofs.lemmas.Option.{same_Some, slice_get_within, slice_get_cases}
 use Rattle.aeth_base.specs.declared.ids.LinkId.{LinkId}
 use Rattle.aeth_base.specs.declared.ids.NiId.{NiId}
 use Rattle.aeth_base.specs.declared.ids.RouterId.{RouterId}
@@ -17,6 +17,7 @@ use Rattle.aeth_chip.specs.Levels.{At, Within, Passes, Reaches, AreLevels, AreOr
 use Rattle.aeth_chip.specs.Levels.{HasPlaces, IsOrigin, Leads, place_of}
 use Rattle.aeth_chip.specs.Distances.{AreRows, entry_in, entry_of}
 use Rattle.aeth_chip.proofs.PathLemmas.{IsShortest, shortest_distinct}
+use Rattle.aeth_chip.proofs.Pushes.{slice_get-push}
 use Rattle.aeth_chip.proofs.WalkLemmas.{Walk, begins_placed, ends_placed, path_reaches}
 use Rattle.aeth_chip.proofs.WalkLemmas.{reaches_path}
 
@@ -204,18 +205,6 @@ rows_least links routers places origins rows placed are_origins size each =
           has.joins in
           absurd (omega arith);
     }
-
--- An element was put behind the others.
-slice_get-push : {X : Type 0} (xs : List X) (y x : X) (i : ℕ)
-    → slice_get (xs ++ y ∷ []) i ≡ Some x
-    → (slice_get xs i ≡ Some x) ⊎ ((i ≡ length xs) × (y ≡ x))
-slice_get-push [] y x zero is = inr (refl, same_Some y x is)
-slice_get-push [] y x (suc i) is = absurd (none-some x is)
-slice_get-push (z ∷ xs) y x zero is = inl is
-slice_get-push (z ∷ xs) y x (suc i) is = elim (slice_get-push xs y x i is) [
-  | inl early ↦ inl early
-  | inr (last, same) ↦ inr (ap suc last, same)
-]
 
 -- A row was put behind the others.
 pub rows-push : (Step : ℕ → ℕ → Type 0) (routers places goal : ℕ)

@@ -1,8 +1,10 @@
 mod Fronts
+mod Pushes
 mod RangeLemmas
 mod PortLemmas
 mod LinkLemmas
 pub mod NodeLemmas
+mod IndexLemmas
 pub mod OffsetLemmas
 pub mod PathLemmas
 mod SpreadLemmas

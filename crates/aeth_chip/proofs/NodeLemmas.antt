@@ -1,15 +1,19 @@
 -- Laws of nodes and of the numbers of links.
-use Rattle.std.proofs.Common.{◌≡◌, ◌<◌, ◌+◌, ℕ, zero, suc, true, List, [], ◌∷◌, Some}
-use Rattle.std.proofs.Common.{Bool, length, None, get_or, take, refl, ap, inl, inr, arith}
+use Rattle.std.proofs.Common.{◌≡◌, ◌<◌, ◌+◌, ◌∙◌, ◌++◌, ℕ, zero, suc, true, false, List, [], ◌∷◌}
+use Rattle.std.proofs.Common.{Bool, Some, None, length, map, take, drop, append_assoc, refl, ap, inl}
+use Rattle.std.proofs.Common.{inr, arith}
 use Rattle.std.specs.Prelude.{count_by, slice_get, IsSome, IfSome}
 use Rattle.std.proofs.lemmas.Bool.{cases_Bool, eq-eqb}
-use Rattle.std.proofs.lemmas.Option.{same_Some, slice_get_read}
+use Rattle.std.proofs.lemmas.List.{drop_more, map-append}
+use Rattle.std.proofs.lemmas.Option.{get_or_from_slice_get, same_Some, slice_get_within}
 use Rattle.aeth_base.proofs.Lists.{count_by-before, count_by-no, count_by-yes}
+use Rattle.aeth_base.specs.declared.ids.LinkId.{LinkId}
 use Rattle.aeth_base.specs.declared.ids.RouterId.{RouterId}
 use Rattle.aeth_chip.specs.declared.node.Link.{Link}
 use Rattle.aeth_chip.specs.declared.node.Node.{Node}
 use Rattle.aeth_chip.specs.declared.node.Node.TheVariants.{Router, Ni}
 use Rattle.aeth_chip.specs.Chip.{ChipData, IsChip}
+use Rattle.aeth_chip.specs.Index.{IsPort}
 use Rattle.aeth_chip.specs.Nodes.{begins_at, numbers_from, router_of, same_node, sender_of}
 use Rattle.aeth_chip.specs.Nodes.{sends_on}
 
@@ -47,6 +51,39 @@ length-numbers_from test number (link ∷ links) =
       | inr other ↦ rw (count_by-no test link links other, other) rest
     ]
 
+-- Where none passes there is no number.
+pub numbers_from-none : (test : Link → Bool) (number : ℕ) (links : List Link)
+    → ((i : ℕ) (link : Link) → slice_get links i ≡ Some link → test link ≡ false)
+    → numbers_from number test links ≡ []
+numbers_from-none test number [] fails = refl
+numbers_from-none test number (link ∷ links) fails =
+    rw (fails 0 link refl)
+    (numbers_from-none test (number + 1) links (λ i other at. fails (suc i) other at))
+
+-- The numbers of the links before one, and from it on, are those of all: what one more link adds.
+module _ (test : Link → Bool) (links : List Link) (front : List LinkId) (all : List ℕ)
+    (number : ℕ) (link : Link) (at : slice_get links number ≡ Some link)
+    (before : map (λ l. l.0) front ++ numbers_from number test (drop number links) ≡ all) where
+  -- The links from this one on.
+  from-here : drop number links ≡ link ∷ drop (number + 1) links
+  from-here =
+      rw (get_or_from_slice_get links number link link at) at
+      (drop_more links number link (slice_get_within links number link at))
+
+  -- A link that passes the test is one more.
+  pub numbers_from-passes : test link ≡ true
+      → map (λ l. l.0) (front ++ record { 0 = number } ∷ [])
+      ++ numbers_from (number + 1) test (drop (number + 1) links) ≡ all
+  numbers_from-passes passes =
+      let rest = numbers_from (number + 1) test (drop (number + 1) links) in
+      rw (map-append (λ (l : LinkId). l.0) front (record { 0 = number } ∷ []))
+      (append_assoc (map (λ l. l.0) front) (number ∷ []) rest ∙ rw (from-here, passes) at before)
+
+  -- One that fails it is none.
+  pub numbers_from-fails : test link ≡ false
+      → map (λ l. l.0) front ++ numbers_from (number + 1) test (drop (number + 1) links) ≡ all
+  numbers_from-fails fails = rw (from-here, fails) at before
+
 -- No router isn't some router.
 no_sender : IsSome {T = RouterId} None → ⊥
 no_sender some = absurd (cc some)
@@ -71,20 +108,17 @@ port_from chip l link port (Router r) is_chip at begins some counts =
     (omega arith, stands)
 
 -- A link on which a router sends is there.
-sender_of-within : (links : List Link) (l : ℕ) → IsSome (sender_of links l) → l < length links
-sender_of-within [] l some = absurd (no_sender some)
-sender_of-within (link ∷ links) zero some = omega arith
-sender_of-within (link ∷ links) (suc l) some =
-    let rest = sender_of-within links l some in
-    omega arith
+sender_link : (links : List Link) (l : ℕ) → IsSome (sender_of links l)
+    → (link : Link) × (slice_get links l ≡ Some link)
+sender_link [] l some = absurd (no_sender some)
+sender_link (link ∷ links) zero some = (link, refl)
+sender_link (link ∷ links) (suc l) some = sender_link links l some
 
 -- The port of a link on which a router sends.
-pub port_at : (chip : ChipData) (l : ℕ) (link : Link) (port : ℕ) → IsChip chip
-    → link ≡ get_or chip.links l link → IsSome (sender_of chip.links l)
-    → port ≡ count_by (begins_at link.from) (take l chip.links)
+pub port_at : (chip : ChipData) (l port : ℕ) → IsChip chip → IsSome (sender_of chip.links l)
+    → IsPort chip.links l port
     → (port < 8) × IfSome (sender_of chip.links l) (λ router.
     slice_get (sends_on (Router router) chip.links) port ≡ Some l)
-port_at chip l link port is_chip here some counts =
-    let within = sender_of-within chip.links l some in
-    let at = slice_get_read chip.links (length chip.links) l link refl within here in
-    rw at (port_from chip l link port link.from is_chip at refl (rw at at some) counts)
+port_at chip l port is_chip some is_port =
+    let (link, at) = sender_link chip.links l some in
+    rw at (port_from chip l link port link.from is_chip at refl (rw at at some) (is_port link at))

@@ -1,6 +1,7 @@
 pub mod Chip
 pub mod ChipFile
 pub mod Distances
+pub mod Index
 pub mod LeastDistance
 pub mod Levels
 pub mod Nodes

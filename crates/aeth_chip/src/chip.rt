@@ -4,10 +4,11 @@ ghost use Rattle.std.specs.Prelude.{option_map, IsSome, IfSome};
 ghost use Rattle.std.specs.Str.{bytes_eq};
 ghost use Rattle.aeth_chip.specs.declared.node.Node.TheVariants.{Router, Ni};
 ghost use Rattle.aeth_chip.specs.Chip.{IsChip, IsNode};
+ghost use Rattle.aeth_chip.specs.Index.{IsIndex};
 ghost use Rattle.aeth_chip.specs.Nodes.{receives_on, sender_of, sends_on};
 
-use crate::node::{End, Link, MAX_DELAY, Node};
-use crate::ports::{count_links, nth_link};
+use crate::index::Index;
+use crate::node::{Link, MAX_DELAY};
 use aeth_base::{LinkId, Name, NiId, RouterId};
 use indexmap::IndexSet;
 use std::marker::Model;
@@ -30,17 +31,21 @@ pub const MAX_PORTS: u32 = 8;
 /// A chip: the size of its slot table, its routers and network interfaces, and its directed links.
 ///
 /// All are numbered from 0 in the order of the file. The ports of a router are the links on which
-/// it sends, in that order. After Æthereal (2005).
+/// it sends, in that order. An index of the links, made with the chip, answers `port`, `exit`,
+/// `leaving` and `entering` in a constant number of steps. After Æthereal (2005).
 #[derive(Drop)]
 pub struct Chip {
     slots: u32,
     routers: IndexSet<Name>,
     nis: IndexSet<Name>,
     links: Vec<Link>,
+    index: Index,
 }
 
 impl Model for Chip {
+    ghost use Rattle.std.specs.Prelude.{length};
     ghost use Rattle.aeth_chip.specs.Chip.{ChipData, IsChip};
+    ghost use Rattle.aeth_chip.specs.Index.{IsIndex};
 
     ghost Value = { ChipData };
 
@@ -56,7 +61,7 @@ impl Model for Chip {
       routers = chip.routers.keys;
       nis = chip.nis.keys;
       links = chip.links.items;
-    }) };
+    }) × IsIndex chip.links.items (length chip.routers.keys) (length chip.nis.keys) chip.index };
 }
 
 impl Chip {
@@ -65,13 +70,15 @@ impl Chip {
         routers: IndexSet<Name>,
         nis: IndexSet<Name>,
         links: Vec<Link>,
+        index: Index,
     ) -> Chip
-        requires { IsChip (record {
+        requires chip { IsChip (record {
           slots = slots;
           routers = routers.keys;
           nis = nis.keys;
           links = links.items;
         }) }
+        requires index { IsIndex links.items (length routers.keys) (length nis.keys) index }
         ensures { result ≡ record {
           slots = slots;
           routers = routers.keys;
@@ -84,6 +91,7 @@ impl Chip {
             routers,
             nis,
             links,
+            index,
         }
     }
 
@@ -136,8 +144,7 @@ impl Chip {
             slice_get (sends_on (Router router) self.now.links) result ≡ Some link.0) }
         ensures few { result < MAX_PORTS }
     {
-        let from = self.links[link.0 as usize].from;
-        count_links(&self.links[..link.0 as usize], End::From, from) as u8
+        self.index.port(link) as u8
     }
 
     /// The link on which a router sends through a port; `None` exactly where the port is past the
@@ -146,7 +153,7 @@ impl Chip {
         ensures { option_map (λ link. link.0) result
             ≡ slice_get (sends_on (Router router) self.now.links) port }
     {
-        nth_link(&self.links, End::From, Node::Router(router), port as u32)
+        self.index.exit(router, port)
     }
 
     /// The one link on which a network interface sends.
@@ -154,7 +161,7 @@ impl Chip {
         requires { ni.0 < length self.now.nis }
         ensures { sends_on (Ni ni) self.now.links ≡ result.0 ∷ [] }
     {
-        nth_link(&self.links, End::From, Node::Ni(ni), 0).unwrap()
+        self.index.ends(ni).leaving
     }
 
     /// The one link on which a network interface receives.
@@ -162,7 +169,7 @@ impl Chip {
         requires { ni.0 < length self.now.nis }
         ensures { receives_on (Ni ni) self.now.links ≡ result.0 ∷ [] }
     {
-        nth_link(&self.links, End::To, Node::Ni(ni), 0).unwrap()
+        self.index.ends(ni).entering
     }
 
     /// The name of a network interface.

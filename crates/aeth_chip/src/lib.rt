@@ -7,6 +7,7 @@ mod delays;
 mod distance_tests;
 mod distances;
 mod fault;
+mod index;
 mod levels;
 mod links;
 mod node;

@@ -11,6 +11,7 @@ ghost use Rattle.toml.specs.View.{table_view};
 
 use crate::chip::{Chip, MAX_CHIP_LINKS, MAX_NIS, MAX_ROUTERS, MAX_SLOTS};
 use crate::fault::ChipFault;
+use crate::index::index_of;
 use crate::links::{Names, known_links};
 use crate::node::Link;
 use crate::ports::{not_single, too_many_ports};
@@ -221,7 +222,8 @@ fn joined_chip(
     let links = known_links(alloc, &names, tables)?;
     judge_ports(names.routers.len() as u32, &links)?;
     judge_single(nis, &links)?;
-    Ok(Chip::new(slots, names.routers, names.nis, links))
+    let index = index_of(alloc, names.routers.len() as u32, nis.len() as u32, &links)?;
+    Ok(Chip::new(slots, names.routers, names.nis, links, index))
 }
 
 #[tactic(auto, unfolding(crate::specs::ChipFile::judged_chip))]

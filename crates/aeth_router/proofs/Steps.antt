@@ -1,47 +1,22 @@
--- What each turn of the loops over links adds.
+-- What each turn of the loops over links of a router adds.
 use Rattle.std.proofs.Common.{◌≡◌, ◌<◌, ◌+◌, ℕ, refl, sym, ap, ◌∙◌, arith}
-use Rattle.std.proofs.Common.{Bool, true, false, eqb, ◌||◌, List, [], ◌∷◌, ◌++◌, length, map, take}
-use Rattle.std.proofs.Common.{drop, append_assoc, get_or, Option, Some, None}
+use Rattle.std.proofs.Common.{eqb, ◌||◌, List, [], ◌∷◌, ◌++◌, length, map, take}
+use Rattle.std.proofs.Common.{get_or, Option, Some, None}
 use Rattle.std.proofs.Common.{slice_get}
 use Rattle.std.specs.Prelude.{unwrap_or}
 use Rattle.std.specs.List.{slice_set}
 use Rattle.std.proofs.lemmas.Bool.Decides.{nat_tests}
-use Rattle.std.proofs.lemmas.List.{drop_more, map-append, take_more, take_more_set}
+use Rattle.std.proofs.lemmas.List.{map-append, take_more, take_more_set}
 use Rattle.std.proofs.lemmas.List.Folds.{list_any-append}
 use Rattle.std.proofs.lemmas.Option.{get_or_from_slice_get, slice_get-get_or, slice_get-map}
 use Rattle.std.proofs.lemmas.Option.{slice_get_within}
 use Rattle.std.specs.Option.{option_map}
 use Rattle.aeth_base.specs.declared.ids.LinkId.{LinkId}
-use Rattle.aeth_chip.specs.declared.node.Link.{Link}
-use Rattle.aeth_chip.specs.Nodes.{numbers_from}
 use Rattle.aeth_clocked.specs.declared.flit.Flit.{Flit}
 use Rattle.aeth_clocked.specs.Wires.{AreLinks, Drives, flit_on}
 use Rattle.aeth_clocked.proofs.WiresLemmas.{Drives-same, Drives-slice_set, Drives-then}
 use Rattle.aeth_router.specs.Router.{is_among, numbers_of}
 use Rattle.aeth_router.proofs.LinkLemmas.{is_among-at}
-
-module _ (test : Link → Bool) (links : List Link) (front : List LinkId) (all : List ℕ)
-    (number : ℕ) (link : Link) (at : slice_get links number ≡ Some link)
-    (before : numbers_of front ++ numbers_from number test (drop number links) ≡ all) where
-  -- The links from this one on.
-  from-here : drop number links ≡ link ∷ drop (number + 1) links
-  from-here =
-      rw (get_or_from_slice_get links number link link at) at
-      (drop_more links number link (slice_get_within links number link at))
-
-  -- A link that passes the test is one more.
-  pub numbers_from-passes : test link ≡ true →
-      numbers_of (front ++ record { 0 = number } ∷ [])
-      ++ numbers_from (number + 1) test (drop (number + 1) links) ≡ all
-  numbers_from-passes passes =
-      let rest = numbers_from (number + 1) test (drop (number + 1) links) in
-      rw (map-append (λ (link : LinkId). link.0) front (record { 0 = number } ∷ []))
-      (append_assoc (numbers_of front) (number ∷ []) rest ∙ rw (from-here, passes) at before)
-
-  -- One that fails it is none.
-  pub numbers_from-fails : test link ≡ false →
-      numbers_of front ++ numbers_from (number + 1) test (drop (number + 1) links) ≡ all
-  numbers_from-fails fails = rw (from-here, fails) at before
 
 -- The number at a place.
 pub numbers_of-at : (links : List LinkId) (place : ℕ) (default : LinkId) → place < length links →

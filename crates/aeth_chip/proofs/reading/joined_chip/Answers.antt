@@ -1,22 +1,40 @@
-use Rattle.std.proofs.Common.{◌≡◌, ◌≤◌, length, map, arith}
+use Rattle.std.proofs.Common.{◌≤◌, length, map, arith}
 use Rattle.std.proofs.lemmas.List.{length-map}
 use Rattle.toml.specs.View.{table_view}
 use Rattle.aeth_chip.proofs.LinkLemmas.{is_chip, length-known_links}
+use Rattle.aeth_chip.proofs.PortLemmas.{each_is_single}
 use Rattle.aeth_chip.proofs.reading.joined_chip.Goals as goal
+use Rattle.aeth_chip.proofs.reading.joined_chip.Goals.{In_ok-links}
 
--- There are as many links as tables.
+-- There are as many links as tables, so few.
+few_links : (c : goal.In_ok-links) → length c.in_ok-links.links.items ≤ 1024
+few_links c =
+    let tables = length-map c.args.tables.now (λ t. table_view t.now) in
+    let links = length-known_links _ _ (map (λ t. table_view t.now) c.args.tables.now)
+    c.in_ok-links.links.items c.in_ok-links.ensures in
+    let few = c.requires.links in
+    omega arith
+
 pub judge_single-requires : goal.judge_single-requires
 judge_single-requires c =
-    let links : length c.in_ok-links.links.items
-    ≡ length (map (λ t. table_view t.now) c.args.tables.now) =
-    length-known_links _ _ _ _ c.in_ok-links.ensures in
-    let tables = length-map c.args.tables.now (λ t. table_view t.now) in
-    let few = c.requires.links in
+    let few = few_links (goal.at.judge_single-requires c).In_ok-links in
     rw c.deref-2.ensures.value (omega arith)
 
+pub index_of-requires-clause-few : goal.index_of-requires-clause-few
+index_of-requires-clause-few c =
+    let few = few_links (goal.at.index_of-requires-clause-few c).In_ok-links in
+    rw c.deref-3.ensures.value (omega arith)
+
+-- Each interface is joined to one router.
+pub index_of-requires-clause-single : goal.index_of-requires-clause-single
+index_of-requires-clause-single c =
+    rw (c.deref-3.ensures.value)
+    (each_is_single c.args.nis.now c.in_ok-links.links.items
+    (rw c.deref-2.ensures.value at c.in_ok-judge_single.ensures.none))
+
 -- What every rule keeps is a chip.
-pub new-requires : goal.new-requires
-new-requires c =
+pub new-requires-clause-chip : goal.new-requires-clause-chip
+new-requires-clause-chip c =
     let tables = map (λ t. table_view t.now) c.args.tables.now in
     let few : length tables ≤ 1024 =
     rw (length-map c.args.tables.now (λ t. table_view t.now)) c.requires.links in

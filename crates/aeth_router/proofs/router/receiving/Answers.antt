@@ -1,6 +1,6 @@
 use Rattle.std.proofs.Common.{sym, ◌∙◌}
 use Rattle.aeth_chip.specs.Nodes.{ends_at, receives_on}
-use Rattle.aeth_router.proofs.Steps.{numbers_from-fails, numbers_from-passes}
+use Rattle.aeth_chip.proofs.NodeLemmas.{numbers_from-fails, numbers_from-passes}
 use Rattle.aeth_router.proofs.router.receiving.Goals as goal
 use Rattle.aeth_router.proofs.router.receiving.Goals.{then-ends_at+in_ok-push, else-ends_at}
 

@@ -6,14 +6,14 @@ use Rattle.aeth_chip.proofs.NodeLemmas.{port_at}
 use Rattle.aeth_chip.proofs.chip.Chip.port.Goals as goal
 
 -- The number of earlier links of the router is its port, one of few.
-port_is : (c : goal.After-count_links) → (c.count_links.result < 8)
+port_is : (c : goal.After-port) → (c.port.result < 8)
     × IfSome (sender_of c.args.self.now.links c.args.link.0) (λ router.
-    slice_get (sends_on (Router router) c.args.self.now.links) c.count_links.result
+    slice_get (sends_on (Router router) c.args.self.now.links) c.port.result
     ≡ Some c.args.link.0)
 port_is c =
-    rw (← c.self.view_is) (port_at _ c.args.link.0 c.index.result.now c.count_links.result
-    c.self.invariant c.index.ensures (rw (← c.self.view_is) at c.requires)
-    (rw c.deref.ensures.value at c.count_links.ensures))
+    rw (← c.self.view_is) (port_at _ c.args.link.0 c.port.result c.self.invariant.0
+    (rw (← c.self.view_is) at c.requires)
+    (c.self.invariant.1.ports.each c.args.link.0 c.port.result c.port.ensures))
 
 pub overflow_cast-result : goal.overflow_cast-result
 overflow_cast-result c = let few = (port_is c).0 in omega arith
