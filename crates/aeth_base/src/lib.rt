@@ -8,6 +8,7 @@ mod memory;
 mod name;
 mod number;
 mod path;
+mod steps;
 #[cfg(test)]
 mod tests;
 
@@ -17,3 +18,4 @@ pub use memory::NoMemory;
 pub use name::{MAX_NAME, Name};
 pub use number::{ceil_div, push_number, read_number};
 pub use path::{MAX_LINKS, Path};
+pub use steps::Steps;
