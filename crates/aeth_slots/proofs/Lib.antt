@@ -1,9 +1,11 @@
 pub mod Lists
 pub mod Ascending
 pub mod SlotSetLemmas
+pub mod TestLemmas
 pub mod Sublists
 pub mod ChoiceLemmas
 mod Masks
+mod MaskSets
 mod Lookups
 mod Rotation
 mod Counts

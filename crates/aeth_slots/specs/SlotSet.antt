@@ -4,13 +4,16 @@
 --   same_set                     what `==` tells
 --   with_slot, ascending         a slot put in at its place, and a list put in order
 --   inserted, rotated, common    what `insert`, `rotate` and `meet` give
+--   slots_where, has_slot    the slots of a table that pass a test, and whether a set has a slot
+--   all_slots, joined, without    what `full`, `join` and `without` give
 --   IsNextSlot                   what `at_or_after` gives
 --   gap_of                       the greatest cyclic distance from a slot to the next
 use Rattle.std.specs.Prelude.{ℕ, ◌+◌, ◌-◌, ◌%◌, ◌<◌, ◌≤◌, ◌==◌, nat_lt, max, if◌then◌else◌, Bool}
+use Rattle.std.specs.Prelude.{◌||◌, not}
 use Rattle.std.specs.Prelude.{List, [], ◌∷◌, map, filter, Contains}
 use Rattle.std.specs.Ordering.{on, eq_of_both}
 use Rattle.std.specs.Cmp.Lexicographic.{pointwise}
-use Rattle.std.specs.List.{list_any}
+use Rattle.std.specs.List.{list_any, range_with_len}
 use Rattle.aeth_slots.specs.declared.slot_set.TheConstants.{MAX_SIZE}
 
 -- A slot table's size, and slots of this table, ascending.
@@ -58,6 +61,27 @@ rotated by set =
 abbrev pub common : Slots → Slots → Slots
 common set other =
     record { size = set.size; slots = filter (λ s. list_any (λ t. t == s) other.slots) set.slots }
+
+-- The slots of a table that pass a test.
+abbrev pub slots_where : ℕ → (ℕ → Bool) → Slots
+slots_where size test = record { size = size; slots = filter test (range_with_len 0 size) }
+
+-- All slots of a table.
+abbrev pub all_slots : ℕ → Slots
+all_slots size = record { size = size; slots = range_with_len 0 size }
+
+-- Whether a slot is in a set.
+abbrev pub has_slot : Slots → ℕ → Bool
+has_slot set s = list_any (λ t. t == s) set.slots
+
+-- The slots that one of the sets has.
+abbrev pub joined : Slots → Slots → Slots
+joined set other = slots_where set.size (λ s. has_slot set s || has_slot other s)
+
+-- The slots of the first set that the other one hasn't.
+abbrev pub without : Slots → Slots → Slots
+without set other =
+    record { size = set.size; slots = filter (λ s. not (has_slot other s)) set.slots }
 
 -- The least slot of a list at or after a slot.
 pub record IsNextSlot (slots : List ℕ) (from slot : ℕ) : Type 0 where

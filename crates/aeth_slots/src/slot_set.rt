@@ -2,7 +2,7 @@
 ghost use Rattle.std.specs.Prelude.{◌≡◌, ◌<◌, ◌≤◌, ◌↔◌, ◌++◌, [], ◌∷◌, ℕ, length, IsTrue, IfSome};
 ghost use Rattle.std.specs.Prelude.{IfNone, MatchOption, Contains};
 ghost use Rattle.aeth_slots.specs.SlotSet.{IsSlotSet, IsNextSlot, Ascends, inserted, rotated};
-ghost use Rattle.aeth_slots.specs.SlotSet.{common};
+ghost use Rattle.aeth_slots.specs.SlotSet.{all_slots, common, joined, without};
 
 use std::marker::Model;
 
@@ -47,6 +47,18 @@ impl SlotSet {
         ensures { result ≡ record { size = size; slots = [] } }
     {
         SlotSet { size, mask: 0 }
+    }
+
+    /// All slots of a table of this size.
+    pub fn full(size: u32) -> SlotSet
+        requires some { 1 ≤ size }
+        requires within { size ≤ MAX_SIZE }
+        ensures { result ≡ all_slots size }
+    {
+        SlotSet {
+            size,
+            mask: Mask::MAX >> (MAX_SIZE - size),
+        }
     }
 
     /// The size of the table.
@@ -109,6 +121,28 @@ impl SlotSet {
         SlotSet {
             size: self.size,
             mask: self.mask & other.mask,
+        }
+    }
+
+    /// The slots that one of the sets has.
+    pub fn join(&self, other: &SlotSet) -> SlotSet
+        requires { self.now.size ≡ other.now.size }
+        ensures { result ≡ joined self.now other.now }
+    {
+        SlotSet {
+            size: self.size,
+            mask: self.mask | other.mask,
+        }
+    }
+
+    /// The slots of this set that the other one hasn't.
+    pub fn without(&self, other: &SlotSet) -> SlotSet
+        requires { self.now.size ≡ other.now.size }
+        ensures { result ≡ without self.now other.now }
+    {
+        SlotSet {
+            size: self.size,
+            mask: self.mask & !other.mask,
         }
     }
 

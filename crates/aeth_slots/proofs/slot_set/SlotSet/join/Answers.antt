@@ -1,0 +1,21 @@
+use Rattle.std.proofs.Common.{ℕ, ◌^◌, ◌<◌, subst}
+use Rattle.aeth_slots.proofs.Masks.{IsView}
+use Rattle.aeth_slots.proofs.MaskSets.{same_size, joined-mask, view-joined}
+use Rattle.aeth_slots.proofs.slot_set.SlotSet.join.Goals as goal
+
+-- Both masks are below the same power of two.
+pub invariant_of-result : goal.invariant_of-result
+invariant_of-result c =
+    let sizes = same_size _ c.self.inside.mask _ c.other.inside.mask _ _ c.self.view_is
+    c.other.view_is c.requires in
+    joined-mask c.self.inside.size c.self.inside.mask c.other.inside.mask c.self.invariant
+    (subst (λ (size : ℕ). c.other.inside.mask < 2 ^ size) sizes c.other.invariant.below)
+
+-- Both masks are of one size.
+pub returns : goal.returns
+returns c =
+    let sizes = same_size _ c.self.inside.mask _ c.other.inside.mask _ _ c.self.view_is
+    c.other.view_is c.requires in
+    view-joined c.self.inside.size c.self.inside.mask c.other.inside.mask c.args.self.now
+    c.args.other.now c.self.view_is
+    (subst (λ (size : ℕ). IsView size c.other.inside.mask c.args.other.now) sizes c.other.view_is)
