@@ -5,7 +5,7 @@ use Rattle.std.specs.Prelude.{flat_map}
 use Rattle.std.specs.Option.{option_or}
 use Rattle.std.proofs.lemmas.List.{length-append}
 use Rattle.std.proofs.Math.Seq.{drop-cons}
-use Rattle.aeth_document.specs.declared.shown.Shown.{Shown}
+use Rattle.aeth_base.specs.declared.shown.Shown.{Shown}
 use Rattle.aeth_document.specs.Walks.{first_broken}
 use Rattle.aeth_document.proofs.WalkLemmas.{first_broken-append}
 

@@ -9,8 +9,8 @@ use Rattle.std.specs.Prelude.{IfOk, Result}
 use Rattle.std.specs.List.{filter_map, list_any, IsDistinct, AllByRecursion}
 use Rattle.std.specs.Str.{bytes_eq}
 use Rattle.aeth_base.specs.Name.{is_name, name_of}
-use Rattle.aeth_document.specs.declared.shown.Broken.{Broken}
-use Rattle.aeth_document.specs.declared.shown.Shown.{Shown}
+use Rattle.aeth_base.specs.declared.shown.Broken.{Broken}
+use Rattle.aeth_base.specs.declared.shown.Shown.{Shown}
 use Rattle.aeth_document.specs.Walks.{first_broken}
 use Rattle.aeth_document.proofs.WalkLemmas.{first_broken-earlier, first_broken-later}
 

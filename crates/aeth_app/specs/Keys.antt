@@ -7,8 +7,8 @@
 use Rattle.std.specs.Prelude.{ℕ, List, [], ◌∷◌, ◌++◌, map, flat_map, codes, Option, unwrap_or}
 use Rattle.toml.specs.Data.{Members, no_members}
 use Rattle.aeth_document.specs.declared.keys.Kind.TheVariants as kind
-use Rattle.aeth_document.specs.declared.shown.Broken.{Broken}
-use Rattle.aeth_document.specs.declared.shown.Shown.{Shown}
+use Rattle.aeth_base.specs.declared.shown.Broken.{Broken}
+use Rattle.aeth_base.specs.declared.shown.Shown.{Shown}
 use Rattle.aeth_document.specs.Keys.{Fields, wrong_key}
 use Rattle.aeth_document.specs.Values.{table_at}
 use Rattle.aeth_document.specs.Walks.{first_broken}

@@ -10,9 +10,9 @@ use Rattle.std.specs.Prelude.{if◌then◌else◌}
 use Rattle.std.specs.List.{range_with_len}
 use Rattle.aeth_base.specs.declared.limits.TheConstants.{WORDS_PER_FLIT}
 use Rattle.aeth_document.specs.Chain.{◌>>=◌, refused}
-use Rattle.aeth_document.specs.declared.shown.Broken.{Broken}
-use Rattle.aeth_document.specs.declared.shown.Shown.{Shown}
-use Rattle.aeth_document.specs.declared.shown.Shown.TheVariants.{Nothing, Number, Word}
+use Rattle.aeth_base.specs.declared.shown.Broken.{Broken}
+use Rattle.aeth_base.specs.declared.shown.Shown.{Shown}
+use Rattle.aeth_base.specs.declared.shown.Shown.TheVariants.{Nothing, Number, Word}
 use Rattle.aeth_document.specs.Walks.{first_broken}
 use Rattle.aeth_app.specs.declared.app.TheConstants.{MAX_CORE_CONNECTIONS, SEATS}
 use Rattle.aeth_app.specs.declared.connection.Connection.{Connection}

@@ -10,9 +10,9 @@ use Rattle.std.specs.Prelude.{is_none, if◌then◌else◌}
 use Rattle.std.specs.List.{IsDistinct, filter_map, list_any}
 use Rattle.std.specs.Str.{bytes_eq}
 use Rattle.toml.specs.Data.{Members}
-use Rattle.aeth_document.specs.declared.shown.Broken.{Broken}
-use Rattle.aeth_document.specs.declared.shown.Shown.{Shown}
-use Rattle.aeth_document.specs.Shown.{shown_text}
+use Rattle.aeth_base.specs.declared.shown.Broken.{Broken}
+use Rattle.aeth_base.specs.declared.shown.Shown.{Shown}
+use Rattle.aeth_base.specs.Shown.{shown_text}
 use Rattle.aeth_document.specs.Values.{text_at, text_if, texts_at}
 use Rattle.aeth_document.specs.Walks.{first_broken, place_of, repeats}
 use Rattle.aeth_app.specs.Ranges.{names_in}

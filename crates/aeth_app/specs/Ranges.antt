@@ -12,9 +12,9 @@ use Rattle.std.specs.List.{filter_map}
 use Rattle.std.specs.Str.{bytes_eq}
 use Rattle.toml.specs.Data.{Members}
 use Rattle.aeth_base.specs.Name.{name_of}
-use Rattle.aeth_document.specs.declared.shown.Broken.{Broken}
-use Rattle.aeth_document.specs.declared.shown.Shown.{Shown}
-use Rattle.aeth_document.specs.Shown.{shown_text}
+use Rattle.aeth_base.specs.declared.shown.Broken.{Broken}
+use Rattle.aeth_base.specs.declared.shown.Shown.{Shown}
+use Rattle.aeth_base.specs.Shown.{shown_text}
 use Rattle.aeth_document.specs.Values.{integer_at, text_at, text_if}
 use Rattle.aeth_document.specs.Walks.{first_broken, no_name, outside, size_of}
 use Rattle.aeth_app.specs.declared.app.TheConstants.{MAX_CONNECTIONS, MAX_CORES, MAX_DETOUR}

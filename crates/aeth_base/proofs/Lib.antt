@@ -1,3 +1,4 @@
+mod Constants
 pub mod Lists
 pub mod NameLemmas
 pub mod Numbers

@@ -3,19 +3,19 @@ use Rattle.std.specs.Prelude.{◌≡◌, ◌≤◌, ◌-◌, ◌++◌, ℕ, List
 use Rattle.std.proofs.Common.{arith}
 use Rattle.std.proofs.lemmas.List.{length-take, take-append-drop}
 use Rattle.aeth_base.specs.declared.name.Name.TheInside.{Inside}
-use Rattle.aeth_base.specs.declared.name.TheConstants.{MAX_NAME}
+use Rattle.aeth_base.specs.Limits.{max_name_bytes}
 use Rattle.aeth_base.specs.Name.{is_name}
 
 -- A name of some length, with zeros behind it.
 pub record IsPadded (bytes : List ℕ) (len : ℕ) : Type 0 where
-  pub size : length bytes ≡ MAX_NAME
-  pub within : len ≤ MAX_NAME
-  pub rest : drop len bytes ≡ replicate (MAX_NAME - len) 0
+  pub size : length bytes ≡ max_name_bytes
+  pub within : len ≤ max_name_bytes
+  pub rest : drop len bytes ≡ replicate (max_name_bytes - len) 0
   pub named : is_name (take len bytes) ≡ true
 
 -- The bytes of a name with zeros behind them.
 abbrev pub padded : List ℕ → List ℕ
-padded name = name ++ replicate (MAX_NAME - length name) 0
+padded name = name ++ replicate (max_name_bytes - length name) 0
 
 -- A name in memory, from its bytes.
 abbrev pub inside_of : List ℕ → Inside
@@ -27,6 +27,6 @@ inside_of-view a is_padded =
     let size = is_padded.size in
     let within = is_padded.within in
     let len_is : length (take a.len a.bytes) ≡ a.len = omega (arith, length-take a.len a.bytes) in
-    let bytes_are : take a.len a.bytes ++ replicate (32 - a.len) 0 ≡ a.bytes =
+    let bytes_are : take a.len a.bytes ++ replicate (max_name_bytes - a.len) 0 ≡ a.bytes =
     rw (← is_padded.rest) (take-append-drop a.len a.bytes) in
     rw (len_is, bytes_are)

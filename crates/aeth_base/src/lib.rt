@@ -2,20 +2,26 @@
 //! cites.
 #![tactic(auto)]
 
+mod fault;
 mod ids;
 mod limits;
 mod memory;
 mod name;
 mod number;
 mod path;
+mod shown;
 mod steps;
 #[cfg(test)]
 mod tests;
 
+pub use fault::{BrokenRule, Fault};
 pub use ids::{Channel, ConnId, CoreId, GroupId, LinkId, NiId, RouterId, Side, Unit, UseId};
-pub use limits::{CREDITS_PER_FLIT, MAX_RECEIVER_DELAY, WORDS_PER_FLIT};
+pub use limits::{CREDITS_PER_FLIT, WORDS_PER_FLIT};
+pub use limits::{MAX_CYCLES, MAX_LINK_DELAY, MAX_NAME_BYTES, MAX_PATH_DELAY, MAX_PATH_LINKS};
+pub use limits::{MAX_QUEUE_WORDS, MAX_RECEIVER_DELAY, MAX_SLOTS, MIN_PATH_LINKS};
 pub use memory::NoMemory;
-pub use name::{MAX_NAME, Name};
+pub use name::Name;
 pub use number::{ceil_div, push_number, read_number};
-pub use path::{MAX_LINKS, Path};
+pub use path::Path;
+pub use shown::{Broken, Shown, shown_text};
 pub use steps::Steps;

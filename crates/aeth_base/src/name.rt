@@ -1,17 +1,16 @@
 // Names of the things in files.
+ghost use Rattle.aeth_base.specs.Limits.{max_name_bytes};
 ghost use Rattle.aeth_base.specs.Name.{is_name, is_name_byte, name_of};
 ghost use Rattle.std.specs.List.{list_all};
 ghost use Rattle.std.specs.Prelude.{◌≡◌, ◌≤◌, true, length};
 
+use crate::MAX_NAME_BYTES;
 use std::marker::Model;
-
-/// The most bytes of a name.
-pub const MAX_NAME: usize = 32;
 
 /// A name: 1 to 32 bytes of `a-z`, `0-9` and `_`. It is seen as the list of its bytes.
 #[derive(Clone, Copy, Debug, PartialEq, Eq, PartialOrd, Ord, Hash)]
 pub struct Name {
-    bytes: [u8; MAX_NAME],
+    bytes: [u8; MAX_NAME_BYTES],
     len: u8,
 }
 
@@ -42,7 +41,7 @@ impl Name {
         if !is_name(bytes) {
             return None;
         }
-        let mut padded = [0; MAX_NAME];
+        let mut padded = [0; MAX_NAME_BYTES];
         padded[..bytes.len()].copy_from_slice(bytes);
         Some(Name {
             bytes: padded,
@@ -52,7 +51,8 @@ impl Name {
 
     /// The bytes of the name.
     pub fn as_bytes(&self) -> &[u8]
-        ensures { result.now ≡ self.now }
+        ensures bytes { result.now ≡ self.now }
+        ensures named { is_name self.now ≡ true }
     {
         &self.bytes[..self.len as usize]
     }
@@ -60,9 +60,9 @@ impl Name {
 
 fn is_name(bytes: &[u8]) -> bool
     ensures exact { result ≡ is_name bytes.now }
-    ensures short { result ≡ true → length bytes.now ≤ MAX_NAME }
+    ensures short { result ≡ true → length bytes.now ≤ max_name_bytes }
 {
-    1 <= bytes.len() && bytes.len() <= MAX_NAME && has_name_bytes(bytes)
+    1 <= bytes.len() && bytes.len() <= MAX_NAME_BYTES && has_name_bytes(bytes)
 }
 
 fn has_name_bytes(bytes: &[u8]) -> bool

@@ -1,19 +1,17 @@
 // Paths as short lists of links.
+ghost use Rattle.aeth_base.specs.Limits.{max_path_links};
 ghost use Rattle.aeth_base.specs.declared.ids.LinkId.{LinkId};
 ghost use Rattle.std.specs.Bool.{OnFalse, OnTrue};
 ghost use Rattle.std.specs.Prelude.{◌≡◌, ◌<◌, ◌≤◌, ◌↔◌, ◌++◌, ◌∷◌, [], List, Some, length};
 ghost use Rattle.std.specs.Prelude.{slice_get, IsTrue};
 
-use crate::LinkId;
+use crate::{LinkId, MAX_PATH_LINKS};
 use std::marker::Model;
-
-/// The most links of a path.
-pub const MAX_LINKS: usize = 8;
 
 /// A list of at most 8 links, as a flit takes them one after the other.
 #[derive(Clone, Copy, Debug)]
 pub struct Path {
-    links: [LinkId; MAX_LINKS],
+    links: [LinkId; MAX_PATH_LINKS as usize],
     len: u32,
 }
 
@@ -40,22 +38,21 @@ impl Path {
         ensures { result ≡ [] }
     {
         Path {
-            links: [LinkId(0); MAX_LINKS],
+            links: [LinkId(0); MAX_PATH_LINKS as usize],
             len: 0,
         }
     }
 
     /// Puts a link at the end. False, and the path is as before, exactly where it has 8 links.
     pub fn push(&mut self, link: LinkId) -> bool
-        ensures room { IsTrue result ↔ (length self.old < MAX_LINKS) }
+        ensures room { IsTrue result ↔ (length self.old < max_path_links) }
         ensures pushed { OnTrue result (self.new ≡ self.old ++ link ∷ []) }
         ensures kept { OnFalse result (self.new ≡ self.old) }
     {
-        let len = self.len as usize;
-        if len == MAX_LINKS {
+        if self.len == MAX_PATH_LINKS {
             return false;
         }
-        self.links[len] = link;
+        self.links[self.len as usize] = link;
         self.len += 1;
         true
     }
@@ -63,7 +60,7 @@ impl Path {
     /// The number of links.
     pub fn len(&self) -> u32
         ensures len { result ≡ length self.now }
-        ensures most { result ≤ MAX_LINKS }
+        ensures most { result ≤ max_path_links }
     {
         self.len
     }

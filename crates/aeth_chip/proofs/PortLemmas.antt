@@ -15,8 +15,8 @@ use Rattle.aeth_chip.specs.Chip.{HasFewPorts, IsSingle}
 use Rattle.aeth_chip.specs.ChipFile.{crowded, is_single, loose, not_single, router_at, same_router}
 use Rattle.aeth_chip.specs.ChipFile.{too_many_ports}
 use Rattle.aeth_chip.specs.Nodes.{begins_at, ends_at, receives_on, router_of, sends_on}
-use Rattle.aeth_document.specs.declared.shown.Shown.{Shown}
-use Rattle.aeth_document.specs.declared.shown.Shown.TheVariants.{Word}
+use Rattle.aeth_base.specs.declared.shown.Shown.{Shown}
+use Rattle.aeth_base.specs.declared.shown.Shown.TheVariants.{Word}
 use Rattle.aeth_document.specs.Walks.{first_broken}
 use Rattle.aeth_document.proofs.WalkLemmas.{first_broken-range, first_broken-tail}
 

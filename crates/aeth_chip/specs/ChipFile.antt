@@ -25,13 +25,13 @@ use Rattle.aeth_chip.specs.declared.node.Node.TheVariants.{Router, Ni}
 use Rattle.aeth_chip.specs.Chip.{ChipData}
 use Rattle.aeth_chip.specs.Nodes.{begins_at, ends_at, sends_on, receives_on, router_of}
 use Rattle.aeth_document.specs.declared.keys.Kind.TheVariants as kind
-use Rattle.aeth_document.specs.declared.shown.Broken.{Broken}
-use Rattle.aeth_document.specs.declared.shown.Shown.{Shown}
-use Rattle.aeth_document.specs.declared.shown.Shown.TheVariants.{Number, Word}
+use Rattle.aeth_base.specs.declared.shown.Broken.{Broken}
+use Rattle.aeth_base.specs.declared.shown.Shown.{Shown}
+use Rattle.aeth_base.specs.declared.shown.Shown.TheVariants.{Number, Word}
 use Rattle.aeth_document.specs.Chain.{◌>>=◌, refused}
 use Rattle.aeth_document.specs.Document.{document_of}
 use Rattle.aeth_document.specs.Keys.{Fields, wrong_key}
-use Rattle.aeth_document.specs.Shown.{shown_text}
+use Rattle.aeth_base.specs.Shown.{shown_text}
 use Rattle.aeth_document.specs.Values.{integer_at, tables_at, text_at, texts_at}
 use Rattle.aeth_document.specs.Walks.{first_broken, no_name, outside, place_of, repeats, size_of}
 

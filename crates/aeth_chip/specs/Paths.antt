@@ -14,7 +14,7 @@ use Rattle.std.specs.Prelude.{slice_get, take, sum_by, Contains}
 use Rattle.aeth_base.specs.declared.ids.LinkId.{LinkId}
 use Rattle.aeth_base.specs.declared.ids.NiId.{NiId}
 use Rattle.aeth_base.specs.declared.ids.RouterId.{RouterId}
-use Rattle.aeth_base.specs.declared.path.TheConstants.{MAX_LINKS}
+use Rattle.aeth_base.specs.Limits.{max_path_links}
 use Rattle.aeth_chip.specs.declared.node.Link.{Link}
 use Rattle.aeth_chip.specs.declared.node.Node.{Node}
 use Rattle.aeth_chip.specs.declared.node.Node.TheVariants.{Router, Ni}
@@ -83,7 +83,7 @@ IsOnwardDistance links r b least = IsLeast (IsOnward links r b) least
 pub record IsAdmissible (links : List Link) (detour : ℕ) (a b : NiId) (path : List LinkId)
     : Type 0 where
   pub route : IsRoute links a b path
-  pub fits : length path ≤ MAX_LINKS
+  pub fits : length path ≤ max_path_links
   pub least : ℕ
   pub distance : IsDistance links a b (Some least)
   pub near : length path ≤ least + detour

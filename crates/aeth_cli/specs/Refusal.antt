@@ -1,9 +1,9 @@
 -- Refusal lines: the first rule that a file breaks, its place and the value that broke it.
 -- This project's own.
 use Rattle.std.specs.Prelude.{ℕ, ◌++◌, List, codes, decimal}
-use Rattle.aeth_document.specs.declared.shown.Broken.{Broken}
-use Rattle.aeth_document.specs.declared.shown.Shown.{Shown}
-use Rattle.aeth_document.specs.declared.shown.Shown.TheVariants.{Nothing, Odd, Number, Word}
+use Rattle.aeth_base.specs.declared.shown.Broken.{Broken}
+use Rattle.aeth_base.specs.declared.shown.Shown.{Shown}
+use Rattle.aeth_base.specs.declared.shown.Shown.TheVariants.{Nothing, Odd, Number, Word}
 use Rattle.aeth_cli.specs.declared.status.TheConstants.{INPUT_REFUSED}
 use Rattle.aeth_cli.specs.Job.{Job, refused}
 

@@ -1,7 +1,7 @@
 -- Laws of rules that are judged one after the other.
 use Rattle.std.proofs.Common.{◌≡◌, Option, Some, None, refl}
 use Rattle.std.specs.Prelude.{Result, Ok}
-use Rattle.aeth_document.specs.declared.shown.Broken.{Broken}
+use Rattle.aeth_base.specs.declared.shown.Broken.{Broken}
 use Rattle.aeth_document.specs.Chain.{◌>>=◌, refused}
 
 -- A rule that is kept has a walk that finds nothing.

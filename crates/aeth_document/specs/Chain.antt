@@ -1,7 +1,7 @@
 -- Rules that are judged one after the other.
 -- This project's own.
 use Rattle.std.specs.Prelude.{Option, Some, None, Result, Ok, Err}
-use Rattle.aeth_document.specs.declared.shown.Broken.{Broken}
+use Rattle.aeth_base.specs.declared.shown.Broken.{Broken}
 
 -- What the first gives is handed on; a fault ends the chain.
 infixl 10 ◌>>=◌

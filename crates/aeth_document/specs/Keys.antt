@@ -16,9 +16,9 @@ use Rattle.toml.specs.Data.{as_str, as_integer, as_array, as_table}
 use Rattle.aeth_document.specs.declared.keys.Field.{Field}
 use Rattle.aeth_document.specs.declared.keys.Kind.{Kind}
 use Rattle.aeth_document.specs.declared.keys.Kind.TheVariants as kind
-use Rattle.aeth_document.specs.declared.shown.Broken.{Broken}
-use Rattle.aeth_document.specs.declared.shown.Shown.{Shown}
-use Rattle.aeth_document.specs.Shown.{shown_text}
+use Rattle.aeth_base.specs.declared.shown.Broken.{Broken}
+use Rattle.aeth_base.specs.declared.shown.Shown.{Shown}
+use Rattle.aeth_base.specs.Shown.{shown_text}
 use Rattle.aeth_document.specs.Walks.{first_broken}
 
 -- The items of an array in order.

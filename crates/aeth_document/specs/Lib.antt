@@ -1,4 +1,3 @@
-pub mod Shown
 pub mod Document
 pub mod Walks
 pub mod Keys

@@ -5,10 +5,10 @@ use Rattle.std.specs.Prelude.{Some, None, position, if◌then◌else◌, option_
 use Rattle.std.specs.List.{list_any}
 use Rattle.std.specs.Str.{bytes_eq}
 use Rattle.aeth_base.specs.Name.{is_name, name_of}
-use Rattle.aeth_document.specs.declared.shown.Broken.{Broken}
-use Rattle.aeth_document.specs.declared.shown.Shown.{Shown}
-use Rattle.aeth_document.specs.declared.shown.Shown.TheVariants.{Odd, Number}
-use Rattle.aeth_document.specs.Shown.{shown_text}
+use Rattle.aeth_base.specs.declared.shown.Broken.{Broken}
+use Rattle.aeth_base.specs.declared.shown.Shown.{Shown}
+use Rattle.aeth_base.specs.declared.shown.Shown.TheVariants.{Odd, Number}
+use Rattle.aeth_base.specs.Shown.{shown_text}
 
 -- The first check of a walk that is broken, with its place. The first check stands at `place`,
 -- and a check that isn't broken shows nothing.

@@ -11,9 +11,9 @@ ghost use Rattle.aeth_document.specs.Keys.{first_of, least, least_wrong_key, les
 ghost use Rattle.aeth_document.specs.Keys.{missing_keys, misfit_keys};
 ghost use Rattle.aeth_document.specs.Keys.{wrong_key, wrong_keys};
 
-use crate::shown::{Broken, Shown, next_place, shown_text};
+use crate::shown::next_place;
 use crate::values::value_at;
-use aeth_base::NoMemory;
+use aeth_base::{Broken, NoMemory, Shown, shown_text};
 use toml::{Table, Value};
 
 /// What may stand at a key.

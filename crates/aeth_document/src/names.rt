@@ -6,8 +6,8 @@ ghost use Rattle.aeth_base.specs.Name.{name_of};
 ghost use Rattle.indexmap.specs.IndexSet.{insert_key};
 ghost use Rattle.aeth_document.specs.Walks.{first_broken, no_name, place_of, repeats};
 
-use crate::shown::{Broken, Shown, next_place, shown_bytes};
-use aeth_base::{Name, NoMemory};
+use crate::shown::next_place;
+use aeth_base::{Broken, Name, NoMemory, Shown};
 use indexmap::IndexSet;
 use std::alloc::Global;
 
@@ -76,7 +76,7 @@ pub fn add_names(
         if has(others, name) || !add(set, *name)? {
             return Ok(Some(Broken {
                 place,
-                value: shown_bytes(name.as_bytes()),
+                value: Shown::Word(*name),
             }));
         }
         place = next_place(place)?;

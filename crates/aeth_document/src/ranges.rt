@@ -2,8 +2,8 @@
 ghost use Rattle.std.specs.Prelude.{◌≡◌, pos, ◌+◌, ◌≤◌, ◌^◌, length, IfOk};
 ghost use Rattle.aeth_document.specs.Walks.{first_broken, outside, size_of};
 
-use crate::shown::{Broken, Shown, next_place};
-use aeth_base::NoMemory;
+use crate::shown::next_place;
+use aeth_base::{Broken, NoMemory, Shown};
 
 /// A number, 0 for one below 0.
 pub fn size(number: i64) -> u64

@@ -1,43 +1,7 @@
-// What a refusal shows of the file.
+// The places of a walk over a file.
 ghost use Rattle.std.specs.Prelude.{◌≡◌, ◌+◌, IfOk};
-ghost use Rattle.aeth_document.specs.Shown.{shown_text};
 
-use aeth_base::{Name, NoMemory};
-
-/// The value that broke a rule, as a refusal shows it.
-#[derive(Clone, Copy, Debug, PartialEq, Eq)]
-pub enum Shown {
-    /// The rule has no value.
-    Nothing,
-    /// A text that is no name, or a number below 0.
-    Odd,
-    Number(u64),
-    Word(Name),
-}
-
-/// Where a rule is broken first in its walk over the file, and by which value.
-#[derive(Clone, Copy, Debug, PartialEq, Eq)]
-pub struct Broken {
-    pub place: u32,
-    pub value: Shown,
-}
-
-/// A text as a refusal shows it.
-pub fn shown_text(text: &str) -> Shown
-    ensures { result ≡ shown_text text.now }
-{
-    shown_bytes(text.as_bytes())
-}
-
-/// The bytes of a text as a refusal shows it.
-pub(crate) fn shown_bytes(text: &[u8]) -> Shown
-    ensures { result ≡ shown_text text.now }
-{
-    match Name::new(text) {
-        Some(name) => Shown::Word(name),
-        None => Shown::Odd,
-    }
-}
+use aeth_base::NoMemory;
 
 /// The next place of a walk. `Err` exactly where it doesn't fit 32 bits.
 pub fn next_place(place: u32) -> Result<u32, NoMemory>

@@ -8,4 +8,4 @@ invariant_of-self c =
     let path = c.self.inside in
     let within = c.self.invariant.within in
     is_filled-push path.links path.len c.args.link c.self.invariant
-    (omega (arith, c.if-len-eq-MAX_LINKS.false))
+    (omega (arith, c.if-self-eq-MAX_PATH_LINKS.false))

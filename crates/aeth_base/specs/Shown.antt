@@ -2,8 +2,8 @@
 -- This project's own.
 use Rattle.std.specs.Prelude.{ℕ, List, if◌then◌else◌}
 use Rattle.aeth_base.specs.Name.{is_name}
-use Rattle.aeth_document.specs.declared.shown.Shown.{Shown}
-use Rattle.aeth_document.specs.declared.shown.Shown.TheVariants.{Odd, Word}
+use Rattle.aeth_base.specs.declared.shown.Shown.{Shown}
+use Rattle.aeth_base.specs.declared.shown.Shown.TheVariants.{Odd, Word}
 
 -- The text itself where it is a name, and else only that there is one.
 abbrev pub shown_text : List ℕ → Shown
