@@ -16,9 +16,10 @@ mod tests;
 
 pub use fault::{BrokenRule, Fault};
 pub use ids::{Channel, ConnId, CoreId, GroupId, LinkId, NiId, RouterId, Side, Unit, UseId};
-pub use limits::{CREDITS_PER_FLIT, WORDS_PER_FLIT};
-pub use limits::{MAX_CYCLES, MAX_LINK_DELAY, MAX_NAME_BYTES, MAX_PATH_DELAY, MAX_PATH_LINKS};
-pub use limits::{MAX_QUEUE_WORDS, MAX_RECEIVER_DELAY, MAX_SLOTS, MIN_PATH_LINKS};
+pub use limits::{
+    CREDITS_PER_FLIT, MAX_CYCLES, MAX_LINK_DELAY, MAX_NAME_BYTES, MAX_PATH_DELAY, MAX_PATH_LINKS,
+    MAX_QUEUE_WORDS, MAX_RECEIVER_DELAY, MAX_SLOTS, MIN_PATH_LINKS, WORDS_PER_FLIT,
+};
 pub use memory::NoMemory;
 pub use name::Name;
 pub use number::{ceil_div, push_number, read_number};

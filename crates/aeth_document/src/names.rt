@@ -3,6 +3,7 @@ ghost use Rattle.std.specs.Prelude.{◌≡◌, ◌<◌, ◌^◌, ◌++◌, None,
 ghost use Rattle.std.specs.List.{filter_map, list_any};
 ghost use Rattle.std.specs.Str.{bytes_eq};
 ghost use Rattle.aeth_base.specs.Name.{name_of};
+ghost use Rattle.aeth_base.specs.Shown.{shown_text};
 ghost use Rattle.indexmap.specs.IndexSet.{insert_key};
 ghost use Rattle.aeth_document.specs.Walks.{first_broken, no_name, place_of, repeats};
 
@@ -58,6 +59,16 @@ fn has(set: &IndexSet<Name>, name: &Name) -> bool
     set.contains(name)
 }
 
+// A name as a refusal shows it.
+fn shown_name(name: &Name) -> Shown
+    ensures { result ≡ shown_text name.now }
+{
+    match Name::new(name.as_bytes()) {
+        Some(name) => Shown::Word(name),
+        None => Shown::Odd,
+    }
+}
+
 /// Puts the names at the end of the set, up to the first that stands before it in the set or that
 /// is one of some other names. That one is answered; the first name counts as the place `first`.
 pub fn add_names(
@@ -76,7 +87,7 @@ pub fn add_names(
         if has(others, name) || !add(set, *name)? {
             return Ok(Some(Broken {
                 place,
-                value: Shown::Word(*name),
+                value: shown_name(name),
             }));
         }
         place = next_place(place)?;
