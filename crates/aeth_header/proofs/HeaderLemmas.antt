@@ -1,13 +1,13 @@
 -- Laws of header words, so that no other crate looks at bits.
 use Rattle.std.proofs.Common.{◌≡◌, ℕ, ◌/◌, ◌%◌, ◌^◌, ◌<◌, ◌≤◌, Ok, arith}
 use Rattle.std.proofs.lemmas.Bool.Decides.{nat_tests}
-use Rattle.aeth_base.specs.declared.limits.TheConstants.{WORDS_PER_FLIT}
-use Rattle.aeth_header.specs.declared.header.TheConstants.{PORT_BITS}
+use Rattle.aeth_base.specs.Limits.{words_per_flit}
+use Rattle.aeth_header.specs.Layout.{port_bits, word_bits}
 use Rattle.aeth_header.specs.declared.header.Header.{Header}
 use Rattle.aeth_header.specs.Header.{IsPackable, word_of, fields_of, header_of, port_of, next_word}
 
--- A header's word fits 32 bits.
-pub word_of-below : (header : Header) → IsPackable header → word_of header < 2 ^ 32
+-- A header's word fits its bits.
+pub word_of-below : (header : Header) → IsPackable header → word_of header < 2 ^ word_bits
 unfolding word_of
 word_of-below header packable = omega arith
 
@@ -23,7 +23,7 @@ unfolding fields_of word_of
 word_of-fields_of word = omega arith
 
 -- The fields of a word can be packed where its payload count is no fault.
-pub IsPackable-fields_of : (word : ℕ) → (fields_of word).count ≤ WORDS_PER_FLIT →
+pub IsPackable-fields_of : (word : ℕ) → (fields_of word).count ≤ words_per_flit →
     IsPackable (fields_of word)
 unfolding fields_of
 IsPackable-fields_of word count_fits =
@@ -42,22 +42,22 @@ word_of-header_of word header unpacked = grind (arith, nat_tests, word_of-fields
 
 -- The output port of a header's word.
 pub port_of-word_of : (header : Header) → IsPackable header →
-    port_of (word_of header) ≡ header.route % 2 ^ PORT_BITS
+    port_of (word_of header) ≡ header.route % 2 ^ port_bits
 port_of-word_of header packable = rw (fields_of-word_of header packable)
 
 -- A hop moves a header's route on by one port.
 pub next_word-word_of : (header : Header) → IsPackable header →
-    next_word (word_of header) ≡ word_of (record header { route = header.route / 2 ^ PORT_BITS })
+    next_word (word_of header) ≡ word_of (record header { route = header.route / 2 ^ port_bits })
 next_word-word_of header packable = rw (fields_of-word_of header packable)
 
 -- The fields behind a hop.
 pub fields_of-next_word : (word : ℕ) → let fields = fields_of word in
-    fields_of (next_word word) ≡ record fields { route = fields.route / 2 ^ PORT_BITS }
+    fields_of (next_word word) ≡ record fields { route = fields.route / 2 ^ port_bits }
 unfolding fields_of word_of
 fields_of-next_word word = grind arith
 
 -- A header whose route moved on can be packed.
 pub IsPackable-next : (header : Header) → IsPackable header →
-    IsPackable (record header { route = header.route / 2 ^ PORT_BITS })
+    IsPackable (record header { route = header.route / 2 ^ port_bits })
 IsPackable-next header packable =
     record { route = omega arith; queue = omega arith; credits = omega arith; count = omega arith }

@@ -1,3 +1,4 @@
+mod Constants
 pub mod HeaderLemmas
 pub mod RouteLemmas
 mod Shifts

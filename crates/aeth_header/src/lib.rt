@@ -9,6 +9,3 @@ pub use header::{
     COUNT_BITS, COUNT_SHIFT, CREDITS_BITS, CREDITS_SHIFT, Header, PORT_BITS, QUEUE_BITS,
     QUEUE_SHIFT, ROUTE_BITS, ROUTE_PORTS, hop, pack, unpack,
 };
-
-#[cfg(test)]
-mod tests;

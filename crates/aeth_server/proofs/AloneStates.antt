@@ -3,13 +3,12 @@ use Rattle.std.proofs.Common.{ℕ, ◌+◌, ◌-◌, ◌<◌, ◌≡◌, ◌∙�
 use Rattle.std.proofs.Common.{sym, refl, ap, arith}
 use Rattle.std.specs.Prelude.{replicate, slice_index}
 use Rattle.std.proofs.lemmas.List.{get_or-take}
-use Rattle.aeth_server.specs.declared.limits.TheConstants.{MAX_PATH}
+use Rattle.aeth_base.specs.Limits.{max_path_delay}
 use Rattle.aeth_server.specs.Shape.{Shape}
-use Rattle.aeth_server.specs.PrivateServer.{PrivateServer, Counts, accepted, arrived, counts_after}
+use Rattle.aeth_server.specs.PrivateServer.{PrivateServer, Counts, arrived, counts_after}
 use Rattle.aeth_server.specs.PrivateServer.{sent, landed, taken, credited, returned}
 use Rattle.aeth_server.specs.AloneState.{AloneState, FitsMemory, IsStateAt, IsGivenAt, first_state}
 use Rattle.aeth_server.specs.AloneState.{next_counts, after_cycle}
-use Rattle.aeth_server.proofs.FinishTimeLemmas.{arrivals_before-none}
 use Rattle.aeth_server.proofs.PrivateServerLemmas.{counts-none, counts_with, counts-next}
 
 -- Counts of which there were none yet.
@@ -27,25 +26,25 @@ state-first server =
       shape = refl;
       buffer = refl;
       time = refl;
-      arrived = sym (arrivals_before-none (accepted server));
+      arrived = sym idle.arrived;
       taken = sym idle.taken;
       sent = λ j low.
           let none : 0 - j ≡ 0 = omega arith in
-          none-entry MAX_PATH j ∙ sym (ap (sent server) none ∙ idle.sent);
+          none-entry max_path_delay j ∙ sym (ap (sent server) none ∙ idle.sent);
       credited = λ j low.
           let none : 0 - j ≡ 0 = omega arith in
-          none-entry MAX_PATH j ∙ sym (ap (credited server) none ∙ idle.credited);
+          none-entry max_path_delay j ∙ sym (ap (credited server) none ∙ idle.credited);
     }
 
 -- One more count before the last ones.
 shifted-entry : (count : ℕ → ℕ) (newest t : ℕ) (last : List ℕ) → newest ≡ count (suc t)
-    → ((j : ℕ) → j < MAX_PATH → get_or last j 0 ≡ count (t - j)) → (j : ℕ) → j < MAX_PATH
-    → get_or (newest ∷ take (MAX_PATH - 1) last) j 0 ≡ count (suc t - j)
+    → ((j : ℕ) → j < max_path_delay → get_or last j 0 ≡ count (t - j)) → (j : ℕ) → j < max_path_delay
+    → get_or (newest ∷ take (max_path_delay - 1) last) j 0 ≡ count (suc t - j)
 shifted-entry count newest t last is entries zero low =
     let first : suc t ≡ suc t - 0 = omega arith in is ∙ ap count first
 shifted-entry count newest t last is entries (suc j) low =
     let before : t - j ≡ suc t - suc j = omega arith in
-    get_or-take (MAX_PATH - 1) last j 0 (omega arith) ∙ entries j (omega arith) ∙ ap count before
+    get_or-take (max_path_delay - 1) last j 0 (omega arith) ∙ entries j (omega arith) ∙ ap count before
 
 module _ (server : PrivateServer) (fits : FitsMemory server.shape) (t : ℕ) (s : AloneState)
     (at : IsStateAt server t s) where

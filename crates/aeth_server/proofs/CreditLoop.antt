@@ -8,7 +8,7 @@ use Rattle.std.proofs.lemmas.Bool.{cases_lt, cases_eq}
 use Rattle.std.proofs.lemmas.List.Kept.{IsNonDecreasingBy-filter}
 use Rattle.std.specs.List.Sorted.{IsNonDecreasing}
 use Rattle.std.specs.Prelude.{nat_le, nat_lt}
-use Rattle.aeth_base.specs.declared.limits.TheConstants.{WORDS_PER_FLIT, CREDITS_PER_FLIT}
+use Rattle.aeth_base.specs.Limits.{credits_per_flit, words_per_flit}
 use Rattle.aeth_server.specs.Shape.{IsGranted, payload_latency, credit_latency, buffer_of}
 use Rattle.aeth_server.specs.PrivateServer.{PrivateServer, accepted, arrived, sent, landed, taken}
 use Rattle.aeth_server.specs.PrivateServer.{returned}
@@ -123,7 +123,7 @@ module _ (server : PrivateServer) (granted : IsGranted server.shape)
             let whole : (s - home) + home ≡ s = omega arith in
             let time = ap (λ n. rate * n) whole in
             let none = (counts-none server).taken in
-            let gone = served-by size server.shape.back_slots CREDITS_PER_FLIT rate back_wait
+            let gone = served-by size server.shape.back_slots credits_per_flit rate back_wait
             (credits-bounded server.shape granted) (λ u. taken server (u - 1)) none (s - home) k
             (due k + rate * (delay + 1 + back_wait) + size) (omega (arith, time))
             (λ r before less. credit-leaves k r by less) in
@@ -202,7 +202,7 @@ module _ (server : PrivateServer) (granted : IsGranted server.shape)
       let parts : (due i / rate + 1 - out) + out ≡ due i / rate + 1 = omega (arith, after) in
       let time = ap (λ n. rate * n) parts in
       let stops : due i / rate + 1 - out ≤ server.stop = omega (arith, before) in
-      let gone = served-by size server.shape.slots WORDS_PER_FLIT rate wait
+      let gone = served-by size server.shape.slots words_per_flit rate wait
       (payload-bounded server.shape granted) (sendable server granted) (omega (arith, none))
       (due i / rate + 1 - out) i (due i - rate * out) (omega (arith, time, whole.1, first))
       (λ s soon waits.

@@ -1,9 +1,12 @@
 -- The landing cycle and the due cycle of a word.
-use Rattle.std.proofs.Common.{◌↔◌, leb, ℕ, ◌+◌, ◌-◌, ◌*◌, ◌<◌, ◌≤◌, ◌≡◌, ◌∙◌, zero, suc, true}
-use Rattle.std.proofs.Common.{false, ap, inl, inr, arith}
-use Rattle.std.specs.Int.{div_ceil}
+use Rattle.std.proofs.Common.{◌↔◌, leb, ℕ, ◌+◌, ◌*◌, ◌<◌, ◌≤◌, ◌≡◌, zero, suc, true}
+use Rattle.std.proofs.Common.{false, refl, ap, inl, inr, arith}
+use Rattle.std.specs.Prelude.{List, slice_index}
+use Rattle.std.proofs.Math.Nat.{le_of_mul-le-mul_left}
 use Rattle.std.proofs.lemmas.Bool.{cases_lt, le-leb, leb-true}
-use Rattle.aeth_server.specs.PrivateServer.{PrivateServer, sent, landed}
+use Rattle.aeth_server.specs.FinishTimes.{due_cycle}
+use Rattle.aeth_server.specs.PrivateServer.{PrivateServer, landed}
+use Rattle.aeth_server.specs.Progress.{after_word, progress_of}
 use Rattle.aeth_server.specs.Landing.{LandsAt, landing_cycle}
 use Rattle.aeth_server.proofs.ExtremeLemmas.{true_and_false, least_below-passes, least_below-first}
 use Rattle.aeth_server.proofs.LatencyLemmas.{div_ceil-le, le-div_ceil}
@@ -12,8 +15,7 @@ use Rattle.aeth_server.proofs.PrivateServerLemmas.{counts-none}
 -- Nothing has landed before the first cycle.
 landed-none : (server : PrivateServer) → landed server 0 ≡ 0
 landed-none server =
-    let none : 0 - server.shape.path_delay ≡ 0 = omega arith in
-    ap (sent server) none ∙ (counts-none server).sent
+    (counts-none server).landed
 
 -- The least cycle by whose end a word has landed is one in which it lands.
 landing-cycle-is : (server : PrivateServer) (i cycle : ℕ) → 1 ≤ i
@@ -48,6 +50,24 @@ landing_cycle-lands server (suc t) i some there =
     landing-cycle-is server i (landing_cycle server (suc t) i) some found.passes
     (least_below-first (λ u. leb i (landed server (u + 1))) (suc t))
 
--- A time has passed exactly where its cycle has come.
-pub due-passed : (time rate t : ℕ) → 1 ≤ rate → (div_ceil time rate ≤ t) ↔ (time ≤ rate * t)
-due-passed time rate t some = (le-div_ceil time rate t some, div_ceil-le time rate t some)
+-- ---- due cycles
+-- a due cycle has come exactly where its finish time has passed.
+pub due-passed : (rate finish t : ℕ) → 1 ≤ rate → (due_cycle rate finish ≤ t) ↔ (finish ≤ rate * t)
+due-passed rate finish t some =
+    (le-div_ceil finish rate t some, div_ceil-le finish rate t some)
+
+-- What was done by the finish time was done by the due cycle.
+pub due-in-time : (rate finish t : ℕ) → 1 ≤ rate → rate * t ≤ finish → t ≤ due_cycle rate finish
+due-in-time rate finish t some early =
+    let come : finish ≤ rate * due_cycle rate finish =
+    (due-passed rate finish (due_cycle rate finish) some).0 (omega arith) in
+    let late : rate * t ≤ rate * due_cycle rate finish = omega (arith, early, come) in
+    le_of_mul-le-mul_left late some
+
+-- One more word.
+pub progress-next : (size rate latency : ℕ) (arrivals : List ℕ) (i : ℕ)
+    → progress_of size rate latency arrivals (i + 1)
+    ≡ after_word (progress_of size rate latency arrivals i) (slice_index arrivals i)
+progress-next size rate latency arrivals i =
+    let next : i + 1 ≡ suc i = omega arith in
+    rw next refl

@@ -6,6 +6,7 @@ use Rattle.std.specs.Int.{div_ceil}
 use Rattle.std.specs.Ordering.{nat_cmp, ord_max}
 use Rattle.std.proofs.lemmas.Bool.{false_from_ne_true}
 use Rattle.std.proofs.lemmas.Bool.Decides.{nat_tests}
+use Rattle.aeth_base.specs.Limits.{credits_per_flit, max_slots}
 use Rattle.aeth_slots.specs.SlotSet.{Ascends}
 use Rattle.aeth_server.specs.Extremes.{greatest_below}
 use Rattle.aeth_server.specs.SlotCycles.{is_slot, slots_within}
@@ -127,12 +128,12 @@ walks-find size slots cap rate starts theta ascends some is whole =
     }
 
 -- The products of the walk fit.
-pub rate-within : (cap rate n size : ℕ) (slots : List ℕ) → Ascends 0 size slots → size ≤ 64
-    → cap ≤ 15 → rate ≤ cap * length slots → n ≤ size → rate * n ≤ 61440
+pub rate-within : (cap rate n size : ℕ) (slots : List ℕ) → Ascends 0 size slots → size ≤ max_slots
+    → cap ≤ credits_per_flit → rate ≤ cap * length slots → n ≤ size
+    → rate * n ≤ credits_per_flit * max_slots * max_slots
 rate-within cap rate n size slots ascends most_size most_cap capacity low =
-    let few : length slots ≤ 64 = omega (arith, slots-most size slots ascends) in
-    let most_rate : cap * length slots ≤ 15 * 64 = mul-le-mul most_cap few in
-    let wide : rate ≤ 960 = omega arith in
-    let near : n ≤ 64 = omega arith in
-    let product : rate * n ≤ 960 * 64 = mul-le-mul wide near in
-    omega arith
+    let few : length slots ≤ max_slots = omega (arith, slots-most size slots ascends) in
+    let most_rate : cap * length slots ≤ credits_per_flit * max_slots = mul-le-mul most_cap few in
+    let wide : rate ≤ credits_per_flit * max_slots = omega arith in
+    let near : n ≤ max_slots = omega arith in
+    mul-le-mul wide near

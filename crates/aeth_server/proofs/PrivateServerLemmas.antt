@@ -1,18 +1,19 @@
 -- The counts of a private server, from cycle to cycle. Nothing else looks into its history.
 use Rattle.std.proofs.Common.{◌&&◌, ℕ, ◌+◌, ◌-◌, ◌≤◌, ◌≡◌, ◌∙◌, zero, suc, Bool, true, false, cond}
-use Rattle.std.proofs.Common.{ltb, leb, List, [], ◌∷◌, min, sym, refl, ap, arith}
+use Rattle.std.proofs.Common.{ltb, leb, List, [], ◌∷◌, min, sym, refl, ap, inl, inr, arith}
 use Rattle.std.specs.Prelude.{filter, nat_le, nat_lt}
-use Rattle.std.proofs.lemmas.Bool.{le-ltb, leb-true}
-use Rattle.aeth_base.specs.declared.limits.TheConstants.{WORDS_PER_FLIT, CREDITS_PER_FLIT}
+use Rattle.std.proofs.lemmas.Bool.{cases_eq, le-ltb, leb-true}
+use Rattle.aeth_base.specs.Limits.{credits_per_flit, words_per_flit}
 use Rattle.aeth_server.specs.SlotCycles.{is_slot}
 use Rattle.aeth_server.specs.FinishTimes.{arrivals_before}
 use Rattle.aeth_server.specs.Shape.{HasPaths}
 use Rattle.aeth_server.specs.PrivateServer.{PrivateServer, Counts, counts_after, counts_ago}
 use Rattle.aeth_server.specs.PrivateServer.{cycle_at, history, counts, accepted, arrived, pull_at}
 use Rattle.aeth_server.specs.PrivateServer.{sent, landed, taken, credited, returned}
-use Rattle.aeth_server.specs.CountLaws.{IsStep, IsIdle, IsInOrder, FitsFlit, HasGrown, IsAlike}
+use Rattle.aeth_server.specs.CountLaws.{IsStep, IsIdle, IsInOrder, HasRoom, FitsFlit, HasGrown}
+use Rattle.aeth_server.specs.CountLaws.{IsClosed, IsAlike}
 use Rattle.aeth_server.proofs.ServiceLemmas.{never-falls}
-use Rattle.aeth_server.proofs.FinishTimeLemmas.{arrivals_before-more}
+use Rattle.aeth_server.proofs.FinishTimeLemmas.{arrivals_before-none, arrivals_before-more}
 
 -- ---- the history
 -- the counts of j cycles ago are those after j cycles fewer.
@@ -69,7 +70,17 @@ counts-alike one other t alike = ap (λ past. counts_ago past 0) (history-alike 
 -- all are 0 before the first cycle.
 pub counts-none : (server : PrivateServer) → IsIdle server 0
 unfolding history counts
-counts-none server = record { sent = refl; taken = refl; credited = refl }
+counts-none server =
+    let path_none : 0 - server.shape.path_delay ≡ 0 = omega arith in
+    let back_none : 0 - server.shape.back_path_delay ≡ 0 = omega arith in
+    record {
+      arrived = arrivals_before-none (accepted server);
+      sent = refl;
+      landed = ap (sent server) path_none;
+      taken = refl;
+      credited = refl;
+      returned = ap (credited server) back_none;
+    }
 
 module _ (server : PrivateServer) (paths : HasPaths server.shape) where
   abbrev out : ℕ
@@ -104,12 +115,12 @@ module _ (server : PrivateServer) (paths : HasPaths server.shape) where
   -- what goes in such a cycle, and what the receiver takes
   abbrev pub words_ready : ℕ → ℕ
   words_ready t =
-      min WORDS_PER_FLIT
+      min words_per_flit
       (min (arrived server (suc t) - sent server t)
       (server.buffer + returned server (suc t) - sent server t))
 
   abbrev credits_ready : ℕ → ℕ
-  credits_ready t = min CREDITS_PER_FLIT (taken server t - credited server t)
+  credits_ready t = min credits_per_flit (taken server t - credited server t)
 
   abbrev words_taken : ℕ → ℕ
   words_taken t = min (pull_at server t) (landed server (suc t) - taken server t)
@@ -185,18 +196,14 @@ module _ (server : PrivateServer) (paths : HasPaths server.shape) where
   pub in-order : (t : ℕ) → IsInOrder server t
   in-order zero =
       let none = counts-none server in
-      let path_none : 0 - out ≡ 0 = omega arith in
-      let lands = ap (sent server) path_none in
-      let back_none : 0 - home ≡ 0 = omega arith in
-      let returns = ap (credited server) back_none in
       record {
         sends = omega (arith, none.sent);
-        lands = omega (arith, lands);
+        lands = omega (arith, none.landed);
         takes = omega (arith, none.taken);
         credits = omega (arith, none.credited);
-        returns = omega (arith, returns);
+        returns = omega (arith, none.returned);
         allowed = omega (arith, none.sent);
-        room = omega (arith, lands, none.sent);
+        room = omega (arith, none.landed);
       }
   in-order (suc t) =
       let before = in-order t in
@@ -221,6 +228,19 @@ module _ (server : PrivateServer) (paths : HasPaths server.shape) where
         room = omega (arith, lands, allowed, returns, credited_few);
       }
 
+  -- the receiver has room for what lands, before it takes any of it
+  pub has-room : (t : ℕ) → HasRoom server t
+  has-room t =
+      let next : t + 1 ≡ suc t = omega arith in
+      let ordered = in-order (suc t - out) in
+      let grown = taken-more (suc t - out) t (omega (arith, paths.path)) in
+      record {
+        lands =
+            rw next (omega (arith, ordered.allowed, ordered.returns, ordered.credits, grown));
+        credits = rw next (omega (arith, credited-most t, (in-order t).credits));
+      }
+
+  -- ---- outside the session
   -- no word is accepted before the session goes
   abbrev accepts : ℕ → Bool
   accepts a = nat_le server.go a && nat_lt a server.until
@@ -246,9 +266,42 @@ module _ (server : PrivateServer) (paths : HasPaths server.shape) where
   idle-before t early =
       let ordered = in-order t in
       let none : arrived server t ≡ 0 = nothing-accepted t early server.offers in
+      let sent_none : sent server t ≡ 0 = omega (arith, ordered.sends, none) in
+      let landed_none : landed server t ≡ 0 = omega (arith, ordered.lands, sent_none) in
+      let taken_none : taken server t ≡ 0 = omega (arith, ordered.takes, landed_none) in
+      let credited_none : credited server t ≡ 0 = omega (arith, ordered.credits, taken_none) in
       record {
-        sent = omega (arith, ordered.sends, none);
-        taken = omega (arith, ordered.sends, ordered.lands, ordered.takes, none);
-        credited =
-            omega (arith, ordered.sends, ordered.lands, ordered.takes, ordered.credits, none);
+        arrived = none;
+        sent = sent_none;
+        landed = landed_none;
+        taken = taken_none;
+        credited = credited_none;
+        returned = omega (arith, ordered.returns, credited_none);
       }
+
+  -- a count that rests from some cycle on
+  rests : (count : ℕ → ℕ) (from t : ℕ) → ((u : ℕ) → from ≤ u → count (suc u) ≡ count u) → from ≤ t
+      → count t ≡ count from
+  rests count from zero still after = let first : zero ≡ from = omega arith in ap count first
+  rests count from (suc t) still after = elim (cases_eq (suc t) from) [
+    | inl first ↦ ap count first
+    | inr later ↦ still t (omega arith) ∙ rests count from t still (omega arith)
+  ]
+
+  -- what may not be sent isn't
+  cond-shut : (may slot : Bool) (before n : ℕ) → may ≡ false
+      → before + cond (may && slot) n 0 ≡ before
+  cond-shut may slot before n shut = rw shut (omega arith)
+
+  -- so nothing is done after the session
+  pub is-closed : (t : ℕ) → IsClosed server t
+  is-closed t = record {
+    sent = rests (sent server) server.stop t (λ u after.
+        sent-next u ∙ cond-shut _ _ (sent server u) (words_ready u) (le-ltb u server.stop after));
+    credited = rests (credited server) server.stop t (λ u after.
+        credited-next u
+        ∙ cond-shut _ _ (credited server u) (credits_ready u) (le-ltb u server.stop after));
+    taken = rests (taken server) server.finish t (λ u after.
+        let pulls : pull_at server u ≡ 0 = rw (le-ltb u server.finish after) refl in
+        omega (arith, taken-next u, pulls));
+  }

@@ -6,8 +6,9 @@ use Rattle.std.proofs.Math.Nat.{mod-eq_of_lt, add-mod_right, mul-le-mul_left, mu
 use Rattle.std.proofs.Math.Nat.{lt_of_mul-lt-mul_left}
 use Rattle.aeth_slots.specs.SlotSet.{Ascends}
 use Rattle.aeth_server.specs.SlotCycles.{is_slot, slots_within, nth_slot}
-use Rattle.aeth_server.specs.Latency.{BoundsService}
+use Rattle.aeth_server.specs.Latency.{BoundsService, latency_of}
 use Rattle.aeth_server.specs.SlotServer.{served, ServesInFull}
+use Rattle.aeth_server.proofs.LatencyLemmas.{latency_of-enough}
 use Rattle.aeth_server.proofs.SlotCycleLemmas.{slots_within-slot, slots_within-other}
 use Rattle.aeth_server.proofs.SlotCycleLemmas.{slots_within-more, slots_within-same}
 use Rattle.aeth_server.proofs.SlotCycleLemmas.{slots_within-add, slots_within-turn, slots-most}
@@ -82,6 +83,18 @@ pub record IsBounded (size : ℕ) (slots : List ℕ) (cap rate theta : ℕ) : Ty
   pub least_rate : 1 ≤ rate
   pub capacity : rate ≤ cap * length slots
   pub bounds : BoundsService size slots cap rate theta
+
+-- The latency of slots that can carry a rate.
+pub latency-bounded : (size : ℕ) (slots : List ℕ) (cap rate : ℕ) → Ascends 0 size slots → 1 ≤ cap
+    → 1 ≤ rate → rate ≤ cap * length slots
+    → IsBounded size slots cap rate (latency_of size slots cap rate)
+latency-bounded size slots cap rate ascends some some_rate fits = record {
+  ascends = ascends;
+  least_cap = some;
+  least_rate = some_rate;
+  capacity = fits;
+  bounds = latency_of-enough size slots cap rate some_rate;
+}
 
 -- The slot after k others comes in time.
 pub record ComesInTime (size : ℕ) (slots : List ℕ) (cap rate theta s k : ℕ) : Type 0 where

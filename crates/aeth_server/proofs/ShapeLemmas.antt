@@ -1,43 +1,36 @@
 -- What a channel's shape gives.
 use Rattle.std.proofs.Common.{ℕ, ◌+◌, ◌-◌, ◌*◌, ◌<◌, ◌≤◌, ◌≡◌, ap, arith}
+use Rattle.aeth_base.specs.Limits.{credits_per_flit, max_path_delay, max_receiver_delay}
+use Rattle.aeth_base.specs.Limits.{max_slots, words_per_flit}
 use Rattle.aeth_slots.specs.SlotSet.{IsSlotSet}
 use Rattle.aeth_server.specs.declared.shape.ChannelShape.{ChannelShape}
-use Rattle.aeth_base.specs.declared.limits.TheConstants.{WORDS_PER_FLIT, CREDITS_PER_FLIT}
-use Rattle.aeth_server.specs.ChannelShape.{IsInRange, shape_of}
+use Rattle.aeth_server.specs.ChannelShape.{IsShapeInRange, shape_of}
 use Rattle.aeth_server.specs.Shape.{Shape, IsGranted, payload_latency, credit_latency, round_trip}
 use Rattle.aeth_server.specs.Shape.{buffer_of}
-use Rattle.aeth_server.proofs.LatencyLemmas.{latency_of-enough, le-div_ceil, div_ceil-le}
+use Rattle.aeth_server.proofs.LatencyLemmas.{le-div_ceil, div_ceil-le}
 use Rattle.std.proofs.Math.Nat.{mul-le-mul}
 use Rattle.std.specs.Int.{div_ceil}
 use Rattle.aeth_server.proofs.SlotCycleLemmas.{slots-most}
-use Rattle.aeth_server.proofs.ServiceLemmas.{IsBounded, some-size}
+use Rattle.aeth_server.proofs.ServiceLemmas.{IsBounded, latency-bounded, some-size}
 
 -- The slots serve the words.
 pub payload-bounded : (shape : Shape) → IsGranted shape
-    → IsBounded shape.size shape.slots WORDS_PER_FLIT shape.rate (payload_latency shape)
-payload-bounded shape is = record {
-  ascends = is.ascends;
-  least_cap = omega arith;
-  least_rate = is.least_rate;
-  capacity = is.capacity;
-  bounds = latency_of-enough shape.size shape.slots WORDS_PER_FLIT shape.rate is.least_rate;
-}
+    → IsBounded shape.size shape.slots words_per_flit shape.rate (payload_latency shape)
+payload-bounded shape is =
+    latency-bounded shape.size shape.slots words_per_flit shape.rate is.ascends (omega arith)
+    is.least_rate is.capacity
 
 -- The opposite slots serve the credits.
 pub credits-bounded : (shape : Shape) → IsGranted shape
-    → IsBounded shape.size shape.back_slots CREDITS_PER_FLIT shape.rate (credit_latency shape)
-credits-bounded shape is = record {
-  ascends = is.back_ascends;
-  least_cap = omega arith;
-  least_rate = is.least_rate;
-  capacity = is.back_capacity;
-  bounds = latency_of-enough shape.size shape.back_slots CREDITS_PER_FLIT shape.rate is.least_rate;
-}
+    → IsBounded shape.size shape.back_slots credits_per_flit shape.rate (credit_latency shape)
+credits-bounded shape is =
+    latency-bounded shape.size shape.back_slots credits_per_flit shape.rate is.back_ascends
+    (omega arith) is.least_rate is.back_capacity
 
 -- The table has a slot.
 pub granted-size : (shape : Shape) → IsGranted shape → 0 < shape.size
 granted-size shape is =
-    some-size shape.size shape.slots WORDS_PER_FLIT shape.rate (payload_latency shape)
+    some-size shape.size shape.slots words_per_flit shape.rate (payload_latency shape)
     (payload-bounded shape is)
 
 -- A buffer holds the words of a round trip, and two more.
@@ -50,17 +43,21 @@ buffer-room shape buffer some enough =
     let words = ap (λ n. n * shape.size) whole in
     omega (arith, round, words)
 
--- It is no more than two words for each cycle of the round trip, and two more.
-pub buffer-most : (rate size round most words : ℕ) → words ≡ div_ceil (rate * round) size
-    → 0 < size → rate ≤ WORDS_PER_FLIT * size → round ≤ most → words + 2 ≤ WORDS_PER_FLIT * most + 2
-buffer-most rate size round most words is some few near =
-    let product : rate * round ≤ WORDS_PER_FLIT * size * most = mul-le-mul few near in
-    let order : WORDS_PER_FLIT * size * most ≡ size * (WORDS_PER_FLIT * most) = omega arith in
-    let all : rate * round ≤ size * (WORDS_PER_FLIT * most) = omega (arith, product, order) in
-    omega (arith, is, div_ceil-le (rate * round) size (WORDS_PER_FLIT * most) some all)
+-- A round trip takes at most two tables, two paths, the longest delay of a receiver and a cycle.
+abbrev pub max_round_trip : ℕ
+max_round_trip = 2 * (max_slots + max_path_delay) + max_receiver_delay + 1
+
+-- A buffer is no more than the words of so many full cycles, and two more.
+pub buffer-most : (rate size round words : ℕ) → words ≡ div_ceil (rate * round) size → 0 < size
+    → rate ≤ words_per_flit * size → round ≤ max_round_trip
+    → words ≤ words_per_flit * max_round_trip
+buffer-most rate size round words is some few near =
+    let product : rate * round ≤ words_per_flit * size * max_round_trip = mul-le-mul few near in
+    let all : rate * round ≤ size * (words_per_flit * max_round_trip) = omega (arith, product) in
+    omega (arith, is, div_ceil-le (rate * round) size (words_per_flit * max_round_trip) some all)
 
 -- A rate is at most that of a whole table.
-pub need-most : (shape : ChannelShape) → IsSlotSet shape.slots → IsInRange shape
+pub need-most : (shape : ChannelShape) → IsSlotSet shape.slots → IsShapeInRange shape
     → shape.need ≤ shape.slots.size
 need-most shape set is =
     let few = slots-most shape.slots.size shape.slots.slots set.ascends in
@@ -68,7 +65,7 @@ need-most shape set is =
 
 -- What is asked of a shape in the code grants it.
 pub in-range-granted : (shape : ChannelShape) → IsSlotSet shape.slots → IsSlotSet shape.back
-    → IsInRange shape → IsGranted (shape_of shape)
+    → IsShapeInRange shape → IsGranted (shape_of shape)
 in-range-granted shape set back is = record {
   paths = record { path = omega (arith, is.least_links); back_path = omega (arith, is.least_back) };
   least_rate = omega (arith, is.least_need);

@@ -7,9 +7,8 @@ use Rattle.aeth_server.specs.FinishTimes.{arrivals_before}
 use Rattle.aeth_server.specs.SlotServer.{SlotServer, KeepsRate, IsSentBy, IsBusyPeriod, SendsInTurn}
 use Rattle.aeth_server.specs.SlotServer.{ServesAtRate, sent_by, own_latency, own_finish}
 use Rattle.aeth_server.specs.SlotServer.{arrival_after, steady_from}
-use Rattle.aeth_server.proofs.LatencyLemmas.{latency_of-enough}
-use Rattle.aeth_server.proofs.ServiceLemmas.{IsBounded, served-by, served-next, first-reached}
-use Rattle.aeth_server.proofs.ServiceLemmas.{never-falls, some-size}
+use Rattle.aeth_server.proofs.ServiceLemmas.{IsBounded, latency-bounded, served-by}
+use Rattle.aeth_server.proofs.ServiceLemmas.{served-next, first-reached, never-falls, some-size}
 use Rattle.aeth_server.proofs.FinishTimeLemmas.{arrivals_before-none, finish-leaves, whole-cycles}
 
 module _ (server : SlotServer) (keeps : KeepsRate server) where
@@ -23,13 +22,9 @@ module _ (server : SlotServer) (keeps : KeepsRate server) where
   sent t = sent_by server t
 
   bounded : IsBounded server.size server.slots server.cap server.rate (own_latency server)
-  bounded = record {
-    ascends = keeps.ascends;
-    least_cap = keeps.least_cap;
-    least_rate = keeps.least_rate;
-    capacity = keeps.capacity;
-    bounds = latency_of-enough server.size server.slots server.cap server.rate keeps.least_rate;
-  }
+  bounded =
+      latency-bounded server.size server.slots server.cap server.rate keeps.ascends keeps.least_cap
+      keeps.least_rate keeps.capacity
 
   -- a word that waits finishes late enough
   leaves : (s i : ℕ) → i ≤ length server.arrivals → arrivals_before server.arrivals s < i

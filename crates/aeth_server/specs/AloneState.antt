@@ -2,7 +2,8 @@
 -- This project's own.
 use Rattle.std.specs.Prelude.{ℕ, ◌+◌, ◌-◌, ◌<◌, ◌≤◌, ◌≡◌, nat_lt, Bool, List, ◌∷◌, slice_index}
 use Rattle.std.specs.Prelude.{replicate, take, All}
-use Rattle.aeth_server.specs.declared.limits.TheConstants.{MAX_BUFFER, MAX_PATH, MAX_WORDS}
+use Rattle.aeth_base.specs.Limits.{max_path_delay, max_queue_words}
+use Rattle.aeth_server.specs.Limits.{max_session_words}
 use Rattle.aeth_server.specs.Shape.{Shape, HasPaths}
 use Rattle.aeth_server.specs.PrivateServer.{PrivateServer, Counts, Cycle, counts_after, arrived}
 use Rattle.aeth_server.specs.PrivateServer.{sent, taken, credited, pull_at}
@@ -27,8 +28,8 @@ first_state shape buffer = record {
   time = 0;
   arrived = 0;
   taken = 0;
-  sent = replicate MAX_PATH 0;
-  credited = replicate MAX_PATH 0;
+  sent = replicate max_path_delay 0;
+  credited = replicate max_path_delay 0;
 }
 
 -- The counts after one more cycle, in which so many words are offered.
@@ -52,23 +53,23 @@ after_cycle s words pull may_send =
       time = s.time + 1;
       arrived = s.arrived + words;
       taken = next.taken;
-      sent = next.sent ∷ take (MAX_PATH - 1) s.sent;
-      credited = next.credited ∷ take (MAX_PATH - 1) s.credited;
+      sent = next.sent ∷ take (max_path_delay - 1) s.sent;
+      credited = next.credited ∷ take (max_path_delay - 1) s.credited;
     }
 
 -- What holds of its counts within a run.
 pub record IsWithinRun (buffer arrived taken : ℕ) (sent credited : List ℕ) : Type 0 where
-  pub most_buffer : buffer ≤ MAX_BUFFER
-  pub most_arrived : arrived ≤ MAX_WORDS
-  pub most_taken : taken ≤ MAX_WORDS
-  pub most_sent : All (λ n. n ≤ MAX_WORDS) sent
-  pub most_credited : All (λ n. n ≤ MAX_WORDS) credited
+  pub most_buffer : buffer ≤ max_queue_words
+  pub most_arrived : arrived ≤ max_session_words
+  pub most_taken : taken ≤ max_session_words
+  pub most_sent : All (λ n. n ≤ max_session_words) sent
+  pub most_credited : All (λ n. n ≤ max_session_words) credited
 
 -- All that is under way stays in this memory.
 pub record FitsMemory (shape : Shape) : Type 0 where
   pub paths : HasPaths shape
-  pub most_path : shape.path_delay ≤ MAX_PATH
-  pub most_back_path : shape.back_path_delay ≤ MAX_PATH
+  pub most_path : shape.path_delay ≤ max_path_delay
+  pub most_back_path : shape.back_path_delay ≤ max_path_delay
 
 -- It is the state of this private server after t cycles.
 pub record IsStateAt (server : PrivateServer) (t : ℕ) (s : AloneState) : Type 0 where
@@ -77,8 +78,8 @@ pub record IsStateAt (server : PrivateServer) (t : ℕ) (s : AloneState) : Type 
   pub time : s.time ≡ t
   pub arrived : s.arrived ≡ arrived server t
   pub taken : s.taken ≡ taken server t
-  pub sent : (j : ℕ) → j < MAX_PATH → slice_index s.sent j ≡ sent server (t - j)
-  pub credited : (j : ℕ) → j < MAX_PATH → slice_index s.credited j ≡ credited server (t - j)
+  pub sent : (j : ℕ) → j < max_path_delay → slice_index s.sent j ≡ sent server (t - j)
+  pub credited : (j : ℕ) → j < max_path_delay → slice_index s.credited j ≡ credited server (t - j)
 
 -- What a cycle is given is what the private server is given in cycle t.
 pub record IsGivenAt (server : PrivateServer) (t words pull : ℕ) (may_send : Bool) : Type 0 where

@@ -18,7 +18,6 @@ finish_time size rate latency arrivals (suc i) =
     (finish_time size rate latency arrivals i)
     + size
 
--- The cycle by which the i-th word is done.
-abbrev pub due_cycle : ℕ → ℕ → ℕ → List ℕ → ℕ → ℕ
-due_cycle size rate latency arrivals i =
-    div_ceil (finish_time size rate latency arrivals i) rate
+-- The cycle of a finish time: the first one by which it has passed.
+abbrev pub due_cycle : ℕ → ℕ → ℕ
+due_cycle rate finish = div_ceil finish rate

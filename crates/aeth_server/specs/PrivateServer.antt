@@ -5,7 +5,7 @@
 -- Credits: after Æthereal (2005). The private server: this project's own.
 use Rattle.std.specs.Prelude.{ℕ, ◌+◌, ◌-◌, ◌&&◌, nat_lt, nat_le, min, Bool, if◌then◌else◌, List, []}
 use Rattle.std.specs.Prelude.{◌∷◌, slice_index_or, filter, zero, suc}
-use Rattle.aeth_base.specs.declared.limits.TheConstants.{WORDS_PER_FLIT, CREDITS_PER_FLIT}
+use Rattle.aeth_base.specs.Limits.{credits_per_flit, words_per_flit}
 use Rattle.aeth_server.specs.SlotCycles.{is_slot}
 use Rattle.aeth_server.specs.FinishTimes.{arrivals_before}
 use Rattle.aeth_server.specs.Shape.{Shape}
@@ -47,10 +47,10 @@ counts_after shape buffer cycle before landed returned =
     let sends = cycle.may_send && is_slot shape.size shape.slots cycle.time in
     let credits = cycle.may_send && is_slot shape.size shape.back_slots cycle.time in
     record {
-      sent = before.sent + (if sends then min WORDS_PER_FLIT waiting else 0);
+      sent = before.sent + (if sends then min words_per_flit waiting else 0);
       taken = before.taken + min cycle.pull (landed - before.taken);
       credited = before.credited
-          + (if credits then min CREDITS_PER_FLIT (before.taken - before.credited) else 0);
+          + (if credits then min credits_per_flit (before.taken - before.credited) else 0);
     }
 
 -- The cycles of the words that the session accepts.

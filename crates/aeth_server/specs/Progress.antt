@@ -1,8 +1,7 @@
 -- Due times one word after the other.
 use Rattle.std.specs.Prelude.{ℕ, ◌+◌, ◌*◌, ◌≤◌, max, List}
-use Rattle.aeth_slots.specs.declared.slot_set.TheConstants.{MAX_SIZE}
-use Rattle.aeth_server.specs.declared.limits.TheConstants.{MAX_CYCLE, MAX_PATH, MAX_WORDS}
-use Rattle.aeth_base.specs.declared.limits.TheConstants.{WORDS_PER_FLIT}
+use Rattle.aeth_base.specs.Limits.{max_cycles, max_path_delay, max_slots, words_per_flit}
+use Rattle.aeth_server.specs.Limits.{max_session_words}
 use Rattle.aeth_server.specs.FinishTimes.{finish_time}
 
 -- How far the words of a session are: the table size, the rate and the latency, how many words
@@ -34,10 +33,10 @@ progress_of size rate latency arrivals i = record {
 -- What holds of all these numbers within a session.
 pub record IsWithinSession (size rate latency words finish : ℕ) : Type 0 where
   pub least_size : 1 ≤ size
-  pub most_size : size ≤ MAX_SIZE
+  pub most_size : size ≤ max_slots
   pub least_rate : 1 ≤ rate
-  pub most_rate : rate ≤ WORDS_PER_FLIT * MAX_SIZE
-  pub most_latency : latency ≤ MAX_SIZE + MAX_PATH
-  pub most_words : words ≤ MAX_WORDS
+  pub most_rate : rate ≤ words_per_flit * max_slots
+  pub most_latency : latency ≤ max_slots + max_path_delay
+  pub most_words : words ≤ max_session_words
   pub most_finish : finish
-      ≤ WORDS_PER_FLIT * MAX_SIZE * (MAX_CYCLE + MAX_SIZE + MAX_PATH) + words * MAX_SIZE
+      ≤ words_per_flit * max_slots * (max_cycles + max_slots + max_path_delay) + words * max_slots

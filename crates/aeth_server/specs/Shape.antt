@@ -3,8 +3,8 @@
 -- End-to-end flow control: after Æthereal (2005). Rate and buffer: this project's own.
 use Rattle.std.specs.Prelude.{ℕ, ◌+◌, ◌*◌, ◌≤◌, List, length}
 use Rattle.std.specs.Int.{div_ceil}
+use Rattle.aeth_base.specs.Limits.{credits_per_flit, words_per_flit}
 use Rattle.aeth_slots.specs.SlotSet.{Ascends}
-use Rattle.aeth_base.specs.declared.limits.TheConstants.{WORDS_PER_FLIT, CREDITS_PER_FLIT}
 use Rattle.aeth_server.specs.Latency.{latency_of}
 
 -- The shape of a channel: the table size; its slots, and the delay of its path in cycles; its rate
@@ -30,17 +30,17 @@ pub record IsGranted (shape : Shape) : Type 0 where
   pub paths : HasPaths shape
   pub least_rate : 1 ≤ shape.rate
   pub ascends : Ascends 0 shape.size shape.slots
-  pub capacity : shape.rate ≤ WORDS_PER_FLIT * length shape.slots
+  pub capacity : shape.rate ≤ words_per_flit * length shape.slots
   pub back_ascends : Ascends 0 shape.size shape.back_slots
-  pub back_capacity : shape.rate ≤ CREDITS_PER_FLIT * length shape.back_slots
+  pub back_capacity : shape.rate ≤ credits_per_flit * length shape.back_slots
 
 -- The latency of the slots for words.
 abbrev pub payload_latency : Shape → ℕ
-payload_latency shape = latency_of shape.size shape.slots WORDS_PER_FLIT shape.rate
+payload_latency shape = latency_of shape.size shape.slots words_per_flit shape.rate
 
 -- The latency of the opposite slots for credits.
 abbrev pub credit_latency : Shape → ℕ
-credit_latency shape = latency_of shape.size shape.back_slots CREDITS_PER_FLIT shape.rate
+credit_latency shape = latency_of shape.size shape.back_slots credits_per_flit shape.rate
 
 -- The latency of the channel, from a word's offer to its landing.
 abbrev pub channel_latency : Shape → ℕ

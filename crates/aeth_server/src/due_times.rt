@@ -1,12 +1,12 @@
 // When words are due.
 ghost use Rattle.std.specs.Prelude.{◌≡◌, ◌≤◌, ◌<◌, [], All, length};
-ghost use Rattle.std.specs.Int.{div_ceil};
-ghost use Rattle.aeth_server.specs.ChannelShape.{IsInRange, shape_of};
-ghost use Rattle.aeth_server.specs.FinishTimes.{finish_time};
+ghost use Rattle.aeth_base.specs.Limits.{max_cycles};
+ghost use Rattle.aeth_server.specs.ChannelShape.{IsShapeInRange, shape_of};
+ghost use Rattle.aeth_server.specs.FinishTimes.{due_cycle, finish_time};
+ghost use Rattle.aeth_server.specs.Limits.{max_session_words};
 ghost use Rattle.aeth_server.specs.Progress.{after_word, progress_of};
 ghost use Rattle.aeth_server.specs.Shape.{channel_latency};
 
-use crate::limits::{MAX_CYCLE, MAX_WORDS};
 use crate::shape::ChannelShape;
 use std::marker::Model;
 
@@ -40,7 +40,7 @@ impl Model for Due {
 impl Due {
     /// Before the first word of a session.
     pub fn new(shape: &ChannelShape) -> Due
-        requires { IsInRange shape.now }
+        requires { IsShapeInRange shape.now }
         ensures { let granted = shape_of shape.now in
             result ≡ progress_of granted.size granted.rate (channel_latency granted) [] 0 }
     {
@@ -55,10 +55,10 @@ impl Due {
 
     /// The due cycle of the next word, which is offered in this cycle.
     pub fn step(&mut self, arrival: u64) -> u64
-        requires few { self.old.words < MAX_WORDS }
-        requires early { arrival ≤ MAX_CYCLE }
+        requires few { self.old.words < max_session_words }
+        requires early { arrival ≤ max_cycles }
         ensures word { self.new ≡ after_word self.old arrival }
-        ensures due { result ≡ div_ceil self.new.finish self.new.rate }
+        ensures due { result ≡ due_cycle self.new.rate self.new.finish }
     {
         let start = u128::from(self.rate) * (u128::from(arrival) + u128::from(self.latency));
         self.finish = start.max(self.finish) + u128::from(self.size);
@@ -77,10 +77,10 @@ impl Due {
 /// The rate times the time by which the `i`-th word is due, of words that are offered in these
 /// cycles; 0 for `i` = 0.
 pub fn deadline(shape: &ChannelShape, arrivals: &[u64], i: usize) -> u128
-    requires shape { IsInRange shape.now }
+    requires shape { IsShapeInRange shape.now }
     requires word { i ≤ length arrivals.now }
-    requires few { length arrivals.now ≤ MAX_WORDS }
-    requires early { All (λ a. a ≤ MAX_CYCLE) arrivals.now }
+    requires few { length arrivals.now ≤ max_session_words }
+    requires early { All (λ a. a ≤ max_cycles) arrivals.now }
     ensures { let granted = shape_of shape.now in
         result ≡ finish_time granted.size granted.rate (channel_latency granted) arrivals.now i }
 {

@@ -1,15 +1,16 @@
 //! What holds of every server, over the definitions alone.
 ghost use Rattle.std.specs.Prelude.{◌≡◌, ℕ, ◌+◌, ◌-◌, ◌*◌, ◌≤◌, ◌↔◌, Bool, List, length};
 ghost use Rattle.std.specs.Prelude.{slice_index};
-ghost use Rattle.std.specs.Int.{div_ceil};
 ghost use Rattle.std.specs.List.Sorted.{IsNonDecreasing};
 ghost use Rattle.aeth_slots.specs.SlotSet.{Ascends};
-ghost use Rattle.aeth_server.specs.CountLaws.{FitsFlit, HasGrown, IsAlike, IsIdle, IsInOrder};
-ghost use Rattle.aeth_server.specs.CountLaws.{IsStep};
+ghost use Rattle.aeth_server.specs.CountLaws.{FitsFlit, HasGrown, HasRoom, IsAlike, IsClosed};
+ghost use Rattle.aeth_server.specs.CountLaws.{IsIdle, IsInOrder, IsStep};
+ghost use Rattle.aeth_server.specs.FinishTimes.{due_cycle};
 ghost use Rattle.aeth_server.specs.Landing.{IsDue, LandsAt, LandsBy, WaitsAlone, due_time};
 ghost use Rattle.aeth_server.specs.Landing.{landing_cycle};
 ghost use Rattle.aeth_server.specs.Latency.{BoundsService, latency_of};
 ghost use Rattle.aeth_server.specs.PrivateServer.{PrivateServer, counts, landed};
+ghost use Rattle.aeth_server.specs.Progress.{after_word, progress_of};
 ghost use Rattle.aeth_server.specs.Shape.{HasPaths, IsGranted, Shape, buffer_of, round_trip};
 ghost use Rattle.aeth_server.specs.SlotServer.{IsBusyPeriod, IsSentBy, KeepsRate, SendsInTurn};
 ghost use Rattle.aeth_server.specs.SlotServer.{ServesAtRate, ServesInFull, SlotServer, own_finish};
@@ -50,16 +51,20 @@ pub fn private_server()
 {}
 
 /// The order of a private server's counts: words go for credits alone, so the receiver never holds
-/// more than the buffer; what goes in a cycle fits in a flit; no count falls; and nothing is done
-/// before the session goes.
+/// more than the buffer, and has room for what lands in a cycle before it takes any of it; what goes in
+/// a cycle fits in a flit; no count falls; nothing is done before the session goes, nothing is sent
+/// from its stop on, and nothing is taken from its finish on.
 pub fn count_order()
     ensures order { (server : PrivateServer) → HasPaths server.shape
         → (t : ℕ) → IsInOrder server t }
+    ensures room { (server : PrivateServer) → HasPaths server.shape → (t : ℕ) → HasRoom server t }
     ensures flit { (server : PrivateServer) → HasPaths server.shape → (t : ℕ) → FitsFlit server t }
     ensures grown { (server : PrivateServer) → HasPaths server.shape
         → (s t : ℕ) → s ≤ t → HasGrown server s t }
     ensures idle { (server : PrivateServer) → HasPaths server.shape
         → (t : ℕ) → t ≤ server.go → IsIdle server t }
+    ensures closed { (server : PrivateServer) → HasPaths server.shape
+        → (t : ℕ) → IsClosed server t }
 {}
 
 /// The counts of a private server depend on nothing but what it is given up to then.
@@ -108,10 +113,20 @@ pub fn single_word()
         → i ≤ landed server (a + latency + 1) }
 {}
 
-/// A word that has landed landed in its landing cycle, and a time has passed exactly where its
-/// cycle, rounded up, has come.
-pub fn cycles()
-    ensures landing { (server : PrivateServer) (t i : ℕ) → 1 ≤ i → i ≤ landed server t
+/// A word that has landed landed in its landing cycle.
+pub fn landing()
+    ensures { (server : PrivateServer) (t i : ℕ) → 1 ≤ i → i ≤ landed server t
         → LandsAt server i (landing_cycle server t i) }
-    ensures due { (time rate t : ℕ) → 1 ≤ rate → (div_ceil time rate ≤ t) ↔ (time ≤ rate * t) }
+{}
+
+/// The due cycle of a finish time has come exactly where the time has passed, and what was done by
+/// that time was done by that cycle. Words one after the other have the finish times of all.
+pub fn due_cycles()
+    ensures passed { (rate finish t : ℕ) → 1 ≤ rate
+        → (due_cycle rate finish ≤ t) ↔ (finish ≤ rate * t) }
+    ensures in_time { (rate finish t : ℕ) → 1 ≤ rate → rate * t ≤ finish
+        → t ≤ due_cycle rate finish }
+    ensures next { (size rate latency : ℕ) (arrivals : List ℕ) (i : ℕ)
+        → progress_of size rate latency arrivals (i + 1)
+        ≡ after_word (progress_of size rate latency arrivals i) (slice_index arrivals i) }
 {}

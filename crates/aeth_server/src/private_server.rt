@@ -1,18 +1,19 @@
 // One channel by itself, cycle by cycle, in the memory of its last cycles.
 ghost use Rattle.std.specs.Prelude.{◌≡◌, ◌+◌, ◌-◌, ◌≤◌, ◌∷◌, ◌&&◌, if◌then◌else◌, length, min};
 ghost use Rattle.std.specs.Prelude.{slice_index, take};
-ghost use Rattle.aeth_server.specs.ChannelShape.{IsInRange, shape_of};
+ghost use Rattle.aeth_base.specs.Limits.{max_cycles, max_path_delay, max_queue_words};
+ghost use Rattle.aeth_server.specs.ChannelShape.{IsShapeInRange, shape_of};
+ghost use Rattle.aeth_server.specs.Limits.{max_session_words};
 ghost use Rattle.aeth_server.specs.SlotCycles.{is_slot};
 ghost use Rattle.aeth_server.specs.AloneState.{after_cycle, first_state};
 
-use crate::limits::{MAX_BUFFER, MAX_CYCLE, MAX_PATH, MAX_WORDS};
 use crate::shape::ChannelShape;
-use aeth_base::{CREDITS_PER_FLIT, WORDS_PER_FLIT};
+use aeth_base::{CREDITS_PER_FLIT, MAX_PATH_DELAY, WORDS_PER_FLIT};
 use aeth_slots::SlotSet;
 use std::marker::Model;
 
 /// For how many cycles a flit is under way at most.
-const MEMORY: usize = MAX_PATH as usize;
+const MEMORY: usize = MAX_PATH_DELAY as usize;
 
 /// One channel by itself: its private server from the first cycle on, in one session without a
 /// close. It remembers what is under way alone, at most a path's length of cycles each way.
@@ -37,7 +38,7 @@ pub struct AloneStep {
 
 impl Model for Alone {
     ghost use Rattle.aeth_server.specs.AloneState.{AloneState, IsWithinRun};
-    ghost use Rattle.aeth_server.specs.ChannelShape.{IsInRange, shape_of};
+    ghost use Rattle.aeth_server.specs.ChannelShape.{IsShapeInRange, shape_of};
 
     ghost Value = { AloneState };
 
@@ -51,15 +52,15 @@ impl Model for Alone {
       credited = a.credited;
     } };
 
-    ghost invariant = { λ a. IsInRange a.shape
+    ghost invariant = { λ a. IsShapeInRange a.shape
         × IsWithinRun a.buffer a.arrived a.taken a.sent a.credited };
 }
 
 impl Alone {
     /// Before the first cycle.
     pub fn new(shape: &ChannelShape, buffer: u32) -> Alone
-        requires shape { IsInRange shape.now }
-        requires buffer { buffer ≤ MAX_BUFFER }
+        requires shape { IsShapeInRange shape.now }
+        requires buffer { buffer ≤ max_queue_words }
         ensures { result ≡ first_state (shape_of shape.now) buffer }
     {
         Alone {
@@ -77,8 +78,8 @@ impl Alone {
     /// `pull`, and flits are sent where `may_send` says so. It takes constant time.
     pub fn cycle(&mut self, t: u64, words: u32, pull: u32, may_send: bool) -> AloneStep
         requires next { t ≡ self.old.time }
-        requires early { t ≤ MAX_CYCLE }
-        requires few { self.old.arrived + words ≤ MAX_WORDS }
+        requires early { t ≤ max_cycles }
+        requires few { self.old.arrived + words ≤ max_session_words }
         ensures cycle { self.new ≡ after_cycle self.old words pull may_send }
         ensures sent { result.sent ≡ slice_index self.new.sent 0 }
         ensures landed { result.landed ≡ slice_index self.old.sent (self.old.shape.path_delay - 1) }
@@ -126,7 +127,7 @@ fn is_open(may_send: bool, slots: &SlotSet, t: u64) -> bool
 
 /// The newest count before the others, of which the oldest is dropped.
 fn shifted(newest: u32, counts: &[u32; MEMORY]) -> [u32; MEMORY]
-    ensures { result ≡ newest ∷ take (MEMORY - 1) counts.now }
+    ensures { result ≡ newest ∷ take (max_path_delay - 1) counts.now }
 {
     let mut all = [newest; MEMORY];
     all[1..].copy_from_slice(&counts[..MEMORY - 1]);

@@ -1,10 +1,10 @@
 // The latency of a slot set.
 ghost use Rattle.std.specs.Prelude.{◌≡◌, ℕ, ◌+◌, ◌*◌, ◌≤◌, ◌<◌, length};
+ghost use Rattle.aeth_base.specs.Limits.{credits_per_flit, max_slots};
 ghost use Rattle.aeth_server.specs.Extremes.{greatest_below};
 ghost use Rattle.aeth_server.specs.Latency.{BoundsService, latency_for, latency_of};
 
-use aeth_base::CREDITS_PER_FLIT;
-use aeth_slots::{MAX_SIZE, SlotSet};
+use aeth_slots::SlotSet;
 
 /// The latency, in cycles, of a server that sends up to `cap` words in each of these slots and
 /// keeps a rate of `rate` words per table: the least with which every slot, from every cycle on,
@@ -12,7 +12,7 @@ use aeth_slots::{MAX_SIZE, SlotSet};
 /// After the latency-rate server (Stiliadis and Varma, 1998), for whole words.
 pub fn latency(slots: &SlotSet, cap: u32, rate: u32) -> u32
     requires least_cap { 1 ≤ cap }
-    requires most_cap { cap ≤ CREDITS_PER_FLIT }
+    requires most_cap { cap ≤ credits_per_flit }
     requires least_rate { 1 ≤ rate }
     requires capacity { rate ≤ cap * length slots.now.slots }
     ensures enough { BoundsService slots.now.size slots.now.slots cap rate result }
@@ -20,7 +20,7 @@ pub fn latency(slots: &SlotSet, cap: u32, rate: u32) -> u32
         → result ≤ theta }
     ensures gives { result ≡ latency_of slots.now.size slots.now.slots cap rate }
     ensures within { result ≤ slots.now.size }
-    ensures most { result ≤ MAX_SIZE }
+    ensures most { result ≤ max_slots }
 {
     let mut theta = 0;
     for s in 0..slots.size() {
@@ -32,7 +32,7 @@ pub fn latency(slots: &SlotSet, cap: u32, rate: u32) -> u32
 /// The least latency with which every slot from cycle `s` on comes in time.
 fn latency_from(slots: &SlotSet, cap: u32, rate: u32, s: u32) -> u32
     requires start { s < slots.now.size }
-    requires most_cap { cap ≤ CREDITS_PER_FLIT }
+    requires most_cap { cap ≤ credits_per_flit }
     requires least_rate { 1 ≤ rate }
     requires capacity { rate ≤ cap * length slots.now.slots }
     ensures { result ≡ greatest_below

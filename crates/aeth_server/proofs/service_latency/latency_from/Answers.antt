@@ -4,11 +4,12 @@ use Rattle.aeth_server.proofs.LatencyWalk.{walk-slot, walk-other, walk-end, rate
 use Rattle.aeth_server.proofs.service_latency.latency_from.Goals as goal
 use Rattle.aeth_server.proofs.service_latency.latency_from.Goals.{then-has, else-has}
 
--- The rate is at most 15 times 64, and a cycle of the table below 64.
+-- The rate is at most that of a table full of credits, and the cycles are those of a table.
 pub overflow_mul-rate : goal.overflow_mul-rate
 overflow_mul-rate c =
     let set = c.size-size.ensures.set in
-    let fits = rate-within c.args.cap c.args.rate c.loop-n.n _ _ set.ascends set.within
+    let fits = rate-within c.args.cap c.args.rate c.loop-n.n _ _ set.ascends
+    (omega (arith, set.within))
     c.requires.most_cap
     c.requires.capacity (omega (arith, c.size-size.ensures.size)) in
     omega (arith, fits)

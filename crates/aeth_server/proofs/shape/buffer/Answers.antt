@@ -6,7 +6,7 @@ use Rattle.aeth_server.proofs.shape.buffer.Goals as goal
 pub returns-clause-most : goal.returns-clause-most
 returns-clause-most c =
     let size = c.size-size.ensures in
-    let most = buffer-most _ _ _ 4300 _ c.div_ceil.ensures size.least
+    let most = buffer-most _ _ _ _ c.div_ceil.ensures size.least
     (omega (arith, c.rate-rate.ensures.within, size.size))
     (omega (
       arith,
