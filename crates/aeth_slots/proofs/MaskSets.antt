@@ -11,7 +11,7 @@ use Rattle.std.proofs.lemmas.Nat.Bits.{ones_shr}
 use Rattle.std.proofs.lemmas.Bool.{or_cases, or_left, or_right, not_from_false, both_ways, not-true}
 use Rattle.std.proofs.lemmas.Bool.{false_from_ne_true}
 use Rattle.aeth_slots.specs.Bits.{IsMask}
-use Rattle.aeth_slots.specs.declared.slot_set.TheConstants.{MAX_SIZE}
+use Rattle.aeth_base.specs.Limits.{max_slots}
 use Rattle.aeth_slots.specs.SlotSet.{Slots, all_slots, has_slot, joined, without}
 use Rattle.aeth_slots.proofs.Lists.{Contains-filter, filter-Contains}
 use Rattle.aeth_slots.proofs.Ascending.{Ascends-bounds, Ascends-filter}
@@ -34,7 +34,7 @@ full-is w size most =
     let room : bits w - (bits w - size) ≡ size = omega arith in
     ones_shr (bits w) (bits w - size) (omega arith) ∙ ap (λ k. 2 ^ k - 1) room
 
-pub full-mask : (w : Width) (size : ℕ) → 1 ≤ size → size ≤ MAX_SIZE → size ≤ bits w
+pub full-mask : (w : Width) (size : ℕ) → 1 ≤ size → size ≤ max_slots → size ≤ bits w
     → IsMask size (full_mask w size)
 full-mask w size some within most = record {
   some_size = some;

@@ -2,14 +2,14 @@
 use Rattle.std.proofs.Common.{ℕ, min, ◌+◌, ◌*◌, ◌/◌, ◌%◌, ◌^◌, ◌<◌, ◌≤◌, ◌≡◌, ◌↔◌, ◌∙◌, zero, suc}
 use Rattle.std.proofs.Common.{Bool, true, false, cond, eqb, List, [], ◌∷◌, Contains, sym, refl, ap}
 use Rattle.std.proofs.Common.{subst, inl, inr, arith, rules, IsTrue, bit_and, bit_or, zero-add}
-use Rattle.std.specs.Int.{bit_at, Width, w64}
+use Rattle.std.specs.Int.{bit_at, Width, w128}
 use mir.Val.{bits}
 use Rattle.std.proofs.lemmas.Nat.{one_shl, or_lt, pow_below}
 use Rattle.std.proofs.lemmas.Nat.Bits.{bit_at-zero, shr_and_one, bit_at-lt, bit_at_and}
 use Rattle.std.proofs.lemmas.Nat.Bits.{bit_at_set_same, bit_at_set_other}
 use Rattle.std.proofs.lemmas.Bool.{cases_eq, eqb-true, eq-eqb}
 use Rattle.std.proofs.lemmas.Bool.Decides.{same_from_decides, Decides-eqb}
-use Rattle.aeth_slots.specs.declared.slot_set.TheConstants.{MAX_SIZE}
+use Rattle.aeth_base.specs.Limits.{max_slots}
 use Rattle.aeth_slots.specs.Bits.{IsMask, ones_from, mask_of}
 use Rattle.aeth_slots.specs.BitLemmas.{mask_of-ones}
 use Rattle.aeth_slots.specs.SlotSet.{Slots, IsSlotSet, Ascends, same_set, with_slot, common}
@@ -21,7 +21,7 @@ use Rattle.aeth_slots.proofs.SlotSetLemmas.{Contains-common, same_set-Decides}
 
 -- How many bits a mask has: with the type of masks, all that is said of their width.
 abbrev pub mask_width : Width
-mask_width = w64
+mask_width = w128
 
 -- A one of a mask is in the list of its ones.
 pub Contains-ones : (mask at n s : ℕ) → at ≤ s → s < at + n → bit_at mask s ≡ 1
@@ -116,7 +116,7 @@ view-empty size = view-is size 0 (record { size = size; slots = [] }) refl tt
     (λ s within one. absurd (omega (arith, one, bit_at-zero s))) (λ s has. Contains-nil has)
 
 -- What the view of a size and a mask is holds of every slot set.
-pub view-set : (size mask : ℕ) (set : Slots) → IsView size mask set → 1 ≤ size → size ≤ MAX_SIZE
+pub view-set : (size mask : ℕ) (set : Slots) → IsView size mask set → 1 ≤ size → size ≤ max_slots
     → IsSlotSet set
 view-set size mask set view some most =
     subst IsSlotSet view

@@ -1,7 +1,7 @@
 -- A mask of bits as the list of the places of its ones, and back.
 use Rattle.std.specs.Prelude.{ℕ, ◌+◌, ◌^◌, ◌==◌, ◌<◌, ◌≤◌, if◌then◌else◌, List, [], ◌∷◌, zero, suc}
 use Rattle.std.specs.Int.{bit_at}
-use Rattle.aeth_slots.specs.declared.slot_set.TheConstants.{MAX_SIZE}
+use Rattle.aeth_base.specs.Limits.{max_slots}
 
 -- The places of a mask's ones, from a place on, over so many places.
 abbrev pub ones_from : ℕ → ℕ → ℕ → List ℕ
@@ -17,5 +17,5 @@ mask_of (x ∷ xs) = 2 ^ x + mask_of xs
 -- What holds of a table size and a mask of the table's slots.
 pub record IsMask (size mask : ℕ) : Type 0 where
   pub some_size : 1 ≤ size
-  pub within : size ≤ MAX_SIZE
+  pub within : size ≤ max_slots
   pub below : mask < 2 ^ size

@@ -14,7 +14,7 @@ use Rattle.std.specs.Prelude.{List, [], ◌∷◌, map, filter, Contains}
 use Rattle.std.specs.Ordering.{on, eq_of_both}
 use Rattle.std.specs.Cmp.Lexicographic.{pointwise}
 use Rattle.std.specs.List.{list_any, range_with_len}
-use Rattle.aeth_slots.specs.declared.slot_set.TheConstants.{MAX_SIZE}
+use Rattle.aeth_base.specs.Limits.{max_slots}
 
 -- A slot table's size, and slots of this table, ascending.
 -- Slot table: after Æthereal (2005).
@@ -30,7 +30,7 @@ Ascends low high (x ∷ xs) = (low ≤ x) × (x < high) × Ascends (x + 1) high 
 -- What holds of every slot set.
 pub record IsSlotSet (set : Slots) : Type 0 where
   pub some_size : 1 ≤ set.size
-  pub within : set.size ≤ MAX_SIZE
+  pub within : set.size ≤ max_slots
   pub ascends : Ascends 0 set.size set.slots
 
 -- Whether two sets are equal, as `==` tells.

@@ -5,13 +5,14 @@
 // backwards, each by one look-up, so a choice takes about the square of the table size in steps.
 ghost use Rattle.std.specs.Prelude.{◌≡◌, ◌+◌, ◌-◌, ◌<◌, ◌≤◌, ◌↔◌, [], ◌∷◌, List, ℕ, length, IsTrue};
 ghost use Rattle.std.specs.Prelude.{IsSome, IfSome, IfNone, Contains};
+ghost use Rattle.aeth_base.specs.Limits.{max_slots};
 ghost use Rattle.aeth_slots.specs.SlotSet.{IsSlotSet, Ascends};
 ghost use Rattle.aeth_slots.specs.Choice.{IsSuitable, IsChosen, chosen, subsets};
 ghost use Rattle.aeth_slots.specs.Ways.{IsWay, Reaches, ReachesWithin, IsEarliest, IsFewest};
 ghost use Rattle.aeth_slots.specs.Ways.{IsNextOnWay, IsFirstMember, IsLeastSize, AddsFirstWay};
 ghost use Rattle.aeth_slots.specs.Ways.{IsRound, HasRound, StartsWithin, IsFirstRound};
 
-use crate::{MAX_SIZE, SlotSet};
+use crate::SlotSet;
 
 /// The lexicographically first among the suitable subsets of least size: at least `need` slots,
 /// with no gap above `gap`. There is none exactly where the whole free set isn't suitable.
@@ -126,7 +127,7 @@ fn add_way(free: &SlotSet, end: u32, gap: u32, from: u32, count: u32, set: &mut 
 
 /// The least free slot after `from` from which the end is reached over at most `more` slots.
 fn next_slot(free: &SlotSet, end: u32, gap: u32, from: u32, more: u32) -> Option<u32>
-    requires { from < MAX_SIZE }
+    requires { from < max_slots }
     ensures some { IfSome result (IsNextOnWay free.now.slots end gap from more) }
     ensures none { IfNone result ((slot : ℕ) → Contains free.now.slots slot → from < slot
         → ReachesWithin free.now.slots end gap slot more → ⊥) }

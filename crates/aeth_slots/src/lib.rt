@@ -10,4 +10,4 @@ mod tests;
 
 pub use choice::choose;
 pub use members::Members;
-pub use slot_set::{MAX_SIZE, SlotSet};
+pub use slot_set::SlotSet;

@@ -1,18 +1,16 @@
 // A slot set as one mask, a bit for each slot. Only this file knows how wide a mask is.
 ghost use Rattle.std.specs.Prelude.{◌≡◌, ◌<◌, ◌≤◌, ◌↔◌, ◌++◌, [], ◌∷◌, ℕ, length, IsTrue, IfSome};
 ghost use Rattle.std.specs.Prelude.{IfNone, MatchOption, Contains};
+ghost use Rattle.aeth_base.specs.Limits.{max_slots};
 ghost use Rattle.aeth_slots.specs.SlotSet.{IsSlotSet, IsNextSlot, Ascends, inserted, rotated};
 ghost use Rattle.aeth_slots.specs.SlotSet.{all_slots, common, joined, without};
 
 use std::marker::Model;
 
-/// The size of the largest slot table.
-pub const MAX_SIZE: u32 = 64;
-
 // A mask with a bit for each slot of the largest table.
-type Mask = u64;
+type Mask = u128;
 
-/// A slot table's size, 1 to `MAX_SIZE`, and a set of its slots, which are numbered from 0.
+/// A slot table's size, 1 to 128, and a set of its slots, which are numbered from 0.
 ///
 /// A slot is one flit cycle of the table's period. All routers and network interfaces share one
 /// slot count modulo the table size, after Æthereal (2005).
@@ -43,7 +41,7 @@ impl SlotSet {
     /// No slot of a table of this size.
     pub fn empty(size: u32) -> SlotSet
         requires some { 1 ≤ size }
-        requires within { size ≤ MAX_SIZE }
+        requires within { size ≤ max_slots }
         ensures { result ≡ record { size = size; slots = [] } }
     {
         SlotSet { size, mask: 0 }
@@ -52,12 +50,12 @@ impl SlotSet {
     /// All slots of a table of this size.
     pub fn full(size: u32) -> SlotSet
         requires some { 1 ≤ size }
-        requires within { size ≤ MAX_SIZE }
+        requires within { size ≤ max_slots }
         ensures { result ≡ all_slots size }
     {
         SlotSet {
             size,
-            mask: Mask::MAX >> (MAX_SIZE - size),
+            mask: Mask::MAX >> (Mask::BITS - size),
         }
     }
 
@@ -157,7 +155,7 @@ impl SlotSet {
         let wrapped = self.mask >> (self.size - 1 - by) >> 1;
         SlotSet {
             size: self.size,
-            mask: (onward | wrapped) & (Mask::MAX >> (MAX_SIZE - self.size)),
+            mask: (onward | wrapped) & (Mask::MAX >> (Mask::BITS - self.size)),
         }
     }
 
