@@ -5,8 +5,6 @@ mod choice;
 mod cyclic;
 mod members;
 mod slot_set;
-#[cfg(test)]
-mod tests;
 
 pub use choice::choose;
 pub use members::Members;

@@ -1,8 +1,8 @@
 // What no clause says: that the definition of the chosen set means what the rule says. It is
-// compared with worked rows, and with a plain enumeration of all subsets of small tables.
+// compared with a plain enumeration of all subsets of small tables, each as a mask of its slots.
 ghost use Rattle.std.specs.Prelude.{◌≡◌, ◌<◌, ◌≤◌};
 
-use crate::{SlotSet, choose};
+use aeth_slots::{SlotSet, choose};
 
 /// The set of those slots whose bit is in the mask.
 fn set_of(size: u32, mask: u32) -> SlotSet
@@ -84,25 +84,6 @@ fn first_of_all(size: u32, free: u32, need: u32, gap: u32) -> Option<u32>
         }
     }
     first
-}
-
-#[test]
-fn worked_rows(rt: HostRuntime) {
-    let rows = [
-        (8, 2, 4, 0b1111_1111, Some(0b0001_0001)),
-        (8, 1, 4, 0b0100_0110, Some(0b0100_0100)),
-        (8, 1, 4, 0b0000_0110, None),
-        (8, 1, 8, 0, None),
-        (1, 1, 1, 1, Some(1)),
-    ];
-    for (size, need, gap, free, slots) in rows {
-        let chosen = choose(&set_of(size, free), need, gap);
-        assert_eq!(rt;
-            chosen.map(|set| mask_of(&set)),
-            slots,
-            "{size} {need} {gap} {free}"
-        );
-    }
 }
 
 #[test]

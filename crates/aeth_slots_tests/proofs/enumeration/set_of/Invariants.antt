@@ -1,5 +1,5 @@
 use Rattle.std.proofs.Common.{◌≡◌}
-use Rattle.aeth_slots.proofs.tests.set_of.Given as goal
+use Rattle.aeth_slots_tests.proofs.enumeration.set_of.Given as goal
 
 -- A slot that is put in changes no size.
 abbrev pub invariant-loop-slot : goal.invariant-loop-slot
