@@ -1,15 +1,17 @@
 -- Laws of what components drive together.
-use Rattle.std.proofs.Common.{ℕ, zero, suc, ◌≡◌, refl, sym, ◌∙◌, inl, inr, arith}
+use Rattle.std.proofs.Common.{ℕ, zero, suc, ◌≡◌, ◌<◌, refl, sym, ◌∙◌, inl, inr, arith}
 use Rattle.std.proofs.Common.{Bool, true, false, Option, Some, None}
-use Rattle.std.proofs.Common.{List, [], ◌∷◌, get_or, map, slice_get}
+use Rattle.std.proofs.Common.{List, [], ◌∷◌, length, get_or, map, slice_get}
 use Rattle.std.specs.List.{All}
 use Rattle.std.proofs.lemmas.Bool.{cases_Bool}
 use Rattle.std.proofs.lemmas.List.Elements.{All-map}
 use Rattle.std.proofs.lemmas.Map.Keys.{any_passes_from_place}
 use Rattle.std.proofs.lemmas.Option.{same_Some}
 use Rattle.aeth_clocked.specs.declared.flit.Flit.{Flit}
-use Rattle.aeth_clocked.specs.Wires.{AreLinks}
+use Rattle.aeth_clocked.specs.Wires.{AreLinks, Drives}
 use Rattle.aeth_clocked.specs.Driven.{AreDisjoint, is_output, driven}
+use Rattle.aeth_clocked.specs.Stepped.{Meaning, stepped}
+use Rattle.aeth_clocked.proofs.WiresLemmas.{Drives-whole}
 
 module _ {P : Type 0} (outputs : P → ℕ → Bool) where
   -- Of disjoint components those behind the first are disjoint.
@@ -95,3 +97,16 @@ module _ {P : Type 0} (links : P → ℕ → Bool) (change : P → P)
   AreLinks-map parts count within =
       All-map (λ part. AreLinks (links part) count) change parts (λ i part below link is.
       within i part below link (sym (kept (get_or parts i part) link) ∙ is))
+
+-- Where each link is an output, components that have driven, were taken from and have latched are
+-- stepped.
+pub stepped-from_Drives : {P : Type 0} (meaning : Meaning P) (taken : List P → List P)
+    (parts : List P) (cycle : ℕ) (old new : List (Option Flit)) →
+    ((link : ℕ) → link < length old → is_output meaning.outputs parts link ≡ true) →
+    Drives (is_output meaning.outputs parts) (driven meaning.outputs meaning.emit parts cycle)
+    old new →
+    map (λ part. meaning.absorb part new) (taken (map (λ part. meaning.after part cycle) parts))
+    ≡ stepped meaning taken parts (length old) cycle
+stepped-from_Drives meaning taken parts cycle old new all drives =
+    rw (Drives-whole (is_output meaning.outputs parts)
+    (driven meaning.outputs meaning.emit parts cycle) old new all drives) refl

@@ -12,7 +12,7 @@ use Rattle.std.proofs.lemmas.List.Folds.{list_any_at}
 use Rattle.std.proofs.lemmas.Map.Views.{Contains-from_any}
 use Rattle.std.proofs.lemmas.Map.Keys.{IsDistinct-from_apart, IsDistinct-IsPermutation}
 use Rattle.std.proofs.lemmas.Option.{slice_get_within, get_or_from_slice_get}
-use Rattle.aeth_clocked.specs.Order.{IsOrder, rotation_of}
+use Rattle.aeth_clocked.specs.Order.{AreChosen, IsOrder, rotation_of}
 use Rattle.aeth_clocked.proofs.Permutations.{All-range, Contains-range, IsPermutation-from_all}
 
 module _ (numbers : List ℕ) (order : IsOrder numbers) where
@@ -35,14 +35,6 @@ module _ (numbers : List ℕ) (order : IsOrder numbers) where
       let n = length numbers in
       All-permutation (λ i. i < n) (range_with_len 0 n) numbers order.permutes (All-range n)
 
-  -- So the number at a place is below the length.
-  pub IsOrder-below-at : (place number : ℕ) → slice_get numbers place ≡ Some number →
-      number < length numbers
-  IsOrder-below-at place number at =
-      let within = slice_get_within numbers place number at in
-      let is = get_or_from_slice_get numbers place number number at in
-      omega (arith, IsOrder-below place number within)
-
   -- An order has no number twice.
   pub IsOrder-distinct : IsDistinct eqb numbers
   IsOrder-distinct =
@@ -53,6 +45,18 @@ module _ (numbers : List ℕ) (order : IsOrder numbers) where
       let low = get_or-range_with_len 0 (length numbers) i default in
       let high = get_or-range_with_len 0 (length numbers) j default in
       grind (arith, nat_tests)))
+
+  -- All components take a turn.
+  pub AreChosen-order : AreChosen (length numbers) numbers
+  AreChosen-order = record { distinct = IsOrder-distinct; below = IsOrder-below }
+
+-- Of chosen numbers the one at a place is below the count.
+pub AreChosen-below-at : (count : ℕ) (numbers : List ℕ) → AreChosen count numbers →
+    (place number : ℕ) → slice_get numbers place ≡ Some number → number < count
+AreChosen-below-at count numbers chosen place number at =
+    let within = slice_get_within numbers place number at in
+    let is = get_or_from_slice_get numbers place number number at in
+    omega (arith, chosen.below place number within)
 
 -- Where the test for each number below the length passes, there is an order.
 pub IsOrder-from_passes : (numbers : List ℕ) → length numbers < 2 ^ 32 →

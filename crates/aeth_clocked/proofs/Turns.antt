@@ -12,8 +12,8 @@ use Rattle.std.proofs.lemmas.Map.Keys.{apart_from_distinct}
 use Rattle.std.proofs.lemmas.Option.{slice_get-map, slice_get-get_or, get_or_from_slice_get}
 use Rattle.std.proofs.lemmas.Option.{slice_get_within, slice_get_past}
 use Rattle.aeth_base.proofs.Lists.{same_list, slice_get-slice_set_same, slice_get-slice_set_other}
-use Rattle.aeth_clocked.specs.Order.{IsOrder}
-use Rattle.aeth_clocked.proofs.OrderLemmas.{IsOrder-distinct, IsOrder-passes, IsOrder-below-at}
+use Rattle.aeth_clocked.specs.Order.{AreChosen, IsOrder}
+use Rattle.aeth_clocked.proofs.OrderLemmas.{AreChosen-below-at, IsOrder-passes}
 
 -- Whether a number is one of these.
 abbrev pub is_among : List ℕ → ℕ → Bool
@@ -33,9 +33,9 @@ take-turn order turn number at =
     ∙ ap (λ (last : ℕ). take turn order ++ last ∷ []) is
 
 -- A number is not among those before it.
-is_among-before : (order : List ℕ) (turn number : ℕ) → IsOrder order →
+is_among-before : (count : ℕ) (order : List ℕ) (turn number : ℕ) → AreChosen count order →
     slice_get order turn ≡ Some number → is_among (take turn order) number ≡ false
-is_among-before order turn number is_order at =
+is_among-before count order turn number chosen at =
     let before = take turn order in
     list_any_none (λ other. eqb other number) before (λ i default below.
     let size = length-take turn order in
@@ -43,8 +43,8 @@ is_among-before order turn number is_order at =
     let here = get_or_from_slice_get order turn number default at in
     let there : get_or before i default ≡ get_or order i default =
     get_or-take turn order i default (omega arith) in
-    let distinct = IsOrder-distinct order is_order in
-    rw (there, ← here) (apart_from_distinct eqb order i turn default distinct (omega arith) within))
+    rw (there, ← here)
+    (apart_from_distinct eqb order i turn default chosen.distinct (omega arith) within))
 
 -- An option that keeps its value.
 option_map-same : {P : Type 0} (part : Option P) → option_map (λ part. part) part ≡ part
@@ -95,35 +95,35 @@ module _ {P : Type 0} (change : P → P) where
             ];
       }
 
-  -- Turns in an order: those before one turn have been taken.
+  -- Turns of different components: those before one turn have been taken.
   module _ (order : List ℕ) (old now : List P) (turn : ℕ)
-      (is_order : IsOrder order) (size : length order ≡ length old)
       (changed : Changed (take turn order) old now) where
     -- The component whose turn comes is as it was.
-    pub Changed-next : (number : ℕ) (read : P) → slice_get order turn ≡ Some number →
-        slice_get old number ≡ Some (get_or now number read)
-    Changed-next number read at =
-        let below = IsOrder-below-at order is_order turn number at in
+    pub Changed-next : AreChosen (length old) order → (number : ℕ) (read : P) →
+        slice_get order turn ≡ Some number → slice_get old number ≡ Some (get_or now number read)
+    Changed-next chosen number read at =
+        let below = AreChosen-below-at (length old) order chosen turn number at in
         let same = changed.size in
         Changed-left (take turn order) old now number (get_or now number read) changed
-        (is_among-before order turn number is_order at)
+        (is_among-before (length old) order turn number chosen at)
         (slice_get-get_or now number read (omega arith))
 
     -- It takes its turn.
-    pub Changed-turn : (number : ℕ) (read part : P) → slice_get order turn ≡ Some number →
-        part ≡ change (get_or now number read) →
+    pub Changed-turn : AreChosen (length old) order → (number : ℕ) (read part : P) →
+        slice_get order turn ≡ Some number → part ≡ change (get_or now number read) →
         Changed (take (turn + 1) order) old (slice_set now number part)
-    Changed-turn number read part at is =
-        let below = IsOrder-below-at order is_order turn number at in
+    Changed-turn chosen number read part at is =
+        let below = AreChosen-below-at (length old) order chosen turn number at in
         let same = changed.size in
         rw (take-turn order turn number at, is)
         (Changed-more (take turn order) old now number (get_or now number read) changed
-        (is_among-before order turn number is_order at)
+        (is_among-before (length old) order turn number chosen at)
         (slice_get-get_or now number read (omega arith)))
 
-    -- After the last turn all have changed.
-    pub Changed-all : length order ≤ turn → now ≡ map change old
-    Changed-all over =
+    -- After the last turn of an order all have changed.
+    pub Changed-all : IsOrder order → length order ≡ length old → length order ≤ turn →
+        now ≡ map change old
+    Changed-all is_order size over =
         same_list now (map change old) (λ i.
         let mapped = slice_get-map change old i in
         elim (cases_lt i (length old)) [

@@ -1,9 +1,13 @@
 -- What components drive together. Each word takes what their trait says of one component: whether
 -- a link is an output, and what is emitted on it in a cycle.
+--
+--   AreDisjoint, is_output    what are outputs, and that no two components share one
+--   driven, driven_wires      the flit on a link, and the flits on all links
+--
 -- Simultaneous components over shared wires: this project's own.
 use Rattle.std.specs.Prelude.{◌≡◌, ℕ, Bool, true, if◌then◌else◌}
-use Rattle.std.specs.Prelude.{List, [], ◌∷◌, Option, Some, None, slice_get}
-use Rattle.std.specs.List.{list_any}
+use Rattle.std.specs.Prelude.{List, [], ◌∷◌, map, Option, Some, None, slice_get}
+use Rattle.std.specs.List.{list_any, range_with_len}
 use Rattle.aeth_clocked.specs.declared.flit.Flit.{Flit}
 
 -- Different components have no output in common.
@@ -24,3 +28,9 @@ abbrev pub driven : {P : Type 0} → (P → ℕ → Bool) → (P → ℕ → ℕ
 driven outputs emit [] cycle link = None
 driven outputs emit (part ∷ parts) cycle link =
     if outputs part link then emit part cycle link else driven outputs emit parts cycle link
+
+-- So many links, with what the components drive on each.
+abbrev pub driven_wires : {P : Type 0} → (P → ℕ → Bool) → (P → ℕ → ℕ → Option Flit) → List P →
+    ℕ → ℕ → List (Option Flit)
+driven_wires outputs emit parts links cycle =
+    map (driven outputs emit parts cycle) (range_with_len 0 links)

@@ -1,3 +1,4 @@
 pub mod Driven
 pub mod Order
+pub mod Stepped
 pub mod Wires

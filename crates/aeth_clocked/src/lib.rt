@@ -12,6 +12,3 @@ pub use cycle::{drive_all, latch_all};
 pub use flit::Flit;
 pub use order::Order;
 pub use wires::Wires;
-
-#[cfg(test)]
-mod tests;

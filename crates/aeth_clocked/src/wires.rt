@@ -8,7 +8,10 @@ use aeth_base::{LinkId, NoMemory};
 use std::alloc::Global;
 use std::marker::Model;
 
-/// The wires of one cycle: a flit or none on each link, seen as a list by link numbers.
+/// The wires of one cycle: a flit or none on each, seen as a list by link numbers.
+///
+/// The first wire of a link has the link's number. The further wires of links with a delay are
+/// numbered behind all links, and are links here as those are.
 #[derive(Debug, Drop)]
 pub struct Wires {
     links: Vec<Option<Flit>>,

@@ -1,4 +1,5 @@
 use Rattle.std.proofs.Common.{get_or, arith}
+use Rattle.aeth_clocked.proofs.OrderLemmas.{AreChosen-order}
 use Rattle.aeth_clocked.proofs.Turns.{Changed-next, Changed-turn, Changed-all}
 use Rattle.aeth_clocked.proofs.DrivenTurns.{Drives-turn, Drives-all}
 use Rattle.aeth_clocked.proofs.cycle.drive_all.Goals as goal
@@ -12,19 +13,18 @@ loop-turn-preserved g c =
     let old = c.args.parts.now in
     let now = c.loop-turn.parts in
     let turn = c.loop-turn.turn in
-    let is_order = c.len-turn-end.ensures.order in
-    let size = c.requires.order in
+    let chosen = rw c.requires.order at (AreChosen-order order c.len-turn-end.ensures.order) in
     let changed = c.loop-turn.invariant.parts in
     let number = c.at.result in
     let at = c.at.ensures.number in
     let read = c.index-parts-at.result in
     record {
-      parts = Changed-turn change order old now turn is_order size changed number read
+      parts = Changed-turn change order old now turn changed chosen number read
           c.drive.new.self at c.drive.ensures.after;
       wires = Drives-turn C.outputs old C.emit c.args.cycle order turn c.args.wires.now
           c.loop-turn.wires c.loop-turn.invariant.wires number (get_or now number read)
           c.drive.new.wires c.requires.disjoint at
-          (Changed-next change order old now turn is_order size changed number read at)
+          (Changed-next change order old now turn changed chosen number read at)
           c.drive.ensures.wires;
     }
 
@@ -43,5 +43,5 @@ returns-clause-parts g c =
     let C = g.C.Clocked in
     let length_is = c.len-turn-end.ensures.length in
     Changed-all (λ part. C.after part c.args.cycle) c.args.order.now c.args.parts.now
-    c.loop-turn.parts c.loop-turn.turn c.len-turn-end.ensures.order c.requires.order
-    c.loop-turn.invariant.parts (omega arith)
+    c.loop-turn.parts c.loop-turn.turn c.loop-turn.invariant.parts
+    c.len-turn-end.ensures.order c.requires.order (omega arith)
