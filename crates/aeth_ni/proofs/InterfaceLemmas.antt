@@ -6,9 +6,9 @@ use Rattle.std.proofs.lemmas.Grind.{get_or-set_at}
 use Rattle.aeth_header.proofs.HeaderLemmas.{header_of-word_of}
 use Rattle.aeth_ni.specs.declared.queue.Route.{Route}
 use Rattle.aeth_ni.specs.Queue.{QueueState, IsRoute, empty_queue}
-use Rattle.aeth_ni.specs.Queue.{next_header, next_words, next_flit}
-use Rattle.aeth_ni.specs.Interface.{queue_at, with_queue, emitted_by, sent_by}
-use Rattle.aeth_ni.specs.Interface.{arrival_of}
+use Rattle.aeth_ni.specs.Sending.{next_header, next_words, next_flit}
+use Rattle.aeth_ni.specs.Interface.{queue_at, with_queue}
+use Rattle.aeth_ni.specs.Component.{arrival_of, emitted_by, sent_by}
 use Rattle.aeth_ni.proofs.QueueLemmas.{IsPackable-next_header, words_of-next_flit, sent-none}
 
 -- A change of one queue keeps the number of queues.

@@ -1,3 +1,6 @@
+mod Constants
+pub mod EntryLemmas
 pub mod InterfaceLemmas
 pub mod ProgramLemmas
 pub mod QueueLemmas
+pub mod WriteLemmas

@@ -4,14 +4,14 @@ use Rattle.std.proofs.Common.{List, [], ◌∷◌, ◌++◌, length, take, Optio
 use Rattle.std.specs.Prelude.{slice_index, option_map, ◌-◌}
 use Rattle.aeth_clocked.specs.declared.flit.Flit.{Flit}
 use Rattle.aeth_header.specs.Header.{IsPackable}
-use Rattle.aeth_base.specs.declared.limits.TheConstants.{WORDS_PER_FLIT}
+use Rattle.aeth_base.specs.Limits.{words_per_flit}
 use Rattle.aeth_ni.specs.declared.queue.Route.{Route}
-use Rattle.aeth_ni.specs.Queue.{QueueState, IsRoute, words_sent, sending, emitted}
-use Rattle.aeth_ni.specs.Queue.{sent, behind_flit, next_header, next_words, next_flit, words_of}
-use Rattle.aeth_ni.specs.Queue.{landed}
+use Rattle.aeth_ni.specs.Queue.{QueueState, IsRoute, landed, words_of}
+use Rattle.aeth_ni.specs.Sending.{words_sent, sending, emitted, sent, behind_flit}
+use Rattle.aeth_ni.specs.Sending.{next_header, next_words, next_flit}
 
 -- The next flit takes no more words than a flit carries, than wait, and than the counter allows.
-pub words_sent-flit : (queue : QueueState) → words_sent queue ≤ WORDS_PER_FLIT
+pub words_sent-flit : (queue : QueueState) → words_sent queue ≤ words_per_flit
 words_sent-flit queue = omega arith
 
 pub words_sent-waiting : (queue : QueueState) → words_sent queue ≤ length queue.waiting
@@ -27,7 +27,7 @@ IsPackable-next_header queue route fits =
     record { route = fits.ports; queue = fits.remote; credits = omega arith; count = omega arith }
 
 -- The first two words, of two that are at hand.
-two_words : (count : ℕ) (words : List ℕ) → count ≤ 2 → count ≤ length words →
+two_words : (count : ℕ) (words : List ℕ) → count ≤ words_per_flit → count ≤ length words →
     take count (slice_index (take count words) 0 ∷ slice_index (take count words) 1 ∷ [])
     ≡ take count words
 two_words zero words few enough = refl

@@ -1,3 +1,9 @@
+pub mod Agreement
+pub mod Component
+pub mod Entries
 pub mod Interface
+pub mod Limits
 pub mod Program
 pub mod Queue
+pub mod Sending
+pub mod Writes

@@ -5,26 +5,19 @@
 --   offered, taken, finished       what `offer`, `take` and `finish` make of a state
 --   stopped                        what `halt` makes of it
 --   with_route, without_route      what the writes of a route make of it
---   words_sent, credits_sent       how many words and credits a flit takes
---   next_header, next_words        what the next flit has
---   next_flit, behind_flit         that flit, and the state behind it
---   sending, emitted, sent         the route, the flit and the state in a slot of the queue's own
---   landed                         the state once words and credits have come
+--   words_of, landed               what a flit has, and the state once that has come
 --
 -- Source and receive queues, and credits that ride in headers: after Æthereal (2005). The sizes
 -- are this project's own.
-use Rattle.std.specs.Prelude.{◌≡◌, ◌<◌, ℕ, ◌+◌, ◌-◌, ◌^◌, min, ◌==◌, ◌&&◌, ◌||◌}
+use Rattle.std.specs.Prelude.{◌≡◌, ◌<◌, ℕ, ◌+◌, ◌^◌, min, ◌==◌}
 use Rattle.std.specs.Prelude.{Bool, true, false, if◌then◌else◌, Option, Some, None, IfSome}
-use Rattle.std.specs.Prelude.{option_map, is_some}
-use Rattle.std.specs.Prelude.{List, [], ◌∷◌, ◌++◌, length, take, drop, slice_index}
+use Rattle.std.specs.Prelude.{List, [], ◌∷◌, ◌++◌, length, take, drop}
 use Rattle.circular_buffer.specs.Buffer.{keep_last}
 use Rattle.aeth_clocked.specs.declared.flit.Flit.{Flit}
-use Rattle.aeth_header.specs.Header.{word_of}
 use Rattle.aeth_header.specs.declared.header.Header.{Header}
-use Rattle.aeth_header.specs.declared.header.TheConstants.{ROUTE_BITS, QUEUE_BITS}
-use Rattle.aeth_base.specs.declared.limits.TheConstants.{CREDITS_PER_FLIT, WORDS_PER_FLIT}
+use Rattle.aeth_header.specs.Layout.{route_bits, queue_bits}
+use Rattle.aeth_ni.specs.Limits.{waiting_words, max_count}
 use Rattle.aeth_ni.specs.declared.queue.Route.{Route}
-use Rattle.aeth_ni.specs.declared.queue.TheConstants.{SOURCE_WORDS}
 
 -- What one queue number holds: the words that wait to be sent, the words that were received and
 -- not taken, the room for these, the words that the other end has room for, and the credits that
@@ -40,12 +33,12 @@ pub record QueueState : Type 0 where
 
 -- A route's ports and its remote queue fit their fields in a header.
 pub record IsRoute (route : Route) : Type 0 where
-  pub ports : route.ports < 2 ^ ROUTE_BITS
-  pub remote : route.remote < 2 ^ QUEUE_BITS
+  pub ports : route.ports < 2 ^ route_bits
+  pub remote : route.remote < 2 ^ queue_bits
 
 -- The size of a source queue, and that a route fits a header.
 pub record IsQueue (size : ℕ) (route : Option Route) : Type 0 where
-  pub of_size : size ≡ SOURCE_WORDS
+  pub of_size : size ≡ waiting_words
   pub fits : IfSome route IsRoute
 
 -- No route, no word and no credit.
@@ -60,9 +53,9 @@ empty_queue room = record {
   halted = false;
 }
 
--- A count of credits, which stops at the greatest number of 32 bits.
+-- A count of credits, which stops at the greatest.
 abbrev pub capped : ℕ → ℕ
-capped count = min count (2 ^ 32 - 1)
+capped count = min count max_count
 
 -- One word more waits.
 abbrev pub offered : ℕ → QueueState → QueueState
@@ -90,60 +83,6 @@ with_route route credits queue =
 -- Both queues, the counter and the owed credits are empty.
 abbrev pub finished : QueueState → QueueState
 finished queue = record queue { waiting = []; received = []; counter = 0; owed = 0 }
-
--- How many words the next flit takes: no more than a flit carries, than wait, and than the other
--- end has room for.
-abbrev pub words_sent : QueueState → ℕ
-words_sent queue = min (min (length queue.waiting) WORDS_PER_FLIT) queue.counter
-
--- How many credits it takes: no more than fit its header.
-abbrev pub credits_sent : QueueState → ℕ
-credits_sent queue = min queue.owed CREDITS_PER_FLIT
-
--- Whether there is nothing to send.
-abbrev pub is_idle : QueueState → Bool
-is_idle queue = (words_sent queue == 0) && (credits_sent queue == 0)
-
--- The header of the next flit, where it takes this route.
-abbrev pub next_header : QueueState → Route → Header
-next_header queue route = record {
-  route = route.ports;
-  queue = route.remote;
-  credits = credits_sent queue;
-  count = words_sent queue;
-}
-
--- The words of the next flit.
-abbrev pub next_words : QueueState → List ℕ
-next_words queue = take (words_sent queue) queue.waiting
-
--- The next flit, where it takes this route; an absent word is 0.
-abbrev pub next_flit : QueueState → Route → Flit
-next_flit queue route = record {
-  header = word_of (next_header queue route);
-  first = slice_index (next_words queue) 0;
-  second = slice_index (next_words queue) 1;
-}
-
--- The route of the flit that is sent, if one is.
-abbrev pub sending : QueueState → Option Route
-sending queue = if queue.halted || is_idle queue then None else queue.route
-
--- The flit that is sent in a slot of the queue's own.
-abbrev pub emitted : QueueState → Option Flit
-emitted queue = option_map (next_flit queue) (sending queue)
-
--- What is left behind the next flit.
-abbrev pub behind_flit : QueueState → QueueState
-behind_flit queue = record queue {
-  waiting = drop (words_sent queue) queue.waiting;
-  counter = queue.counter - words_sent queue;
-  owed = queue.owed - credits_sent queue;
-}
-
--- What is left behind a slot of the queue's own.
-abbrev pub sent : QueueState → QueueState
-sent queue = if is_some (sending queue) then behind_flit queue else queue
 
 -- The words of a flit with this header.
 abbrev pub words_of : Header → Flit → List ℕ

@@ -1,19 +1,18 @@
 //! A network interface: a slot table and 32 queues between two links.
 
-ghost use Rattle.std.specs.Prelude.{◌≡◌, ◌<◌, ◌↔◌, length, slice_get, IfOk, IfSome, map};
-ghost use Rattle.std.specs.Prelude.{◌==◌, Option, None, unwrap_or};
+ghost use Rattle.std.specs.Prelude.{◌≡◌, ◌<◌, ◌≤◌, ◌↔◌, length, slice_get, IfOk, IfSome, map};
 ghost use Rattle.std.specs.Bool.{IsFalse, OnTrue, OnFalse};
-ghost use Rattle.std.proofs.Common.{ap, refl};
+ghost use Rattle.std.proofs.Common.{refl};
+ghost use Rattle.aeth_ni.specs.Limits.{queues_of_interface, waiting_words};
 ghost use Rattle.aeth_ni.specs.Queue.{empty_queue, offered, taken, finished, stopped};
 ghost use Rattle.aeth_ni.specs.Interface.{IsInterface, queue_at, changed, new_interface};
-ghost use Rattle.aeth_ni.specs.Interface.{entry_at, emitted_by, sent_by, arrival_of, landed_at};
-ghost use Rattle.aeth_ni.specs.Interface.{last_of, absorbed, addressee, IsWritable};
-ghost use Rattle.aeth_clocked.specs.Wires.{flit_on};
-ghost use Rattle.aeth_ni.specs.Interface.{written};
-ghost use Rattle.std.proofs.lemmas.Bool.{eq-eqb};
-ghost use Rattle.aeth_clocked.specs.declared.flit.Flit.{Flit};
+ghost use Rattle.aeth_ni.specs.Component.{emitted_by, sent_by, arrival_of, landed_at, last_of};
+ghost use Rattle.aeth_ni.specs.Component.{interface_outputs, interface_inputs, interface_emit};
+ghost use Rattle.aeth_ni.specs.Component.{interface_after, interface_absorb};
+ghost use Rattle.aeth_ni.specs.Agreement.{interface_absorb-agrees};
+ghost use Rattle.aeth_ni.specs.Writes.{addressee, IsWritable, written};
 
-use crate::queue::{Queue, Route, SOURCE_WORDS};
+use crate::queue::{Queue, Route, WAITING_WORDS};
 use crate::write::Write;
 use aeth_base::{LinkId, NiId, NoMemory};
 use aeth_clocked::{Clocked, Flit, Wires};
@@ -22,7 +21,7 @@ use std::alloc::Global;
 use std::marker::Model;
 
 /// The number of queues of a network interface.
-pub const QUEUES: usize = 32;
+pub const QUEUES_OF_INTERFACE: usize = 32;
 
 /// A network interface, after Æthereal (2005).
 ///
@@ -59,7 +58,8 @@ impl Ni {
     /// An interface with this number of slots, all without an entry, and 32 queues without route,
     /// word or credit. `rooms` has the words that each receive queue has room for.
     ///
-    /// Later calls take no memory.
+    /// It sends on the wire `leaving`, which is its outgoing link, and receives on the wire
+    /// `entering`, which is the last wire of its incoming link. Later calls take no memory.
     pub fn new(
         alloc: Global,
         ni: NiId,
@@ -69,7 +69,7 @@ impl Ni {
         rooms: &[u32],
     ) -> Result<Ni, NoMemory>
         requires slots { 0 < slots }
-        requires rooms { length rooms.now ≡ QUEUES }
+        requires rooms { length rooms.now ≡ queues_of_interface }
         ensures { IfOk result (λ made. made ≡ new_interface ni leaving entering slots rooms.now) }
     {
         let entries = vec![in alloc; None; slots as usize]?;
@@ -87,11 +87,13 @@ impl Ni {
     /// Puts a word behind those that wait in a source queue. False, and nothing changes, exactly
     /// where eight words wait there.
     pub fn offer(&mut self, queue: u8, word: u32) -> bool
-        requires { queue < QUEUES }
+        requires { queue < queues_of_interface }
         ensures full { IsFalse result
-            ↔ (length (queue_at self.old.queues queue).waiting ≡ SOURCE_WORDS) }
+            ↔ (length (queue_at self.old.queues queue).waiting ≡ waiting_words) }
         ensures offered { OnTrue result (self.new ≡ changed queue (offered word) self.old) }
         ensures kept { OnFalse result (self.new ≡ self.old) }
+        ensures few { length (queue_at self.old.queues queue).waiting ≤ waiting_words }
+        ensures interface { IsInterface self.old.entries self.old.queues }
     {
         let queue = &mut self.queues[queue as usize];
         queue.offer(word)
@@ -100,9 +102,10 @@ impl Ni {
     /// Takes the oldest word out of a receive queue, for which one more credit is owed. `None`, and
     /// nothing changes, exactly where it holds none.
     pub fn take(&mut self, queue: u8) -> Option<u32>
-        requires { queue < QUEUES }
+        requires { queue < queues_of_interface }
         ensures word { result ≡ slice_get (queue_at self.old.queues queue).received 0 }
         ensures taken { self.new ≡ changed queue taken self.old }
+        ensures interface { IsInterface self.old.entries self.old.queues }
     {
         let queue = &mut self.queues[queue as usize];
         queue.take()
@@ -110,7 +113,7 @@ impl Ni {
 
     /// Stops the injection of a queue until its next `SetRoute`.
     pub fn halt(&mut self, queue: u8)
-        requires { queue < QUEUES }
+        requires { queue < queues_of_interface }
         ensures { self.new ≡ changed queue stopped self.old }
     {
         let queue = &mut self.queues[queue as usize];
@@ -119,7 +122,7 @@ impl Ni {
 
     /// Empties a source queue and its receive queue, its counter and the credits that it is owed.
     pub fn finish(&mut self, queue: u8)
-        requires { queue < QUEUES }
+        requires { queue < queues_of_interface }
         ensures { self.new ≡ changed queue finished self.old }
     {
         let queue = &mut self.queues[queue as usize];
@@ -169,16 +172,15 @@ impl Ni {
 }
 
 impl Clocked for Ni {
-    ghost outputs = { λ ni link. ni.leaving.0 == link };
+    ghost outputs = { interface_outputs };
 
-    ghost inputs = { λ ni link. ni.entering.0 == link };
+    ghost inputs = { interface_inputs };
 
-    ghost emit = { λ ni cycle link. emitted_by (entry_at ni.entries cycle) ni.queues };
+    ghost emit = { interface_emit };
 
-    ghost after = { λ ni cycle.
-        record ni { queues = sent_by (entry_at ni.entries cycle) ni.queues } };
+    ghost after = { interface_after };
 
-    ghost absorb = { λ ni wires. absorbed (arrival_of (flit_on wires ni.entering.0)) ni };
+    ghost absorb = { interface_absorb };
 
     fn drive(&mut self, cycle: u64, wires: &mut Wires) {
         let slot = cycle % self.entries.len() as u64;
@@ -200,9 +202,7 @@ impl Clocked for Ni {
 
     ghost inputs_absorb = { λ ni wires link. refl };
 
-    ghost absorb_agrees = { λ ni some other agree.
-        ap (λ (flit : Option (Option Flit)). absorbed (arrival_of (unwrap_or flit None)) ni)
-        (agree ni.entering.0 (eq-eqb ni.entering.0 ni.entering.0 refl)) };
+    ghost absorb_agrees = { interface_absorb-agrees };
 }
 
 /// A queue for each room, all empty.
@@ -228,7 +228,7 @@ fn emit_by(queues: &mut [Queue], entry: Option<u8>) -> Option<Flit>
 
 /// Lands what a link brings, and gives the queue and the word count of it.
 fn land(queues: &mut [Queue], flit: Option<Flit>) -> Option<(u8, u8)>
-    requires { length queues.old ≡ QUEUES }
+    requires { length queues.old ≡ queues_of_interface }
     ensures last { result ≡ last_of (arrival_of flit) }
     ensures queues { queues.new ≡ landed_at (arrival_of flit) queues.old }
 {

@@ -2,13 +2,12 @@
 #![tactic(auto)]
 
 mod interface;
+pub mod laws;
 mod queue;
 mod row;
-#[cfg(test)]
-mod tests;
 mod write;
 
-pub use interface::{Ni, QUEUES};
-pub use queue::SOURCE_WORDS;
+pub use interface::{Ni, QUEUES_OF_INTERFACE};
+pub use queue::WAITING_WORDS;
 pub use row::ChannelRow;
 pub use write::Write;

@@ -4,9 +4,11 @@ ghost use Rattle.std.specs.Prelude.{◌≡◌, ◌<◌, ◌≤◌, ◌↔◌, le
 ghost use Rattle.std.specs.Prelude.{None, take, drop};
 ghost use Rattle.std.specs.Bool.{IsFalse, OnTrue, OnFalse};
 ghost use Rattle.circular_buffer.specs.Buffer.{buffer};
+ghost use Rattle.aeth_base.specs.Limits.{words_per_flit};
+ghost use Rattle.aeth_ni.specs.Limits.{waiting_words};
 ghost use Rattle.aeth_ni.specs.Queue.{IsRoute, empty_queue, offered, taken, finished};
-ghost use Rattle.aeth_ni.specs.Queue.{emitted, sent, landed, words_of};
-ghost use Rattle.aeth_ni.specs.Queue.{stopped, without_route, with_route};
+ghost use Rattle.aeth_ni.specs.Queue.{landed, words_of, stopped, without_route, with_route};
+ghost use Rattle.aeth_ni.specs.Sending.{emitted, sent};
 
 use aeth_base::{CREDITS_PER_FLIT, NoMemory, WORDS_PER_FLIT};
 use aeth_clocked::Flit;
@@ -16,7 +18,7 @@ use std::alloc::Global;
 use std::marker::Model;
 
 /// The most words that wait in a source queue.
-pub const SOURCE_WORDS: usize = 8;
+pub const WAITING_WORDS: usize = 8;
 
 /// Where the flits of a queue go.
 #[derive(Clone, Copy, Debug, PartialEq, Eq)]
@@ -40,7 +42,6 @@ pub(crate) struct Queue {
 
 impl Model for Queue {
     ghost use Rattle.std.specs.Prelude.{◌≡◌, IfSome};
-    ghost use Rattle.aeth_ni.specs.declared.queue.TheConstants.{SOURCE_WORDS};
     ghost use Rattle.aeth_ni.specs.Queue.{QueueState, IsRoute, IsQueue};
 
     ghost Value = { QueueState };
@@ -63,7 +64,7 @@ impl Queue {
     pub(crate) fn new(alloc: Global, room: u32) -> Result<Queue, NoMemory>
         ensures { IfOk result (λ queue. queue ≡ empty_queue room) }
     {
-        let waiting = HeapCircularBuffer::with_capacity(alloc, SOURCE_WORDS)?;
+        let waiting = HeapCircularBuffer::with_capacity(alloc, WAITING_WORDS)?;
         let received = HeapCircularBuffer::with_capacity(alloc, room as usize)?;
         Ok(Queue {
             route: None,
@@ -77,11 +78,12 @@ impl Queue {
 
     /// Puts a word behind those that wait, where there is room.
     pub(crate) fn offer(&mut self, word: u32) -> bool
-        ensures full { IsFalse result ↔ (length self.old.waiting ≡ SOURCE_WORDS) }
+        ensures full { IsFalse result ↔ (length self.old.waiting ≡ waiting_words) }
         ensures offered { OnTrue result (self.new ≡ offered word self.old) }
         ensures kept { OnFalse result (self.new ≡ self.old) }
+        ensures few { length self.old.waiting ≤ waiting_words }
     {
-        if self.waiting.len() == SOURCE_WORDS {
+        if self.waiting.len() == WAITING_WORDS {
             return false;
         }
         self.waiting.push_back(word);
@@ -166,7 +168,7 @@ impl Queue {
     /// Puts the words of a flit behind those that were received, of which the newest stay, and
     /// adds its credits to the counter.
     pub(crate) fn land(&mut self, header: &Header, flit: &Flit)
-        requires { header.now.count ≤ WORDS_PER_FLIT }
+        requires { header.now.count ≤ words_per_flit }
         ensures { self.new ≡ landed header.now.credits (words_of header.now flit.now) self.old }
     {
         let words = [flit.first, flit.second];
@@ -178,7 +180,7 @@ impl Queue {
 
 /// Takes out as many words as a flit has, and gives 0 for each that it hasn't.
 fn take_words(waiting: &mut HeapCircularBuffer<u32>, count: u32) -> (u32, u32)
-    requires flit { count ≤ WORDS_PER_FLIT }
+    requires flit { count ≤ words_per_flit }
     requires waiting { count ≤ length waiting.old.items }
     ensures first { result.0 ≡ slice_index (take count waiting.old.items) 0 }
     ensures second { result.1 ≡ slice_index (take count waiting.old.items) 1 }

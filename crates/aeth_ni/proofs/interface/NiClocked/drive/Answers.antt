@@ -1,7 +1,8 @@
 use Rattle.std.proofs.Common.{◌≡◌, ◌%◌, ◌∙◌, ap, length, None, refl, arith}
 use Rattle.std.proofs.lemmas.List.{get_or_default}
 use Rattle.aeth_clocked.proofs.WiresLemmas.{AreLinks-one, Drives-slice_set}
-use Rattle.aeth_ni.specs.Interface.{InterfaceState, entry_at, emitted_by}
+use Rattle.aeth_ni.specs.Component.{entry_at, emitted_by}
+use Rattle.aeth_ni.specs.Interface.{InterfaceState}
 use Rattle.aeth_ni.proofs.interface.NiClocked.drive.Goals as goal
 
 -- The leaving link is a link.
