@@ -1,0 +1,7 @@
+//! Tests of components: wires and orders, network interfaces, routers.
+#![tactic(auto)]
+
+#[cfg(test)]
+mod clocked;
+#[cfg(test)]
+mod interface;
