@@ -1,18 +1,20 @@
 -- Laws of rules that are judged one after the other.
-use Rattle.std.proofs.Common.{◌≡◌, Option, Some, None, refl}
+use Rattle.std.proofs.Common.{◌≡◌, ℕ, List, Option, Some, None, refl}
 use Rattle.std.specs.Prelude.{Result, Ok}
+use Rattle.aeth_base.specs.Faults.{BrokenRule}
 use Rattle.aeth_base.specs.declared.shown.Broken.{Broken}
-use Rattle.aeth_document.specs.Chain.{◌>>=◌, refused}
+use Rattle.aeth_document.specs.Chain.{◌>>=◌}
+use Rattle.aeth_document.specs.Walks.{judged}
 
 -- A rule that is kept has a walk that finds nothing.
-pub refused-none : {E : Type 0} (rule : Broken → E) (found : Option Broken) (kept : Unit {0})
-    → refused rule found ≡ Ok kept → found ≡ None
-refused-none rule None kept is = refl
-refused-none rule (Some broken) kept is = absurd (cc is)
+pub judged-none : (rule : ℕ) (name : List ℕ) (found : Option Broken) (kept : Unit {0})
+    → judged rule name found ≡ Ok kept → found ≡ None
+judged-none rule name None kept is = refl
+judged-none rule name (Some broken) kept is = absurd (cc is)
 
 -- Where a rule and what comes after it give a value, the rule is kept, and the rest gives it.
-pub refused-kept : {E X : Type 0} (rule : Broken → E) (found : Option Broken) (next : Result X E)
-    (value : X) → (refused rule found >>= (λ _. next)) ≡ Ok value
+pub judged-kept : {X : Type 0} (rule : ℕ) (name : List ℕ) (found : Option Broken)
+    (next : Result X BrokenRule) (value : X) → (judged rule name found >>= (λ _. next)) ≡ Ok value
     → (found ≡ None) × (next ≡ Ok value)
-refused-kept rule None next value is = (refl, is)
-refused-kept rule (Some broken) next value is = absurd (cc is)
+judged-kept rule name None next value is = (refl, is)
+judged-kept rule name (Some broken) next value is = absurd (cc is)

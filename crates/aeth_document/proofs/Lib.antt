@@ -1,5 +1,6 @@
 mod Documents
-pub mod Tables
+pub mod TableLemmas
+mod TextLemmas
 pub mod Least
 pub mod WalkLemmas
 pub mod ChainLemmas

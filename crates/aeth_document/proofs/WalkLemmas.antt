@@ -1,44 +1,80 @@
 -- Laws of walks.
 use Rattle.std.proofs.Common.{append_assoc, ◌≡◌, ◌≤◌, ◌<◌, ◌+◌, ◌++◌, ◌∙◌, ℕ, zero, suc, ℤ}
-use Rattle.std.proofs.Common.{pos, negsuc, true, List, [], ◌∷◌, length, map, Option, Some, None}
-use Rattle.std.proofs.Common.{refl, sym, ap, inl, inr, arith}
+use Rattle.std.proofs.Common.{pos, negsuc, true, false, List, [], ◌∷◌, length, map, Option, Some}
+use Rattle.std.proofs.Common.{None, fold, is_none, refl, sym, ap, inl, inr, arith}
 use Rattle.std.specs.Prelude.{position}
-use Rattle.std.specs.List.{AllByRecursion, filter_map, range_with_len}
+use Rattle.std.specs.List.{AllByRecursion, filter_map, list_any, range_with_len}
 use Rattle.std.specs.Str.{bytes_eq}
-use Rattle.std.specs.Option.{option_or}
 use Rattle.std.proofs.lemmas.Bool.{cases_Bool}
 use Rattle.std.proofs.lemmas.List.{append-nil}
 use Rattle.std.proofs.lemmas.List.Quantifiers.{position-Some}
+use Rattle.std.proofs.lemmas.List.Sums.{fold-append}
 use Rattle.std.proofs.lemmas.Option.{option_and_then_some}
+use Rattle.indexmap.specs.IndexSet.{insert_key}
 use Rattle.aeth_base.specs.Name.{is_name, name_of}
 use Rattle.aeth_base.specs.declared.shown.Broken.{Broken}
 use Rattle.aeth_base.specs.declared.shown.Shown.{Shown}
-use Rattle.aeth_document.specs.Walks.{first_broken, no_name, outside, place_of, repeated, repeats}
-use Rattle.aeth_document.specs.Walks.{size_of}
+use Rattle.aeth_document.specs.Limits.{last_place}
+use Rattle.aeth_document.specs.Walks.{first_broken, found_by, next_place, no_name, outside}
+use Rattle.aeth_document.specs.Walks.{place_of, repeated, repeats, size_of, step, walked}
+use Rattle.aeth_document.specs.declared.walk.Walk.{Walk}
+use Rattle.aeth_document.specs.declared.walk.Walk.TheVariants.{At, Stopped}
 
--- A walk over two lists finds what the walk over the first finds, and else goes on with the second.
-pub first_broken-append : (place : ℕ) (xs ys : List (Option Shown))
-    → first_broken place (xs ++ ys)
-    ≡ option_or (first_broken place xs) (first_broken (place + length xs) ys)
-first_broken-append place [] ys =
-    let same : place + 0 ≡ place = omega arith in
-    rw same refl
-first_broken-append place (None ∷ xs) ys =
-    let same : place + suc (length xs) ≡ (place + 1) + length xs = omega arith in
-    rw same (first_broken-append (place + 1) xs ys)
-first_broken-append place (Some value ∷ xs) ys = refl
+-- Places never pass the last one.
+pub place_within : (place : ℕ) → next_place place ≤ last_place
+place_within place = omega arith
 
--- What the walk over the first list finds, the walk over both finds.
-pub first_broken-earlier : (place : ℕ) (xs ys : List (Option Shown)) (broken : Broken)
-    → first_broken place xs ≡ Some broken → first_broken place (xs ++ ys) ≡ Some broken
-first_broken-earlier place xs ys broken found =
-    rw (first_broken-append place xs ys, found) refl
+-- A walk over one list and then another is the walk over the two in one.
+pub walked-append : (walk : Walk) (xs ys : List (Option Shown))
+    → walked (walked walk xs) ys ≡ walked walk (xs ++ ys)
+unfolding walked
+walked-append walk xs ys = sym (fold-append step walk xs ys)
 
--- Where the walk over the first list finds nothing, it goes on with the second.
-pub first_broken-later : (place : ℕ) (xs ys : List (Option Shown))
-    → first_broken place xs ≡ None
-    → first_broken place (xs ++ ys) ≡ first_broken (place + length xs) ys
-first_broken-later place xs ys none = rw (first_broken-append place xs ys, none) refl
+-- A walk that has stopped stays where it is.
+pub walked-stopped : (broken : Broken) (checks : List (Option Shown))
+    → walked (Stopped broken) checks ≡ Stopped broken
+unfolding walked
+walked-stopped broken [] = refl
+walked-stopped broken (check ∷ checks) = walked-stopped broken checks
+
+-- A walk after no more checks is as it was.
+pub walked-nil : (walk : Walk) → walked walk [] ≡ walk
+unfolding walked
+walked-nil walk = refl
+
+-- A walk goes on after a check only where it isn't broken.
+pub goes_on-none : (walk : Walk) (check : Option Shown)
+    → is_none (found_by (walked walk (check ∷ []))) ≡ true → check ≡ None
+unfolding walked
+goes_on-none walk None going = refl
+goes_on-none (At place) (Some value) going = absurd (cc going)
+goes_on-none (Stopped broken) (Some value) going = absurd (cc going)
+
+-- Where a walk has stopped after a check, further checks don't change it.
+pub walked-ended : (walk : Walk) (check : Option Shown) (checks : List (Option Shown))
+    → is_none (found_by (walked walk (check ∷ []))) ≡ false
+    → walked walk (check ∷ []) ≡ walked walk (check ∷ checks)
+unfolding walked
+walked-ended (At place) None checks ended = absurd (cc ended)
+walked-ended (At place) (Some value) checks ended =
+    sym (walked-stopped (record { place = place; value = value }) checks)
+walked-ended (Stopped broken) check checks ended = sym (walked-stopped broken checks)
+
+-- A walk finds the first broken check.
+pub found_by-walked : (place : ℕ) (checks : List (Option Shown))
+    → found_by (walked (At place) checks) ≡ first_broken place checks
+unfolding walked
+found_by-walked place [] = refl
+found_by-walked place (None ∷ checks) = found_by-walked (next_place place) checks
+found_by-walked place (Some value ∷ checks) =
+    ap found_by (walked-stopped (record { place = place; value = value }) checks)
+
+-- A walk that finds nothing in two lists finds nothing in the first.
+pub first_broken-before : (place : ℕ) (xs ys : List (Option Shown))
+    → first_broken place (xs ++ ys) ≡ None → first_broken place xs ≡ None
+first_broken-before place [] ys none = refl
+first_broken-before place (None ∷ xs) ys none = first_broken-before (next_place place) xs ys none
+first_broken-before place (Some value ∷ xs) ys none = absurd (cc none)
 
 -- A walk that finds nothing finds nothing in its first check.
 pub first_broken-head : (place : ℕ) (check : Option Shown) (checks : List (Option Shown))
@@ -48,7 +84,7 @@ first_broken-head place (Some value) checks none = absurd (cc none)
 
 -- A walk that finds nothing finds nothing after its first check.
 pub first_broken-tail : (place : ℕ) (check : Option Shown) (checks : List (Option Shown))
-    → first_broken place (check ∷ checks) ≡ None → first_broken (place + 1) checks ≡ None
+    → first_broken place (check ∷ checks) ≡ None → first_broken (next_place place) checks ≡ None
 first_broken-tail place None checks none = none
 first_broken-tail place (Some value) checks none = absurd (cc none)
 
@@ -56,21 +92,30 @@ first_broken-tail place (Some value) checks none = absurd (cc none)
 pub first_broken-none : (place : ℕ) (checks : List (Option Shown))
     → first_broken place checks ≡ None → AllByRecursion (λ check. check ≡ None) checks
 first_broken-none place [] none = tt
-first_broken-none place (None ∷ checks) none = (refl, first_broken-none (place + 1) checks none)
+first_broken-none place (None ∷ checks) none =
+    (refl, first_broken-none (next_place place) checks none)
 first_broken-none place (Some value ∷ checks) none = absurd (cc none)
 
--- Where neither of two is there, neither is there.
-pub option_or-none : {T : Type 0} (a b : Option T) → option_or a b ≡ None
-    → (a ≡ None) × (b ≡ None)
-option_or-none None b none = (refl, none)
-option_or-none (Some x) b none = absurd (cc none)
+-- A walk finds nothing where no check is broken.
+pub first_broken-all : (place : ℕ) (checks : List (Option Shown))
+    → AllByRecursion (λ check. check ≡ None) checks → first_broken place checks ≡ None
+first_broken-all place [] all = refl
+first_broken-all place (None ∷ checks) all = first_broken-all (next_place place) checks all.1
+first_broken-all place (Some value ∷ checks) all = absurd (cc all.0)
 
--- A walk that finds nothing in two lists finds nothing in either.
-pub first_broken-append_none : (place : ℕ) (xs ys : List (Option Shown))
-    → first_broken place (xs ++ ys) ≡ None
-    → (first_broken place xs ≡ None) × (first_broken (place + length xs) ys ≡ None)
-first_broken-append_none place xs ys none =
-    option_or-none _ _ (sym (first_broken-append place xs ys) ∙ none)
+-- Whether a walk finds something doesn't depend on where it begins.
+pub first_broken-elsewhere : (place other : ℕ) (checks : List (Option Shown))
+    → first_broken place checks ≡ None → first_broken other checks ≡ None
+first_broken-elsewhere place other checks none =
+    first_broken-all other checks (first_broken-none place checks none)
+
+-- A walk that finds nothing in two lists finds nothing in the second, wherever it begins.
+pub first_broken-after : (place other : ℕ) (xs ys : List (Option Shown))
+    → first_broken place (xs ++ ys) ≡ None → first_broken other ys ≡ None
+first_broken-after place other [] ys none = first_broken-elsewhere place other ys none
+first_broken-after place other (None ∷ xs) ys none =
+    first_broken-after (next_place place) other xs ys none
+first_broken-after place other (Some value ∷ xs) ys none = absurd (cc none)
 
 -- A number that isn't out of its range lies within it.
 pub outside-within : (low high n : ℕ) → outside low high (pos n) ≡ None → (low ≤ n) × (n ≤ high)
@@ -98,7 +143,7 @@ filter_map-name_of place (text ∷ texts) none =
     let checks = map no_name texts in
     let named = no_name-none text (first_broken-head place (no_name text) checks none) in
     let rest = first_broken-tail place (no_name text) checks none in
-    rw named (ap (λ names. text ∷ names) (filter_map-name_of (place + 1) texts rest))
+    rw named (ap (λ names. text ∷ names) (filter_map-name_of (next_place place) texts rest))
 
 -- The repeats among two lists are those of the first, and those of the second with the first among
 -- the others.
@@ -109,22 +154,27 @@ repeats-append others (x ∷ xs) ys =
     rw (← append_assoc others (x ∷ []) xs)
     (ap (λ rest. repeated others x ∷ rest) (repeats-append (others ++ x ∷ []) xs ys))
 
--- There is a check for each name.
-pub length-repeats : (others names : List (List ℕ)) → length (repeats others names) ≡ length names
-length-repeats others [] = refl
-length-repeats others (name ∷ names) = ap (λ n. suc n) (length-repeats (others ++ name ∷ []) names)
+-- A text that isn't shown as repeated is none of the others.
+repeated-none : (others : List (List ℕ)) (text : List ℕ) → repeated others text ≡ None
+    → list_any (bytes_eq text) others ≡ false
+repeated-none others text none =
+    elim (cases_Bool (list_any (bytes_eq text) others)) [
+      | inl among ↦ absurd (cc (rw among at none))
+      | inr apart ↦ apart
+    ]
 
--- The first repeat among two lists is the first of the first list, and else of the second.
-pub first_broken-repeats : (place : ℕ) (others xs ys : List (List ℕ))
-    → first_broken place (repeats others (xs ++ ys))
-    ≡ option_or (first_broken place (repeats others xs))
-    (first_broken (place + length xs) (repeats (others ++ xs) ys))
-first_broken-repeats place others xs ys =
-    rw (
-      repeats-append others xs ys,
-      first_broken-append place (repeats others xs) (repeats (others ++ xs) ys),
-      length-repeats others xs,
-    ) refl
+-- Texts without repeats are the set of themselves, behind the others.
+pub distinct_set : (place : ℕ) (others texts : List (List ℕ))
+    → first_broken place (repeats others texts) ≡ None
+    → fold (insert_key bytes_eq) others texts ≡ others ++ texts
+distinct_set place others [] none = sym (append-nil others)
+distinct_set place others (text ∷ texts) none =
+    let checks = repeats (others ++ text ∷ []) texts in
+    let apart = repeated-none others text
+    (first_broken-head place (repeated others text) checks none) in
+    let rest = first_broken-tail place (repeated others text) checks none in
+    rw apart (distinct_set (next_place place) (others ++ text ∷ []) texts rest
+    ∙ append_assoc others (text ∷ []) texts)
 
 -- A walk over numbers that finds nothing finds nothing at each of them.
 pub first_broken-range : (check : ℕ → Option Shown) (place first count i : ℕ)
@@ -139,7 +189,7 @@ first_broken-range check place first (suc count) (suc i) none within =
     let same : first + suc i ≡ (first + 1) + i = omega arith in
     let rest = first_broken-tail place (check first)
     (map check (range_with_len (first + 1) count)) none in
-    rw same (first_broken-range check (place + 1) (first + 1) count i rest (omega arith))
+    rw same (first_broken-range check (next_place place) (first + 1) count i rest (omega arith))
 
 -- The place of a text is one of the names'.
 pub place_of-within : (names : List (List ℕ)) (text : List ℕ) (i : ℕ) → place_of names text ≡ Some i

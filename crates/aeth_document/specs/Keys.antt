@@ -3,7 +3,7 @@
 --   Fields, fields_view       the keys that a table has, and what stands there
 --   has_kind, is_expected     whether a value fits, and whether it fits its field
 --   least_wrong_key           the least key that is missing, unknown or of another kind
---   wrong_key, wrong_keys     the same as a refusal shows it, of one table and of a walk
+--   wrong_key                 the same as a refusal shows it
 -- This project's own.
 use Rattle.std.specs.Prelude.{true, false, not, ℕ, Bool, List, [], ◌∷◌, ◌++◌, map, filter, fold}
 use Rattle.std.specs.Prelude.{Option, Some, None, option_map, is_some, is_none, if◌then◌else◌}
@@ -16,10 +16,8 @@ use Rattle.toml.specs.Data.{as_str, as_integer, as_array, as_table}
 use Rattle.aeth_document.specs.declared.keys.Field.{Field}
 use Rattle.aeth_document.specs.declared.keys.Kind.{Kind}
 use Rattle.aeth_document.specs.declared.keys.Kind.TheVariants as kind
-use Rattle.aeth_base.specs.declared.shown.Broken.{Broken}
 use Rattle.aeth_base.specs.declared.shown.Shown.{Shown}
 use Rattle.aeth_base.specs.Shown.{shown_text}
-use Rattle.aeth_document.specs.Walks.{first_broken}
 
 -- The items of an array in order.
 abbrev pub listed : Items → List Data
@@ -47,6 +45,7 @@ all_items p (Some ds) = list_all p (listed ds)
 -- Whether a value is of a kind. An array without items is one of texts and one of tables.
 abbrev pub has_kind : Kind → Data → Bool
 has_kind kind.Integer d = is_some (as_integer d)
+has_kind kind.OptionalInteger d = is_some (as_integer d)
 has_kind kind.Text d = is_some (as_str d)
 has_kind kind.OptionalText d = is_some (as_str d)
 has_kind kind.Table d = is_some (as_table d)
@@ -62,6 +61,7 @@ is_expected (f ∷ fs) e = if bytes_eq f.0 e.0 then has_kind f.1 e.1 else is_exp
 -- Whether a field of this kind may be absent.
 abbrev pub is_optional : Kind → Bool
 is_optional kind.Integer = false
+is_optional kind.OptionalInteger = true
 is_optional kind.Text = false
 is_optional kind.OptionalText = true
 is_optional kind.Table = false
@@ -106,7 +106,3 @@ least_wrong_key fields ms = least (missing_keys ms fields ++ misfit_keys fields 
 -- The same key as a refusal shows it.
 abbrev pub wrong_key : Fields → Members → Option Shown
 wrong_key fields ms = option_map shown_text (least_wrong_key fields ms)
-
--- The first of the tables, counted from a place on, that has a wrong key.
-abbrev pub wrong_keys : ℕ → Fields → List Members → Option Broken
-wrong_keys first fields tables = first_broken first (map (wrong_key fields) tables)

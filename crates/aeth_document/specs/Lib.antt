@@ -1,3 +1,5 @@
+pub mod Limits
+pub mod Arrays
 pub mod Document
 pub mod Walks
 pub mod Keys

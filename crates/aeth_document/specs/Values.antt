@@ -9,6 +9,10 @@ use Rattle.aeth_document.specs.Keys.{listed}
 unfoldable pub integer_at : List ℕ → Members → ℤ
 integer_at k ms = unwrap_or (option_and_then as_integer (get_member k ms)) (pos 0)
 
+-- The integer at a key, if one stands there.
+unfoldable pub integer_if : List ℕ → Members → Option ℤ
+integer_if k ms = option_and_then as_integer (get_member k ms)
+
 -- The text at a key, empty where none stands there.
 unfoldable pub text_at : List ℕ → Members → List ℕ
 text_at k ms = unwrap_or (option_and_then as_str (get_member k ms)) []

@@ -1,21 +1,57 @@
--- Walks over a file: what breaks a check, and the first that is broken.
+-- Walks over a file: what breaks a check, and the first check that is broken.
+--
+--   next_place, first_broken    the places of a walk's checks, and the first that is broken
+--   step, walked, found_by    the same as a cursor that goes from check to check
+--   judged    a rule, by the walk over its checks
+--   outside, no_name, repeats, place_of, size_of    checks of numbers and names
 -- This project's own.
 use Rattle.std.specs.Prelude.{ℕ, ◌+◌, ℤ, pos, negsuc, ◌&&◌, nat_le, List, [], ◌∷◌, ◌++◌, Option}
-use Rattle.std.specs.Prelude.{Some, None, position, if◌then◌else◌, option_and_then}
+use Rattle.std.specs.Prelude.{Some, None, Result, Ok, Err, fold, min, position, option_and_then}
+use Rattle.std.specs.Prelude.{if◌then◌else◌}
 use Rattle.std.specs.List.{list_any}
 use Rattle.std.specs.Str.{bytes_eq}
+use Rattle.aeth_base.specs.Faults.{BrokenRule}
 use Rattle.aeth_base.specs.Name.{is_name, name_of}
 use Rattle.aeth_base.specs.declared.shown.Broken.{Broken}
 use Rattle.aeth_base.specs.declared.shown.Shown.{Shown}
 use Rattle.aeth_base.specs.declared.shown.Shown.TheVariants.{Odd, Number}
 use Rattle.aeth_base.specs.Shown.{shown_text}
+use Rattle.aeth_document.specs.Limits.{last_place}
+use Rattle.aeth_document.specs.declared.walk.Walk.{Walk}
+use Rattle.aeth_document.specs.declared.walk.Walk.TheVariants.{At, Stopped}
+
+-- The place after a place.
+abbrev pub next_place : ℕ → ℕ
+next_place place = min (place + 1) last_place
 
 -- The first check of a walk that is broken, with its place. The first check stands at `place`,
 -- and a check that isn't broken shows nothing.
 abbrev pub first_broken : ℕ → List (Option Shown) → Option Broken
 first_broken place [] = None
-first_broken place (None ∷ checks) = first_broken (place + 1) checks
+first_broken place (None ∷ checks) = first_broken (next_place place) checks
 first_broken place (Some value ∷ checks) = Some (record { place = place; value = value })
+
+-- A walk after one more check: it goes on to the next place, or stops where the check is broken.
+abbrev pub step : Walk → Option Shown → Walk
+step (At place) None = At (next_place place)
+step (At place) (Some value) = Stopped (record { place = place; value = value })
+step (Stopped broken) check = Stopped broken
+
+-- A walk after some more checks.
+unfoldable pub walked : Walk → List (Option Shown) → Walk
+walked walk checks = fold step walk checks
+
+-- The broken check where a walk has stopped.
+abbrev pub found_by : Walk → Option Broken
+found_by (At place) = None
+found_by (Stopped broken) = Some broken
+
+-- A rule, by its number and its name: it is kept where the walk over its checks finds nothing, and
+-- else broken at the place and by the value that are found.
+abbrev pub judged : ℕ → List ℕ → Option Broken → Result (Unit {0}) BrokenRule
+judged rule name None = Ok tt
+judged rule name (Some broken) =
+    Err (record { rule = rule; name = name; place = broken.place; value = broken.value })
 
 -- A number that is out of its range.
 abbrev pub outside : ℕ → ℕ → ℤ → Option Shown

@@ -1,5 +1,5 @@
 // The keys of a table.
-ghost use Rattle.std.specs.Prelude.{◌≡◌, map, option_map, is_none, is_some, IfOk};
+ghost use Rattle.std.specs.Prelude.{◌≡◌, option_map, is_none, is_some};
 ghost use Rattle.std.specs.BTreeMap.{IsOrdered};
 ghost use Rattle.std.specs.List.{list_all};
 ghost use Rattle.std.specs.String.{string_cmp};
@@ -9,17 +9,18 @@ ghost use Rattle.aeth_document.specs.Keys.{all_items, fields_view, has_kind, ent
 ghost use Rattle.aeth_document.specs.Keys.{is_expected, is_missing, is_optional};
 ghost use Rattle.aeth_document.specs.Keys.{first_of, least, least_wrong_key, lesser_where};
 ghost use Rattle.aeth_document.specs.Keys.{missing_keys, misfit_keys};
-ghost use Rattle.aeth_document.specs.Keys.{wrong_key, wrong_keys};
+ghost use Rattle.aeth_document.specs.Keys.{wrong_key};
 
-use crate::shown::next_place;
 use crate::values::value_at;
-use aeth_base::{Broken, NoMemory, Shown, shown_text};
+use aeth_base::{Shown, shown_text};
 use toml::{Table, Value};
 
 /// What may stand at a key.
 #[derive(Clone, Copy, Debug, PartialEq, Eq)]
 pub enum Kind {
     Integer,
+    /// An integer that may be absent.
+    OptionalInteger,
     Text,
     /// A text that may be absent.
     OptionalText,
@@ -71,7 +72,7 @@ fn has_kind(kind: Kind, value: &Value) -> bool
     ensures { result ≡ has_kind kind (view value.now) }
 {
     match kind {
-        Kind::Integer => value.is_integer(),
+        Kind::Integer | Kind::OptionalInteger => value.is_integer(),
         Kind::Text | Kind::OptionalText => value.is_str(),
         Kind::Table => value.is_table(),
         Kind::Texts | Kind::OptionalTexts => is_texts(value),
@@ -111,7 +112,7 @@ fn is_optional(kind: Kind) -> bool
     ensures { result ≡ is_optional kind }
 {
     match kind {
-        Kind::OptionalText | Kind::OptionalTexts => true,
+        Kind::OptionalInteger | Kind::OptionalText | Kind::OptionalTexts => true,
         Kind::Integer | Kind::Text | Kind::Table | Kind::Texts | Kind::Tables => false,
     }
 }
@@ -179,23 +180,4 @@ pub fn wrong_key(table: &Table, fields: &[Field]) -> Option<Shown>
         None => None,
         Some(key) => Some(shown_text(key)),
     }
-}
-
-/// The first of the tables, counted from a place on, that has a wrong key.
-pub fn wrong_keys(
-    first: u32,
-    tables: &[&Table],
-    fields: &[Field],
-) -> Result<Option<Broken>, NoMemory>
-    ensures { IfOk result (λ found. found ≡ wrong_keys first (fields_view fields.now)
-        (map (λ t. table_view t.now) tables.now)) }
-{
-    let mut place = first;
-    for table in tables {
-        if let Some(value) = wrong_key(table, fields) {
-            return Ok(Some(Broken { place, value }));
-        }
-        place = next_place(place)?;
-    }
-    Ok(None)
 }

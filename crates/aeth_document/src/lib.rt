@@ -6,15 +6,15 @@ mod document;
 mod keys;
 mod names;
 mod ranges;
-mod shown;
-#[cfg(test)]
-mod tests;
+mod tables;
 mod values;
+mod walk;
 
 pub use aeth_base::{Broken, Shown, shown_text};
 pub use document::read_document;
-pub use keys::{Field, Kind, wrong_key, wrong_keys};
-pub use names::{add_names, names_of, no_names, place_of};
-pub use ranges::{count_outside, first_broken, outside, size};
-pub use shown::{next_place, place_after};
-pub use values::{integer_at, table_at, tables_at, text_at, text_if, texts_at};
+pub use keys::{Field, Kind, wrong_key};
+pub use names::{names_of, no_name, place_of, repeated, repeats};
+pub use ranges::{count_outside, outside, size};
+pub use tables::{Tables, Texts};
+pub use values::{integer_at, integer_if, table_at, tables_at, text_at, text_if, texts_at};
+pub use walk::Walk;

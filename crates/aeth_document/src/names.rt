@@ -1,98 +1,95 @@
 // Names in files.
-ghost use Rattle.std.specs.Prelude.{◌≡◌, ◌<◌, ◌^◌, ◌++◌, None, length, map, not, IfOk, OnOk};
+ghost use Rattle.std.specs.Prelude.{◌≡◌, ◌<◌, ◌^◌, ◌++◌, ◌∷◌, [], fold, length, map, not, IfOk, OnOk, None};
 ghost use Rattle.std.specs.List.{filter_map, list_any};
 ghost use Rattle.std.specs.Str.{bytes_eq};
 ghost use Rattle.aeth_base.specs.Name.{name_of};
-ghost use Rattle.aeth_base.specs.Shown.{shown_text};
 ghost use Rattle.indexmap.specs.IndexSet.{insert_key};
-ghost use Rattle.aeth_document.specs.Walks.{first_broken, no_name, place_of, repeats};
+ghost use Rattle.aeth_document.specs.Arrays.{texts_in};
+ghost use Rattle.aeth_document.specs.Walks.{found_by, no_name, place_of, repeated, repeats, walked};
 
-use crate::shown::next_place;
-use aeth_base::{Broken, Name, NoMemory, Shown};
+use crate::tables::Texts;
+use crate::walk::Walk;
+use aeth_base::{Name, NoMemory, Shown, shown_text};
 use indexmap::IndexSet;
 use std::alloc::Global;
 
-/// The first of the texts, counted from a place on, that is no name.
-pub fn no_names(first: u32, texts: &[&str]) -> Result<Option<Broken>, NoMemory>
-    ensures { IfOk result (λ found. found
-        ≡ first_broken first (map no_name (map (λ t. t.now) texts.now))) }
+/// A text that is no name.
+pub fn no_name(text: &str) -> Option<Shown>
+    ensures { result ≡ no_name text.now }
 {
-    let mut place = first;
-    for text in texts {
-        if Name::new(text.as_bytes()).is_none() {
-            return Ok(Some(Broken {
-                place,
-                value: Shown::Odd,
-            }));
-        }
-        place = next_place(place)?;
+    match Name::new(text.as_bytes()) {
+        Some(_) => None,
+        None => Some(Shown::Odd),
     }
-    Ok(None)
 }
 
-/// Those of the texts that are names.
-pub fn names_of(alloc: Global, texts: &[&str]) -> Result<Vec<Name>, NoMemory>
-    ensures { IfOk result (λ names. names.items
-        ≡ filter_map name_of (map (λ t. t.now) texts.now)) }
+/// Those of the texts that are names, as a set in their order, each once.
+pub fn names_of(alloc: Global, texts: Texts<'_>) -> Result<IndexSet<Name>, NoMemory>
+    ensures { IfOk result (λ names. names.keys
+        ≡ fold (insert_key bytes_eq) [] (filter_map name_of (texts_in texts.entry))) }
 {
-    let mut names = Vec::new(alloc);
+    let mut names = IndexSet::new(alloc);
     for text in texts {
         if let Some(name) = Name::new(text.as_bytes()) {
-            names.push(name)?;
+            add_name(&mut names, name)?;
         }
     }
     Ok(names)
 }
 
-// Adds a name at the end where it is new, and says whether it is.
-fn add(set: &mut IndexSet<Name>, name: Name) -> Result<bool, NoMemory>
-    ensures new { IfOk result (λ new. new ≡ not (list_any (bytes_eq name) set.old.keys)) }
-    ensures keys { OnOk result (set.new.keys ≡ insert_key bytes_eq set.old.keys name) }
+// Puts a name at the end of a set where it is new.
+fn add_name(set: &mut IndexSet<Name>, name: Name) -> Result<(), NoMemory>
+    ensures { OnOk result (set.new.keys ≡ insert_key bytes_eq set.old.keys name) }
 {
-    let (_, is_new) = set.insert_full(name)?;
+    set.insert_full(name)?;
+    Ok(())
+}
+
+// Puts a text at the end of a set where it is new, and says whether it is.
+fn add_text<'a>(seen: &mut IndexSet<&'a str>, text: &'a str) -> Result<bool, NoMemory>
+    ensures new { IfOk result (λ new. new
+        ≡ not (list_any (bytes_eq text.now) (map (λ t. t.now) seen.old.keys))) }
+    ensures keys { OnOk result (map (λ t. t.now) seen.new.keys
+        ≡ insert_key bytes_eq (map (λ t. t.now) seen.old.keys) text.now) }
+{
+    let (_, is_new) = seen.insert_full(text)?;
     Ok(is_new)
 }
 
-fn has(set: &IndexSet<Name>, name: &Name) -> bool
-    ensures { result ≡ list_any (bytes_eq name.now) set.now.keys }
+/// A text that is among those of a set. A new one is put at the set's end.
+pub fn repeated<'a>(seen: &mut IndexSet<&'a str>, text: &'a str) -> Result<Option<Shown>, NoMemory>
+    ensures shown { IfOk result (λ shown. shown
+        ≡ repeated (map (λ t. t.now) seen.old.keys) text.now) }
+    ensures seen { IfOk result (λ shown. shown ≡ None
+        → map (λ t. t.now) seen.new.keys ≡ map (λ t. t.now) seen.old.keys ++ text.now ∷ []) }
 {
-    set.contains(name)
-}
-
-// A name as a refusal shows it.
-fn shown_name(name: &Name) -> Shown
-    ensures { result ≡ shown_text name.now }
-{
-    match Name::new(name.as_bytes()) {
-        Some(name) => Shown::Word(name),
-        None => Shown::Odd,
+    if add_text(seen, text)? {
+        Ok(None)
+    } else {
+        Ok(Some(shown_text(text)))
     }
 }
 
-/// Puts the names at the end of the set, up to the first that stands before it in the set or that
-/// is one of some other names. That one is answered; the first name counts as the place `first`.
-pub fn add_names(
-    set: &mut IndexSet<Name>,
-    others: &IndexSet<Name>,
-    first: u32,
-    names: &[Name],
-) -> Result<Option<Broken>, NoMemory>
-    ensures found { IfOk result (λ found. found
-        ≡ first_broken first (repeats (others.now.keys ++ set.old.keys) names.now)) }
-    ensures added { IfOk result (λ found. found ≡ None
-        → set.new.keys ≡ set.old.keys ++ names.now) }
+/// The walk after a check of each text, which is to differ from those of a set and from the texts
+/// before it. The texts are put at the set's end, up to the first that is broken.
+pub fn repeats<'a>(
+    walk: Walk,
+    seen: &mut IndexSet<&'a str>,
+    texts: Texts<'a>,
+) -> Result<Walk, NoMemory>
+    ensures walk { IfOk result (λ after. after
+        ≡ walked walk (repeats (map (λ t. t.now) seen.old.keys) (texts_in texts.entry))) }
+    ensures seen { IfOk result (λ after. found_by after ≡ None
+        → map (λ t. t.now) seen.new.keys ≡ map (λ t. t.now) seen.old.keys ++ texts_in texts.entry) }
 {
-    let mut place = first;
-    for name in names {
-        if has(others, name) || !add(set, *name)? {
-            return Ok(Some(Broken {
-                place,
-                value: shown_name(name),
-            }));
+    let mut walk = walk;
+    for text in texts {
+        walk = walk.check(repeated(seen, text)?);
+        if !walk.goes_on() {
+            return Ok(walk);
         }
-        place = next_place(place)?;
     }
-    Ok(None)
+    Ok(walk)
 }
 
 /// The place of a text among the names of a set.

@@ -1,9 +1,8 @@
 // Numbers and their ranges.
-ghost use Rattle.std.specs.Prelude.{◌≡◌, pos, ◌+◌, ◌≤◌, ◌^◌, length, IfOk};
-ghost use Rattle.aeth_document.specs.Walks.{first_broken, outside, size_of};
+ghost use Rattle.std.specs.Prelude.{◌≡◌, pos};
+ghost use Rattle.aeth_document.specs.Walks.{outside, size_of};
 
-use crate::shown::next_place;
-use aeth_base::{Broken, NoMemory, Shown};
+use aeth_base::Shown;
 
 /// A number, 0 for one below 0.
 pub fn size(number: i64) -> u64
@@ -41,18 +40,4 @@ pub fn count_outside(low: u64, high: u64, count: usize) -> Option<Shown>
     } else {
         Some(Shown::Number(count))
     }
-}
-
-/// The first check, counted from a place on, that shows a value.
-pub fn first_broken(first: u32, checks: &[Option<Shown>]) -> Result<Option<Broken>, NoMemory>
-    ensures { IfOk result (λ found. found ≡ first_broken first checks.now) }
-{
-    let mut place = first;
-    for check in checks {
-        if let Some(value) = *check {
-            return Ok(Some(Broken { place, value }));
-        }
-        place = next_place(place)?;
-    }
-    Ok(None)
 }

@@ -1,12 +1,12 @@
 // What stands at a key.
-ghost use Rattle.std.specs.Prelude.{◌≡◌, map, option_map, IfOk};
+ghost use Rattle.std.specs.Prelude.{◌≡◌, map, option_map};
 ghost use Rattle.toml.specs.Data.{get_member};
 ghost use Rattle.toml.specs.View.{view, table_view};
-ghost use Rattle.aeth_document.specs.Values.{integer_at, items_at, table_at, tables_at, text_at};
+ghost use Rattle.aeth_document.specs.Arrays.{tables_in, texts_in};
+ghost use Rattle.aeth_document.specs.Values.{integer_at, integer_if, items_at, table_at, tables_at, text_at};
 ghost use Rattle.aeth_document.specs.Values.{text_if, texts_at};
 
-use aeth_base::NoMemory;
-use std::alloc::Global;
+use crate::tables::{Tables, Texts};
 use toml::{Table, Value};
 
 /// The value at a key.
@@ -27,6 +27,17 @@ pub fn integer_at(table: &Table, key: &str) -> i64
             None => 0,
         },
         None => 0,
+    }
+}
+
+/// The integer at a key, if one stands there.
+#[tactic(auto, unfolding(crate::specs::Values::integer_if))]
+pub fn integer_if(table: &Table, key: &str) -> Option<i64>
+    ensures { result ≡ integer_if key.now (table_view table.now) }
+{
+    match value_at(table, key) {
+        Some(value) => value.as_integer(),
+        None => None,
     }
 }
 
@@ -79,30 +90,16 @@ fn items_at<'a>(table: &'a Table, key: &str) -> &'a [Value]
     }
 }
 
-/// The texts of the array at a key in their order, none where no array stands there.
-pub fn texts_at<'a>(alloc: Global, table: &'a Table, key: &str) -> Result<Vec<&'a str>, NoMemory>
-    ensures { IfOk result (λ texts. map (λ t. t.now) texts.items
-        ≡ texts_at key.now (table_view table.now)) }
+/// The texts of the array at a key, none where no array stands there.
+pub fn texts_at<'a>(table: &'a Table, key: &str) -> Texts<'a>
+    ensures { texts_in result ≡ texts_at key.now (table_view table.now) }
 {
-    let mut texts = Vec::new(alloc);
-    for value in items_at(table, key) {
-        if let Some(text) = value.as_str() {
-            texts.push(text)?;
-        }
-    }
-    Ok(texts)
+    Texts::among(items_at(table, key))
 }
 
-/// The tables of the array at a key in their order, none where no array stands there.
-pub fn tables_at<'a>(alloc: Global, table: &'a Table, key: &str) -> Result<Vec<&'a Table>, NoMemory>
-    ensures { IfOk result (λ tables. map (λ t. table_view t.now) tables.items
-        ≡ tables_at key.now (table_view table.now)) }
+/// The tables of the array at a key, none where no array stands there.
+pub fn tables_at<'a>(table: &'a Table, key: &str) -> Tables<'a>
+    ensures { tables_in result ≡ tables_at key.now (table_view table.now) }
 {
-    let mut tables = Vec::new(alloc);
-    for value in items_at(table, key) {
-        if let Some(item) = value.as_table() {
-            tables.push(item)?;
-        }
-    }
-    Ok(tables)
+    Tables::among(items_at(table, key))
 }

@@ -1,7 +1,7 @@
 use Rattle.std.proofs.Common.{◌∙◌, is_some}
 use Rattle.toml.specs.Data.{as_str}
 use Rattle.toml.specs.View.{view}
-use Rattle.aeth_document.proofs.Tables.{all_items-view}
+use Rattle.aeth_document.proofs.TableLemmas.{all_items-view}
 use Rattle.aeth_document.proofs.keys.is_texts.Goals as goal
 
 -- The array's items pass the test where the values that they show do.

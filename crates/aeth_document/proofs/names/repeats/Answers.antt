@@ -1,0 +1,35 @@
+use Rattle.std.proofs.Common.{◌∙◌, ◌++◌, ◌∷◌, [], map, sym, append_assoc}
+use Rattle.aeth_document.specs.Arrays.{texts_in}
+use Rattle.aeth_document.specs.Walks.{repeats}
+use Rattle.aeth_document.proofs.WalkLemmas.{goes_on-none, walked-append, walked-ended, walked-nil}
+use Rattle.aeth_document.proofs.names.repeats.Goals as goal
+
+-- Where the walk has stopped, the texts that are left don't change it.
+pub returns-then-not-goes_on-clause-walk : goal.returns-then-not-goes_on-clause-walk
+returns-then-not-goes_on-clause-walk c =
+    let seen = map (λ t. t.now) c.loop-text.seen.keys in
+    let more = repeats (seen ++ c.in-Some.text.now ∷ []) (texts_in c.next.new.self) in
+    let before = rw c.in-Some.ensures.steps at c.loop-text.invariant.walk in
+    let ended = rw c.check-walk.ensures at (sym c.if-not-goes_on.ensures) in
+    c.check-walk.ensures ∙ walked-ended c.loop-text.walk c.in_ok-repeated.field-0 more ended
+    ∙ rw c.in_ok-repeated.ensures.shown before
+
+-- Where it goes on, the text is new, and stands at the end of the set.
+pub loop-text-preserved : goal.loop-text-preserved
+loop-text-preserved c =
+    let seen = map (λ t. t.now) c.loop-text.seen.keys in
+    let before = rw c.in-Some.ensures.steps at c.loop-text.invariant in
+    let going = rw c.check-walk.ensures at (sym c.if-not-goes_on.ensures) in
+    let new = goes_on-none c.loop-text.walk c.in_ok-repeated.field-0 going in
+    let set = c.in_ok-repeated.ensures.seen new in
+    record {
+      walk = rw (c.check-walk.ensures, set, walked-append, c.in_ok-repeated.ensures.shown)
+          before.walk;
+      seen = rw (set, append_assoc seen (c.in-Some.text.now ∷ []) (texts_in c.next.new.self))
+          before.seen;
+    }
+
+-- No text is left.
+pub returns-clause-walk : goal.returns-clause-walk
+returns-clause-walk c =
+    sym (walked-nil c.loop-text.walk) ∙ rw c.in-None.ensures.steps.0 at c.loop-text.invariant.walk

@@ -1,0 +1,12 @@
+use Rattle.std.proofs.Common.{◌≡◌, ◌++◌, map}
+use Rattle.aeth_document.specs.Arrays.{texts_in}
+use Rattle.aeth_document.specs.Walks.{repeats, walked}
+use Rattle.aeth_document.proofs.names.repeats.Given as goal
+
+abbrev pub invariant-loop-text : goal.invariant-loop-text
+invariant-loop-text l = record {
+  walk : walked l.walk (repeats (map (λ t. t.now) l.seen.keys) (texts_in l.text-iterator))
+      ≡ walked l.fn.walk (repeats (map (λ t. t.now) l.initial.seen.keys) (texts_in l.fn.texts));
+  seen : map (λ t. t.now) l.seen.keys ++ (texts_in l.text-iterator)
+      ≡ map (λ t. t.now) l.initial.seen.keys ++ (texts_in l.fn.texts);
+}

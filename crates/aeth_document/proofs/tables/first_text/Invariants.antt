@@ -1,0 +1,12 @@
+use Rattle.std.proofs.Common.{◌≡◌, length, map}
+use Rattle.std.specs.List.{filter_map}
+use Rattle.toml.specs.Data.{as_str}
+use Rattle.toml.specs.View.{view}
+use Rattle.aeth_document.proofs.tables.first_text.Given as goal
+
+abbrev pub invariant-loop-value : goal.invariant-loop-value
+invariant-loop-value l =
+    filter_map as_str (map view l.left) ≡ filter_map as_str (map view l.values)
+
+abbrev pub decreases-loop-value : goal.decreases-loop-value
+decreases-loop-value l = length l.left
