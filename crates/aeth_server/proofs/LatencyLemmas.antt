@@ -6,7 +6,7 @@ use Rattle.std.proofs.lemmas.Grind.{div_ceil_times}
 use Rattle.aeth_slots.specs.SlotSet.{Ascends}
 use Rattle.aeth_server.specs.Extremes.{greatest_below}
 use Rattle.aeth_server.specs.SlotCycles.{nth_slot}
-use Rattle.aeth_server.specs.Latency.{BoundsService, latency_for, latency_of}
+use Rattle.aeth_server.specs.Latency.{BoundsService, lateness, lateness_from, latency_of}
 use Rattle.aeth_server.proofs.ExtremeLemmas.{greatest_below-above, greatest_below-least}
 use Rattle.aeth_server.proofs.SlotCycleLemmas.{nth_slot-reached}
 
@@ -28,16 +28,12 @@ le-div_ceil x y n some below =
 
 -- ---- the least latency
 module _ (size : ℕ) (slots : List ℕ) (cap rate : ℕ) (some : 1 ≤ rate) where
-  -- the latency for one s and one q, and how late the slot is for it
-  abbrev least_for : ℕ → ℕ → ℕ
-  least_for s q = latency_for size slots cap rate s q
+  -- how late the q-th slot at or after s comes, and how late a slot at or after s at most
+  abbrev late : ℕ → ℕ → ℕ
+  late s q = lateness size slots cap rate s q
 
-  abbrev lateness : ℕ → ℕ → ℕ
-  lateness s q = rate * (nth_slot size slots s q - s) - (cap * (q - 1) + 1) * size
-
-  -- the greatest for one s
-  abbrev worst_from : ℕ → ℕ
-  worst_from s = greatest_below (λ k. least_for s (k + 1)) (length slots)
+  abbrev late_from : ℕ → ℕ
+  late_from = lateness_from size slots cap rate
 
   -- the latency bounds the service
   pub latency_of-enough : BoundsService size slots cap rate (latency_of size slots cap rate)
@@ -45,14 +41,15 @@ module _ (size : ℕ) (slots : List ℕ) (cap rate : ℕ) (some : 1 ≤ rate) wh
   latency_of-enough = record {
     holds = λ s q start least most.
         let number : (q - 1) + 1 ≡ q = omega arith in
-        let here = ap (least_for s) number in
+        let here = ap (late s) number in
         let few : q - 1 < length slots = omega arith in
-        let worst = greatest_below-above (λ k. least_for s (k + 1)) (length slots) (q - 1) few in
-        let all = greatest_below-above worst_from size s start in
-        let within : least_for s q ≤ greatest_below worst_from size =
-        omega (arith, worst, all, here) in
-        let late = le-div_ceil (lateness s q) rate _ some within in
-        omega (arith, late);
+        let worst = greatest_below-above (λ k. late s (k + 1)) (length slots) (q - 1) few in
+        let all = greatest_below-above late_from size s start in
+        let round = le-div_ceil (greatest_below late_from size) rate
+        (latency_of size slots cap rate) some (omega arith) in
+        let within : late s q ≤ rate * latency_of size slots cap rate =
+        omega (arith, worst, all, here, round) in
+        omega (arith, within);
   }
 
   -- no lesser number does
@@ -60,10 +57,11 @@ module _ (size : ℕ) (slots : List ℕ) (cap rate : ℕ) (some : 1 ≤ rate) wh
       → latency_of size slots cap rate ≤ theta
   unfolding latency_of
   latency_of-least theta bounds =
-      greatest_below-least worst_from size theta (λ s start.
-      greatest_below-least (λ k. least_for s (k + 1)) (length slots) theta (λ k low.
+      div_ceil-le (greatest_below late_from size) rate theta some
+      (greatest_below-least late_from size (rate * theta) (λ s start.
+      greatest_below-least (λ k. late s (k + 1)) (length slots) (rate * theta) (λ k low.
       let holds = bounds.holds s (k + 1) start (omega arith) (omega arith) in
-      div_ceil-le (lateness s (k + 1)) rate theta some (omega (arith, holds))))
+      omega (arith, holds))))
 
   -- the table size does
   size-enough : Ascends 0 size slots → BoundsService size slots cap rate size

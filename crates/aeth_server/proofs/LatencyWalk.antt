@@ -1,4 +1,4 @@
--- The walk over the cycles of a table that finds the latency from one of them on.
+-- The walk over the cycles of a table that finds how late a slot comes from one of them on.
 use Rattle.std.proofs.Common.{ℕ, ◌+◌, ◌-◌, ◌*◌, ◌%◌, ◌<◌, ◌≤◌, ◌≡◌, ◌∙◌, suc, true, List, length}
 use Rattle.std.proofs.Common.{Contains, max, sym, ap, subst, arith}
 use Rattle.std.proofs.Math.Nat.{mul-le-mul}
@@ -10,17 +10,17 @@ use Rattle.aeth_base.specs.Limits.{credits_per_flit, max_slots}
 use Rattle.aeth_slots.specs.SlotSet.{Ascends}
 use Rattle.aeth_server.specs.Extremes.{greatest_below}
 use Rattle.aeth_server.specs.SlotCycles.{is_slot, slots_within}
-use Rattle.aeth_server.specs.Latency.{BoundsService, latency_for, latency_of}
+use Rattle.aeth_server.specs.Latency.{BoundsService, lateness, lateness_from, latency_of}
 use Rattle.aeth_server.proofs.LatencyLemmas.{latency_of-enough, latency_of-least, latency_of-within}
 use Rattle.aeth_server.proofs.SlotCycleLemmas.{is_slot-member, member-is_slot, slots_within-slot}
 use Rattle.aeth_server.proofs.SlotCycleLemmas.{slots_within-other, slots_within-turn, slots-most}
 use Rattle.aeth_server.proofs.SlotCycleLemmas.{nth_slot-here}
 
--- After n cycles: so many slots were passed, and theta is the greatest latency for one of them.
-pub record Walked (size : ℕ) (slots : List ℕ) (cap rate s n passed theta : ℕ) : Type 0 where
+-- After n cycles: so many slots were passed, and the greatest lateness is that of one of them.
+pub record Walked (size : ℕ) (slots : List ℕ) (cap rate s n passed late : ℕ) : Type 0 where
   pub count : passed ≡ slots_within size slots s n
   pub few : passed ≤ n
-  pub worst : theta ≡ greatest_below (λ k. latency_for size slots cap rate s (k + 1)) passed
+  pub worst : late ≡ greatest_below (λ k. lateness size slots cap rate s (k + 1)) passed
 
 -- The greater of two numbers, as the code finds it.
 pub ord_max-nat : (a b : ℕ) → ord_max nat_cmp a b ≡ max a b
@@ -30,38 +30,37 @@ module _ (size : ℕ) (slots : List ℕ) (cap rate s : ℕ) where
   abbrev within : ℕ → ℕ
   within n = slots_within size slots s n
 
-  -- the greatest latency for one of the first slots
+  -- the greatest lateness of one of the first slots
   abbrev worst_of : ℕ → ℕ
-  worst_of passed = greatest_below (λ k. latency_for size slots cap rate s (k + 1)) passed
+  worst_of passed = greatest_below (λ k. lateness size slots cap rate s (k + 1)) passed
 
-  -- the latency for a slot after n cycles and k slots
-  abbrev latency_at : ℕ → ℕ → ℕ
-  latency_at n k = div_ceil (rate * n - (cap * k + 1) * size) rate
+  -- how late a slot comes after n cycles and k slots
+  abbrev late_at : ℕ → ℕ → ℕ
+  late_at n k = rate * n - (cap * k + 1) * size
 
   -- the state of the walk
   abbrev WalkedTo : ℕ → ℕ → ℕ → Type 0
-  WalkedTo n passed theta = Walked size slots cap rate s n passed theta
+  WalkedTo n passed late = Walked size slots cap rate s n passed late
 
-  -- it is the latency for the slot that is here
-  latency-here : (n k : ℕ) → n < size → within n ≡ k → is_slot size slots (s + n) ≡ true
-      → latency_for size slots cap rate s (k + 1) ≡ latency_at n k
-  latency-here n k low count is =
+  -- so late comes the slot that is here
+  late-here : (n k : ℕ) → n < size → within n ≡ k → is_slot size slots (s + n) ≡ true
+      → lateness size slots cap rate s (k + 1) ≡ late_at n k
+  late-here n k low count is =
       let place = nth_slot-here size slots s n k low count is in
       let before : (k + 1) - 1 ≡ k = omega arith in
-      ap (λ m. div_ceil (rate * m - (cap * ((k + 1) - 1) + 1) * size) rate) place
-      ∙ ap (λ m. latency_at n m) before
+      ap (λ m. rate * m - (cap * ((k + 1) - 1) + 1) * size) place ∙ ap (λ m. late_at n m) before
 
   -- a cycle with a slot
-  pub walk-slot : (n passed theta passed' theta' : ℕ) → WalkedTo n passed theta → n < size
+  pub walk-slot : (n passed late passed' late' : ℕ) → WalkedTo n passed late → n < size
       → Contains slots ((s + n) % size) → passed' ≡ passed + 1
-      → theta' ≡ ord_max nat_cmp theta (latency_at n passed) → WalkedTo (n + 1) passed' theta'
-  walk-slot n passed theta passed' theta' walked low has more greater =
-      let greatest = ord_max-nat theta (latency_at n passed) in
+      → late' ≡ ord_max nat_cmp late (late_at n passed) → WalkedTo (n + 1) passed' late'
+  walk-slot n passed late passed' late' walked low has more greater =
+      let greatest = ord_max-nat late (late_at n passed) in
       let is = is_slot-member size slots (s + n) has in
       let hit = slots_within-slot size slots s n is in
       let longer : n + 1 ≡ suc n = omega arith in
       let next = ap within longer in
-      let here = latency-here n passed low (sym walked.count) is in
+      let here = late-here n passed low (sym walked.count) is in
       let one_more : passed' ≡ suc passed = omega arith in
       let last = ap worst_of one_more in
       record {
@@ -71,10 +70,10 @@ module _ (size : ℕ) (slots : List ℕ) (cap rate s : ℕ) where
       }
 
   -- a cycle without one
-  pub walk-other : (n passed theta passed' theta' : ℕ) → WalkedTo n passed theta
-      → (Contains slots ((s + n) % size) → ⊥) → passed' ≡ passed → theta' ≡ theta
-      → WalkedTo (n + 1) passed' theta'
-  walk-other n passed theta passed' theta' walked has same still =
+  pub walk-other : (n passed late passed' late' : ℕ) → WalkedTo n passed late
+      → (Contains slots ((s + n) % size) → ⊥) → passed' ≡ passed → late' ≡ late
+      → WalkedTo (n + 1) passed' late'
+  walk-other n passed late passed' late' walked has same still =
       let is = false_from_ne_true _ (λ slot. has (member-is_slot size slots (s + n) slot)) in
       let miss = slots_within-other size slots s n is in
       let longer : n + 1 ≡ suc n = omega arith in
@@ -86,24 +85,20 @@ module _ (size : ℕ) (slots : List ℕ) (cap rate s : ℕ) where
       }
 
   -- the whole walk
-  pub walk-end : (n passed theta : ℕ) → Ascends 0 size slots → WalkedTo n passed theta → n ≡ size
-      → theta ≡ worst_of (length slots)
-  walk-end n passed theta ascends walked whole =
+  pub walk-end : (n passed late : ℕ) → Ascends 0 size slots → WalkedTo n passed late → n ≡ size
+      → late ≡ worst_of (length slots)
+  walk-end n passed late ascends walked whole =
       let all = walked.count ∙ ap within whole ∙ slots_within-turn size slots ascends s in
       walked.worst ∙ ap worst_of all
 
--- After the walks from the first cycles: theta is the greatest latency for one of them.
-abbrev pub WorstOfStarts : ℕ → List ℕ → ℕ → ℕ → ℕ → ℕ → Type 0
-WorstOfStarts size slots cap rate starts theta =
-    theta ≡ greatest_below (λ s. worst_of size slots cap rate s (length slots)) starts
-
 -- The walks from all cycles.
-walks-end : (size : ℕ) (slots : List ℕ) (cap rate starts theta : ℕ)
-    → WorstOfStarts size slots cap rate starts theta → starts ≡ size
-    → theta ≡ latency_of size slots cap rate
+walks-end : (size : ℕ) (slots : List ℕ) (cap rate starts late : ℕ)
+    → late ≡ greatest_below (lateness_from size slots cap rate) starts → starts ≡ size
+    → div_ceil late rate ≡ latency_of size slots cap rate
 unfolding latency_of
-walks-end size slots cap rate starts theta is whole =
-    is ∙ ap (greatest_below (λ s. worst_of size slots cap rate s (length slots))) whole
+walks-end size slots cap rate starts late is whole =
+    ap (λ n. div_ceil n rate)
+    (is ∙ ap (greatest_below (lateness_from size slots cap rate)) whole)
 
 -- So what they find is the latency, with all that holds of it.
 pub record IsLatency (size : ℕ) (slots : List ℕ) (cap rate theta : ℕ) : Type 0 where
@@ -113,11 +108,11 @@ pub record IsLatency (size : ℕ) (slots : List ℕ) (cap rate theta : ℕ) : Ty
   pub within : theta ≤ size
 
 -- The walks from all cycles find the latency.
-pub walks-find : (size : ℕ) (slots : List ℕ) (cap rate starts theta : ℕ) → Ascends 0 size slots
-    → 1 ≤ rate → WorstOfStarts size slots cap rate starts theta → starts ≡ size
-    → IsLatency size slots cap rate theta
-walks-find size slots cap rate starts theta ascends some is whole =
-    let gives = walks-end size slots cap rate starts theta is whole in
+pub walks-find : (size : ℕ) (slots : List ℕ) (cap rate starts late theta : ℕ) → Ascends 0 size slots
+    → 1 ≤ rate → late ≡ greatest_below (lateness_from size slots cap rate) starts → starts ≡ size
+    → theta ≡ div_ceil late rate → IsLatency size slots cap rate theta
+walks-find size slots cap rate starts late theta ascends some is whole rounded =
+    let gives = rounded ∙ walks-end size slots cap rate starts late is whole in
     let bounds = latency_of-enough size slots cap rate some in
     record {
       gives = gives;

@@ -13,13 +13,17 @@ pub record BoundsService (size : ℕ) (slots : List ℕ) (cap rate theta : ℕ) 
   pub holds : (s q : ℕ) → s < size → 1 ≤ q → q ≤ length slots
       → rate * (nth_slot size slots s q - s) ≤ rate * theta + (cap * (q - 1) + 1) * size
 
--- The least latency with which this holds for one s and one q.
-abbrev pub latency_for : ℕ → List ℕ → ℕ → ℕ → ℕ → ℕ → ℕ
-latency_for size slots cap rate s q =
-    div_ceil (rate * (nth_slot size slots s q - s) - (cap * (q - 1) + 1) * size) rate
+-- The rate times how late the q-th slot at or after s comes, with no latency.
+abbrev pub lateness : ℕ → List ℕ → ℕ → ℕ → ℕ → ℕ → ℕ
+lateness size slots cap rate s q =
+    rate * (nth_slot size slots s q - s) - (cap * (q - 1) + 1) * size
 
--- The latency of the slots: the greatest of these.
+-- The greatest lateness of a slot at or after s.
+abbrev pub lateness_from : ℕ → List ℕ → ℕ → ℕ → ℕ → ℕ
+lateness_from size slots cap rate s =
+    greatest_below (λ k. lateness size slots cap rate s (k + 1)) (length slots)
+
+-- The latency of the slots: the greatest lateness of all, in cycles.
 unfoldable pub latency_of : ℕ → List ℕ → ℕ → ℕ → ℕ
 latency_of size slots cap rate =
-    greatest_below
-    (λ s. greatest_below (λ k. latency_for size slots cap rate s (k + 1)) (length slots)) size
+    div_ceil (greatest_below (lateness_from size slots cap rate) size) rate

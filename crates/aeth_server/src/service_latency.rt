@@ -1,8 +1,7 @@
 // The latency of a slot set.
 ghost use Rattle.std.specs.Prelude.{◌≡◌, ℕ, ◌+◌, ◌*◌, ◌≤◌, ◌<◌, length};
 ghost use Rattle.aeth_base.specs.Limits.{credits_per_flit, max_slots};
-ghost use Rattle.aeth_server.specs.Extremes.{greatest_below};
-ghost use Rattle.aeth_server.specs.Latency.{BoundsService, latency_for, latency_of};
+ghost use Rattle.aeth_server.specs.Latency.{BoundsService, lateness_from, latency_of};
 
 use aeth_slots::SlotSet;
 
@@ -22,32 +21,30 @@ pub fn latency(slots: &SlotSet, cap: u32, rate: u32) -> u32
     ensures within { result ≤ slots.now.size }
     ensures most { result ≤ max_slots }
 {
-    let mut theta = 0;
+    let mut late = 0;
     for s in 0..slots.size() {
-        theta = theta.max(latency_from(slots, cap, rate, s));
+        late = late.max(lateness_from(slots, cap, rate, s));
     }
-    theta
+    late.div_ceil(rate)
 }
 
-/// The least latency with which every slot from cycle `s` on comes in time.
-fn latency_from(slots: &SlotSet, cap: u32, rate: u32, s: u32) -> u32
+/// The rate times how late a slot from cycle `s` on comes at most, with no latency.
+fn lateness_from(slots: &SlotSet, cap: u32, rate: u32, s: u32) -> u32
     requires start { s < slots.now.size }
     requires most_cap { cap ≤ credits_per_flit }
     requires least_rate { 1 ≤ rate }
     requires capacity { rate ≤ cap * length slots.now.slots }
-    ensures { result ≡ greatest_below
-        (λ k. latency_for slots.now.size slots.now.slots cap rate s (k + 1))
-        (length slots.now.slots) }
+    ensures { result ≡ lateness_from slots.now.size slots.now.slots cap rate s }
 {
     let size = slots.size();
-    let mut theta = 0;
+    let mut late = 0;
     let mut passed = 0;
     for n in 0..size {
         if slots.has((s + n) % size) {
             let covered = (cap * passed + 1) * size;
-            theta = theta.max((rate * n).saturating_sub(covered).div_ceil(rate));
+            late = late.max((rate * n).saturating_sub(covered));
             passed += 1;
         }
     }
-    theta
+    late
 }

@@ -3,12 +3,13 @@ use Rattle.aeth_server.proofs.LatencyWalk.{IsLatency, walks-find}
 use Rattle.aeth_server.proofs.service_latency.latency.Goals as goal
 
 -- The walks from all cycles find the latency.
-found : (c : goal.After-loop-s)
-    → IsLatency c.args.slots.now.size c.args.slots.now.slots c.args.cap c.args.rate c.loop-s.theta
+found : (c : goal.After-div_ceil)
+    → IsLatency c.args.slots.now.size c.args.slots.now.slots c.args.cap c.args.rate
+    c.div_ceil.result
 found c =
     let set = c.size-s-end.ensures.set in
-    walks-find _ _ _ _ _ _ set.ascends c.requires.least_rate c.loop-s.invariant
-    (omega (arith, c.size-s-end.ensures.size))
+    walks-find _ _ _ _ _ _ _ set.ascends c.requires.least_rate c.loop-s.invariant
+    (omega (arith, c.size-s-end.ensures.size)) c.div_ceil.ensures
 
 pub returns-clause-gives : goal.returns-clause-gives
 returns-clause-gives c = (found c).gives

@@ -1,8 +1,8 @@
 use Rattle.std.proofs.Common.{arith}
 use Rattle.aeth_server.proofs.ExtremeLemmas.{true_and_false}
 use Rattle.aeth_server.proofs.LatencyWalk.{walk-slot, walk-other, walk-end, rate-within}
-use Rattle.aeth_server.proofs.service_latency.latency_from.Goals as goal
-use Rattle.aeth_server.proofs.service_latency.latency_from.Goals.{then-has, else-has}
+use Rattle.aeth_server.proofs.service_latency.lateness_from.Goals as goal
+use Rattle.aeth_server.proofs.service_latency.lateness_from.Goals.{then-has, else-has}
 
 -- The rate is at most that of a table full of credits, and the cycles are those of a table.
 pub overflow_mul-rate : goal.overflow_mul-rate
@@ -24,7 +24,7 @@ loop-n-preserved c = elim c.if-has.branch [
   | else-has w ↦
       walk-other _ _ _ _ _ _ _ _ _ _ c.loop-n.invariant
       (λ has. true_and_false _ (c.has.ensures.1 (rw c.size-size.ensures.size has)) w.if-has.false)
-      w.passed-is w.theta-is
+      w.passed-is w.late-is
 ]
 
 -- The whole table was walked.
