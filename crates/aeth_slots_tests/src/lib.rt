@@ -6,4 +6,10 @@ mod choice;
 #[cfg(test)]
 mod enumeration;
 #[cfg(test)]
+mod header;
+#[cfg(test)]
+mod latency;
+#[cfg(test)]
+mod server;
+#[cfg(test)]
 mod slot_set;
