@@ -1,6 +1,7 @@
 -- Laws of chains of smooth pairs: the test `in_one_group` finds them, and being joined by one is an
 -- equivalence.
-use Rattle.std.proofs.Common.{◌≡◌, ◌<◌, ◌≤◌, ◌&&◌, ◌++◌, ℕ, zero, suc, true, false}
+use Rattle.std.proofs.Common.{◌≡◌, ◌<◌, ◌≤◌, ◌&&◌, ◌++◌, ℕ, zero, suc, Bool, true}
+use Rattle.std.proofs.Common.{false}
 use Rattle.std.proofs.Common.{eqb, List, [], ◌∷◌, length, refl, sym, slice_get, subst, inl, inr}
 use Rattle.std.proofs.Common.{arith}
 use Rattle.std.specs.List.{AllByRecursion, IsDistinct, list_any}
@@ -11,6 +12,7 @@ use Rattle.std.proofs.lemmas.Map.Steps.{length-le_from_distinct_below}
 use Rattle.aeth_app.specs.App.{UseData, is_smooth, names_smooth_in}
 use Rattle.aeth_group.specs.Chains.{SameGroup, SmoothChain}
 use Rattle.aeth_group.specs.Groups.{in_one_group, is_chained}
+use Rattle.aeth_group.specs.Marks.{IsTransitive}
 use Rattle.aeth_group.proofs.Ranges.{any_from_passer, passer_from_any}
 
 -- ---- being joined by a chain is an equivalence
@@ -68,6 +70,17 @@ chain-back uses u (w ∷ chain) v within leads =
 pub same_group-sym : (uses : List UseData) (u v : ℕ) → u < length uses → SameGroup uses u v
     → SameGroup uses v u
 same_group-sym uses u v within joined = chain-back uses u joined.chain v within joined.leads
+
+-- A test that holds of smooth pairs and leads on holds of what a chain joins.
+pub same_group-least : (uses : List UseData) (test : ℕ → ℕ → Bool)
+    → ((u : ℕ) → test u u ≡ true) → IsTransitive test
+    → ((u v : ℕ) → v < length uses → is_smooth uses u v ≡ true → test u v ≡ true)
+    → (u : ℕ) (chain : List ℕ) (v : ℕ) → SmoothChain uses u chain v → test u v ≡ true
+same_group-least uses test itself onward smooth u [] v leads =
+    subst (λ (p : ℕ). test u p ≡ true) leads (itself u)
+same_group-least uses test itself onward smooth u (w ∷ chain) v leads =
+    onward u w v (smooth u w leads.0 leads.1)
+    (same_group-least uses test itself onward smooth w chain v leads.2)
 
 -- ---- a shortest chain
 

@@ -8,3 +8,4 @@ pub mod GroupLemmas
 pub mod MemberLemmas
 mod MakingLemmas
 pub mod UnitLemmas
+pub mod AppGroupsLemmas

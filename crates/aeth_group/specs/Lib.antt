@@ -3,3 +3,4 @@ pub mod Numbering
 pub mod Groups
 pub mod Marks
 pub mod Members
+pub mod AppGroups

@@ -2,8 +2,9 @@
 ghost use Rattle.std.specs.Prelude.{◌≡◌, ◌<◌, ◌≤◌, IfOk, count_by, length, map};
 ghost use Rattle.std.specs.List.{range_with_len};
 ghost use Rattle.aeth_app.specs.App.{has_connection, is_marked};
-ghost use Rattle.aeth_group.specs.Members.{IsGroups, are_together, group_at, groups_of, is_kept};
-ghost use Rattle.aeth_group.specs.Members.{is_member, units_of};
+ghost use Rattle.aeth_group.specs.AppGroups.{IsGroupsOf};
+ghost use Rattle.aeth_group.specs.Members.{IsGroups, are_together, group_at, groups_of, has_at};
+ghost use Rattle.aeth_group.specs.Members.{is_kept, is_member, units_of};
 
 use crate::closing::chained;
 use crate::numbering::{class_of, firsts_below};
@@ -70,7 +71,9 @@ impl Model for Groups {
 impl Groups {
     /// The groups of an application. `Err` where there was no memory.
     pub fn of(alloc: Global, app: &App) -> Result<Groups, NoMemory>
-        ensures { IfOk result (λ groups. groups ≡ groups_of app.now) }
+        ensures groups { IfOk result (λ groups. groups ≡ groups_of app.now) }
+        // use cases have one group exactly where a chain of smooth pairs joins them
+        ensures joined { IfOk result (IsGroupsOf app.now) }
     {
         let marks = chained(app);
         let count = app.uses();
@@ -102,6 +105,14 @@ impl Groups {
         ensures within { result.0 < self.now.count }
     {
         GroupId(self.uses[u.0 as usize].group)
+    }
+
+    /// Whether a use case has a connection.
+    pub fn has(&self, u: UseId, c: ConnId) -> bool
+        requires { u.0 < length self.now.uses }
+        ensures { result ≡ has_at self.now u.0 c.0 }
+    {
+        self.uses[u.0 as usize].has(c)
     }
 
     /// Whether some use case of a group has a connection.

@@ -5,6 +5,7 @@
 mod closing;
 mod grant;
 mod groups;
+pub mod laws;
 mod numbering;
 #[cfg(test)]
 mod tests;

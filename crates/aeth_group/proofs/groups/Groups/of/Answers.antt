@@ -1,6 +1,8 @@
 use Rattle.std.proofs.Common.{◌≡◌, ◌∙◌, length, map, ap, subst, sym, arith}
 use Rattle.std.specs.List.{range_with_len}
+use Rattle.aeth_group.specs.AppGroups.{IsGroupsOf}
 use Rattle.aeth_group.specs.Members.{IsGroups, use_group}
+use Rattle.aeth_group.proofs.AppGroupsLemmas.{is_groups_of}
 use Rattle.aeth_group.proofs.GroupLemmas.{class_of-marked, firsts_below-marked}
 use Rattle.aeth_group.proofs.MakingLemmas.{groups_are, uses-more}
 use Rattle.aeth_group.proofs.MemberLemmas.{is_groups-groups_of}
@@ -19,8 +21,8 @@ loop-u-preserved c =
     c.in_ok-has.ensures
 
 -- The groups are those of all use cases.
-pub returns : goal.returns
-returns c =
+pub returns-clause-groups : goal.returns-clause-groups
+returns-clause-groups c =
     let app = c.args.app.now in
     let uses = c.uses-count.ensures.uses in
     let all : c.loop-u.u ≡ length app.uses = omega arith in
@@ -30,6 +32,11 @@ returns c =
     c.chained-marks.ensures uses)
     (c.loop-u.invariant ∙ ap (λ n. map (use_group app) (range_with_len 0 n)) all)
 
+-- They are the groups of the application.
+pub returns-clause-joined : goal.returns-clause-joined
+returns-clause-joined c =
+    subst (IsGroupsOf c.args.app.now) (sym (returns-clause-groups c)) (is_groups_of c.args.app.now)
+
 -- What holds of all groups.
 pub invariant_of-result : goal.invariant_of-result
 invariant_of-result c =
@@ -37,5 +44,5 @@ invariant_of-result c =
     let few = c.uses-count.ensures.most in
     let connections = c.connections.ensures.connections in
     let most = c.connections.ensures.most in
-    subst IsGroups (sym (returns c))
+    subst IsGroups (sym (returns-clause-groups c))
     (is_groups-groups_of c.args.app.now (omega arith) (omega arith))
