@@ -26,7 +26,7 @@ without_entry-other ni slot entries entry other = (
 )
 
 -- The slot's own is gone.
-without_entry-same : (ni : NiId) (slot : ℕ) (entries : List Entry) (entry : Entry) →
+pub without_entry-same : (ni : NiId) (slot : ℕ) (entries : List Entry) (entry : Entry) →
     entry.ni.0 ≡ ni.0 → entry.slot ≡ slot → Contains (without_entry ni slot entries) entry → ⊥
 without_entry-same ni slot entries entry same at has =
     let kept = (filter-Contains _ entries entry has).1 in grind (arith, nat_tests)

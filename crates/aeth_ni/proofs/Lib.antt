@@ -1,6 +1,10 @@
 mod Constants
 pub mod EntryLemmas
+pub mod EntryWrites
+mod FlatMaps
 pub mod InterfaceLemmas
 pub mod ProgramLemmas
+pub mod ProgramWrites
 pub mod QueueLemmas
+pub mod SwitchLemmas
 pub mod WriteLemmas

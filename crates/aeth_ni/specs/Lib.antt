@@ -6,4 +6,5 @@ pub mod Limits
 pub mod Program
 pub mod Queue
 pub mod Sending
+pub mod Switch
 pub mod Writes

@@ -1,12 +1,14 @@
 //! What holds of interfaces and of the writes to their tables, over the definitions alone.
 
-ghost use Rattle.std.specs.Prelude.{◌≡◌, ◌≢◌, ℕ, List, All, take};
+ghost use Rattle.std.specs.Prelude.{◌≡◌, ◌≢◌, ◌≤◌, ℕ, List, All, Contains, length, take};
 ghost use Rattle.std.specs.List.{flat_map};
 ghost use Rattle.aeth_ni.specs.declared.row.ChannelRow.{ChannelRow};
 ghost use Rattle.aeth_ni.specs.declared.write.Write.{Write};
 ghost use Rattle.aeth_ni.specs.Entries.{Holds, HoldJust, IsFor};
 ghost use Rattle.aeth_ni.specs.Interface.{InterfaceState};
-ghost use Rattle.aeth_ni.specs.Program.{Entry, entries_after, entries_behind, entries_of};
+ghost use Rattle.aeth_ni.specs.Program.{Entry, closing_writes, entries_after, entries_behind};
+ghost use Rattle.aeth_ni.specs.Program.{entries_of, program_of};
+ghost use Rattle.aeth_ni.specs.Switch.{AreSlotsApart, IsSwitch, entries_in};
 ghost use Rattle.aeth_ni.specs.Writes.{addressee, IsWritable, written, written_by};
 
 /// A write does to its interface what it does to the list of entries, and nothing to another.
@@ -27,4 +29,25 @@ pub fn interfaces_hold_their_entries()
         (count : ℕ) → All (IsFor interfaces) program →
         HoldJust interfaces (flat_map entries_of held) →
         HoldJust (written_by (take count program) interfaces) (entries_after held program count) }
+{}
+
+/// A program leads from the entries of one use case to those of another. While channels close, each
+/// entry that is held is one of the use case that is left; from then on each is one of the use case
+/// that is entered; and behind the last write all of these are held.
+pub fn programs_lead_to_the_use_case_entered()
+    ensures closing { (left entered kept closing opening : List ChannelRow) →
+        IsSwitch left entered kept closing opening → (count : ℕ) (entry : Entry) →
+        count ≤ length (flat_map closing_writes closing) →
+        Contains (entries_after left (program_of closing opening) count) entry →
+        Contains (entries_in left) entry }
+    ensures opening { (left entered kept closing opening : List ChannelRow) →
+        IsSwitch left entered kept closing opening → (count : ℕ) (entry : Entry) →
+        length (flat_map closing_writes closing) ≤ count →
+        Contains (entries_after left (program_of closing opening) count) entry →
+        Contains (entries_in entered) entry }
+    ensures behind { (left entered kept closing opening : List ChannelRow) →
+        IsSwitch left entered kept closing opening → AreSlotsApart entered kept closing →
+        (entry : Entry) → Contains (entries_in entered) entry →
+        Contains (entries_after left (program_of closing opening)
+        (length (program_of closing opening))) entry }
 {}
