@@ -11,8 +11,6 @@ mod number;
 mod path;
 mod shown;
 mod steps;
-#[cfg(test)]
-mod tests;
 
 pub use fault::{BrokenRule, Fault};
 pub use ids::{Channel, ConnId, CoreId, GroupId, LinkId, NiId, RouterId, Side, Unit, UseId};

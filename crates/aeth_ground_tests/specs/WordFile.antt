@@ -25,6 +25,7 @@ rule_of (TooLong broken) = Some record {
 }
 rule_of Memory = None
 
+-- A word has at most 4 bytes.
 abbrev pub check_word : List ℕ → Result Unit BrokenRule
 check_word text = if nat_le (length text) 4 then Ok tt else Err (too_long (length text))
 

@@ -1,4 +1,15 @@
-//! Tests of numbers, names, paths, sinks, shelves and documents, above the libraries that have them.
+//! Tests of numbers, names, paths, readers of files, sinks and shelves, above the libraries that have
+//! them.
 #![tactic(auto)]
 
+#[cfg(test)]
+mod host;
+#[cfg(test)]
+mod names;
+#[cfg(test)]
+mod numbers;
+#[cfg(test)]
+mod shelves;
+#[cfg(test)]
+mod sinks;
 mod word_file;

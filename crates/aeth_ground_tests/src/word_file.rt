@@ -4,8 +4,10 @@ ghost use Rattle.aeth_ground_tests.specs.WordFile.{check_word, rule_of, word_of}
 ghost use Rattle.aeth_ground_tests.specs.declared.word_file.WordFault.TheVariants.{Memory};
 ghost use Rattle.std.specs.Prelude.{◌≡◌, Err, IfOk, Some, is_some};
 
-use aeth_base::{Broken, BrokenRule, Fault, Name, NoMemory, Shown};
+use aeth_base::{Broken, BrokenRule, Fault, NoMemory, Shown};
 use std::alloc::Global;
+#[cfg(test)]
+use std::test::Fail;
 
 /// Why a file of one word isn't read.
 #[derive(Clone, Copy, Debug)]
@@ -89,14 +91,16 @@ pub fn read_word(alloc: Global, text: &[u8]) -> Result<Vec<u8>, WordFault>
     Ok(copy_of(alloc, text)?)
 }
 
-fn is_refused<F: Fault>(fault: &F) -> bool
+/// Whether a fault shows a rule, over the trait alone.
+pub(crate) fn shows_rule<F: Fault>(fault: &F) -> bool
     ensures { result ≡ is_some (F.rule fault.now) }
 {
     fault.broken_rule().is_some()
 }
 
-fn refused(alloc: Global, text: &[u8]) -> Option<BrokenRule>
-    ensures { (b : BrokenRule) → result ≡ Some b → word_of text.now ≡ Err b }
+/// The rule that a file breaks, as a caller of the reader learns it.
+pub(crate) fn refused(alloc: Global, text: &[u8]) -> Option<BrokenRule>
+    ensures { (broken : BrokenRule) → result ≡ Some broken → word_of text.now ≡ Err broken }
 {
     let Err(fault) = read_word(alloc, text) else {
         return None;
@@ -104,8 +108,26 @@ fn refused(alloc: Global, text: &[u8]) -> Option<BrokenRule>
     fault.broken_rule()
 }
 
-fn copied(name: &Name) -> Option<Name>
-    ensures { result ≡ Some name.now }
-{
-    Name::new(name.as_bytes())
+#[test]
+fn a_reader_gives_the_word_or_the_broken_rule(rt: HostRuntime) -> Result<(), Fail> {
+    let alloc = rt.alloc();
+    assert_eq!(rt;
+        read_word(alloc, b"flit").ok().as_deref(),
+        Some(b"flit".as_slice())
+    );
+    assert!(rt; shows_rule(&WordFault::NoWord) && !shows_rule(&WordFault::Memory));
+    for (text, rule, name, value) in [
+        (b"".as_slice(), 0, "NoWord", Shown::Nothing),
+        (b"flits".as_slice(), 1, "TooLong", Shown::Number(5)),
+    ] {
+        let Some(broken) = refused(alloc, text) else {
+            panic!(rt; "{name}");
+        };
+        assert_eq!(rt;
+            (broken.rule, broken.name, broken.value),
+            (rule, name, value)
+        );
+    }
+    assert!(rt; refused(alloc, b"flit").is_none());
+    Ok(())
 }

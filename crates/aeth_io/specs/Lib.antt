@@ -1,4 +1,5 @@
 pub mod Causes
+pub mod Limits
 pub mod MemShelf
 pub mod MemSink
 pub mod Shelf

@@ -17,10 +17,11 @@ pub record File : Type 0 where
 abbrev pub files_of : List (String Global × Vec ℕ Global) → List File
 files_of pairs = map (λ p. record { name = string_bytes p.0; bytes = p.1.items }) pairs
 
--- The files that a shelf in memory holds; the numbers of the calls that fail, counted from 0; and
--- how many calls were made, and how many failed.
+-- The files that a shelf in memory holds, and how many bytes it gives at a call; the numbers of the
+-- calls that fail, counted from 0; and how many calls were made, and how many failed.
 pub record ShelfState : Type 0 where
   pub files : List File
+  pub most : ℕ
   pub fail : List ℕ
   pub calls : ℕ
   pub faults : ℕ
@@ -35,14 +36,15 @@ abbrev pub is_refusing : ShelfState → List ℕ → Bool
 is_refusing shelf name =
     list_any (λ n. n == shelf.calls) shelf.fail || is_none (content_of shelf.files name)
 
--- How many bytes a call gives from a place on: as many as the file has there, and as are asked for.
-abbrev pub given_of : List ℕ → ℕ → ℕ → ℕ
-given_of bytes at room = min room (length bytes - at)
+-- How many bytes a call gives from a place on: as many as the file has there, as are asked for, and
+-- as a call gives at most, whichever is least.
+abbrev pub given_of : ℕ → List ℕ → ℕ → ℕ → ℕ
+given_of most bytes at room = min (min room most) (length bytes - at)
 
 -- The buffer after a call that gives them: they are its first bytes, and the others stay.
-abbrev pub buffer_after : List ℕ → ℕ → List ℕ → List ℕ
-buffer_after bytes at into =
-    let n = given_of bytes at (length into) in take n (drop at bytes) ++ drop n into
+abbrev pub buffer_after : ℕ → List ℕ → ℕ → List ℕ → List ℕ
+buffer_after most bytes at into =
+    let n = given_of most bytes at (length into) in take n (drop at bytes) ++ drop n into
 
 -- The shelf after a call on a name.
 abbrev pub after_read : ShelfState → List ℕ → ShelfState

@@ -7,12 +7,10 @@ mod mem_shelf;
 mod mem_sink;
 mod shelf;
 mod sink;
-#[cfg(test)]
-mod tests;
 
 pub use host_shelf::HostShelf;
 pub use host_sink::HostSink;
 pub use mem_shelf::MemShelf;
 pub use mem_sink::MemSink;
-pub use shelf::{MAX_FILE, ReadFail, Shelf, read_all};
+pub use shelf::{MAX_FILE_BYTES, ReadFail, Shelf, read_all};
 pub use sink::{Failed, Sink, write_all};

@@ -14,6 +14,7 @@ use std::marker::Model;
 #[derive(Drop)]
 pub struct MemShelf {
     files: Vec<(String, Vec<u8>)>,
+    most: usize,
     fail: Vec<u64>,
     calls: u64,
     faults: u64,
@@ -21,15 +22,19 @@ pub struct MemShelf {
 
 impl Model for MemShelf {
     ghost use Rattle.aeth_io.specs.MemShelf.{ShelfState, files_of};
+    ghost use Rattle.std.specs.Prelude.{◌<◌};
 
     ghost Value = { ShelfState };
 
     ghost view = { λ shelf. record {
       files = files_of shelf.files.items;
+      most = shelf.most;
       fail = shelf.fail.items;
       calls = shelf.calls;
       faults = shelf.faults;
     } };
+
+    ghost invariant = { λ shelf. 0 < shelf.most };
 }
 
 impl MemShelf {
@@ -38,6 +43,21 @@ impl MemShelf {
     pub fn new(files: Vec<(String, Vec<u8>)>, fail: Vec<u64>) -> MemShelf
         ensures { result ≡ record {
           files = files_of files.items;
+          most = usize.MAX;
+          fail = fail.items;
+          calls = 0;
+          faults = 0;
+        } }
+    {
+        MemShelf::short(files, usize::MAX, fail)
+    }
+
+    /// Makes such a shelf, of which a call gives at most `most` bytes.
+    pub fn short(files: Vec<(String, Vec<u8>)>, most: usize, fail: Vec<u64>) -> MemShelf
+        requires { 0 < most }
+        ensures { result ≡ record {
+          files = files_of files.items;
+          most = most;
           fail = fail.items;
           calls = 0;
           faults = 0;
@@ -45,10 +65,18 @@ impl MemShelf {
     {
         MemShelf {
             files,
+            most,
             fail,
             calls: 0,
             faults: 0,
         }
+    }
+
+    /// How many calls were made; the greatest `u64` where they were more.
+    pub fn calls(&self) -> u64
+        ensures { result ≡ self.now.calls }
+    {
+        self.calls
     }
 }
 
@@ -58,13 +86,14 @@ impl Shelf for MemShelf {
     ghost faults = { λ shelf name. shelf.faults };
 
     /// A call whose number is listed, or on a name that no file has, fails and raises the count of
-    /// faults. Any other gives as many bytes as the file has from `at` on, and as are asked for.
+    /// faults. Any other gives as many bytes as the file has from `at` on, as are asked for, and as
+    /// a call gives at most, whichever is least.
     fn read(&mut self, name: &str, at: u64, into: &mut [u8]) -> Result<usize, Failed>
         ensures fails { is_err result ≡ is_refusing self.old name.now }
         ensures gives { (bytes : List ℕ) → content_of self.old.files name.now ≡ Some bytes
-            → IfOk result (λ n. n ≡ given_of bytes at (length into.old)) }
+            → IfOk result (λ n. n ≡ given_of self.old.most bytes at (length into.old)) }
         ensures filled { (bytes : List ℕ) → content_of self.old.files name.now ≡ Some bytes
-            → IfOk result (λ _. into.new ≡ buffer_after bytes at into.old) }
+            → IfOk result (λ _. into.new ≡ buffer_after self.old.most bytes at into.old) }
         ensures untouched { OnErr result (into.new ≡ into.old) }
         ensures after { self.new ≡ after_read self.old name.now }
 
@@ -91,7 +120,7 @@ impl Shelf for MemShelf {
             self.faults = self.faults.saturating_add(1);
             return Err(Failed);
         }
-        Ok(copy_from(bytes, at as usize, into))
+        Ok(copy_from(self.most, bytes, at as usize, into))
     }
 }
 
@@ -106,12 +135,12 @@ fn find_file<'a>(files: &'a [(String, Vec<u8>)], name: &str) -> Option<&'a [u8]>
     None
 }
 
-fn copy_from(bytes: &[u8], at: usize, into: &mut [u8]) -> usize
-    ensures given { result ≡ given_of bytes.now at (length into.old) }
-    ensures filled { into.new ≡ buffer_after bytes.now at into.old }
+fn copy_from(most: usize, bytes: &[u8], at: usize, into: &mut [u8]) -> usize
+    ensures given { result ≡ given_of most bytes.now at (length into.old) }
+    ensures filled { into.new ≡ buffer_after most bytes.now at into.old }
 {
     let at = at.min(bytes.len());
-    let given = into.len().min(bytes.len() - at);
+    let given = into.len().min(most).min(bytes.len() - at);
     into[..given].copy_from_slice(&bytes[at..at + given]);
     given
 }

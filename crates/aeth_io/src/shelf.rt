@@ -1,5 +1,6 @@
 // A place of files, which may fail.
 ghost use Rattle.aeth_io.specs.Causes.{HasCause, Rose};
+ghost use Rattle.aeth_io.specs.Limits.{max_file_bytes};
 ghost use Rattle.aeth_io.specs.Shelf.{IsEndOf, ReadsFrom};
 ghost use Rattle.aeth_io.specs.declared.shelf.ReadFail.TheVariants.{Fault, TooLong};
 ghost use Rattle.std.specs.Prelude.{◌≡◌, ◌<◌, ◌≤◌, ℕ, List, Option, Some, Err, ◌++◌, length, IfOk};
@@ -12,7 +13,7 @@ use std::error::Error;
 use std::fmt;
 
 /// The most bytes of a file.
-pub const MAX_FILE: usize = 33_554_432;
+pub const MAX_FILE_BYTES: usize = 33_554_432;
 
 /// How many bytes are asked for at a time.
 const CHUNK: usize = 16_384;
@@ -22,8 +23,8 @@ pub trait Shelf {
     /// The bytes of the file of a name, where the shelf tells them.
     ghost content: { Self → List ℕ → Option (List ℕ) };
 
-    /// How many calls on a name failed. It never falls, and stays at the greatest `u64` once it is
-    /// there.
+    /// How many calls on a name failed. It never falls, and a call that fails raises it or leaves it
+    /// at the greatest `u64`.
     ghost faults: { Self → List ℕ → ℕ };
 
     /// Gives the next bytes of a file from place `at` on, and says how many: none, where some were
@@ -44,7 +45,7 @@ pub trait Shelf {
 pub enum ReadFail {
     /// A call on the shelf failed.
     Fault,
-    /// The file has more than `MAX_FILE` bytes.
+    /// The file has more than `MAX_FILE_BYTES` bytes.
     TooLong,
     /// Memory was wanting.
     Memory,
@@ -74,20 +75,20 @@ impl From<NoMemory> for ReadFail {
 }
 
 /// The whole content of a file. Each turn takes at least one byte, so it ends at the latest past
-/// `MAX_FILE` bytes. `Fault` comes only where a call on this name failed, `TooLong` only where the
-/// file has more than `MAX_FILE` bytes.
+/// `MAX_FILE_BYTES` bytes. `Fault` comes only where a call on this name failed, `TooLong` only where the
+/// file has more than `MAX_FILE_BYTES` bytes.
 ///
 /// What is said of the content holds of each shelf that tells it.
 pub fn read_all<H: Shelf>(alloc: Global, shelf: &mut H, name: &str) -> Result<Vec<u8>, ReadFail>
     ensures ok { (bytes : List ℕ) → H.content shelf.old name.now ≡ Some bytes
         → IfOk result (λ text. text.items ≡ bytes) }
-    ensures within { IfOk result (λ text. length text.items ≤ MAX_FILE) }
+    ensures within { IfOk result (λ text. length text.items ≤ max_file_bytes) }
 
     // A file that is too long is refused, and no other is refused as such.
     ensures too_long { (bytes : List ℕ) → H.content shelf.old name.now ≡ Some bytes
-        → MAX_FILE < length bytes → IsErr result }
+        → max_file_bytes < length bytes → IsErr result }
     ensures only_too_long { (bytes : List ℕ) → H.content shelf.old name.now ≡ Some bytes
-        → result ≡ Err TooLong → MAX_FILE < length bytes }
+        → result ≡ Err TooLong → max_file_bytes < length bytes }
     ensures cause { result ≡ Err Fault
         → Rose (H.faults shelf.old name.now) (H.faults shelf.new name.now) }
     ensures later { (other : List ℕ) → H.faults shelf.old other ≤ H.faults shelf.new other }
@@ -95,7 +96,7 @@ pub fn read_all<H: Shelf>(alloc: Global, shelf: &mut H, name: &str) -> Result<Ve
 {
     let mut text = Vec::new(alloc);
     let mut chunk = [0; CHUNK];
-    while text.len() <= MAX_FILE {
+    while text.len() <= MAX_FILE_BYTES {
         let Ok(taken) = shelf.read(name, text.len() as u64, &mut chunk) else {
             return Err(ReadFail::Fault);
         };

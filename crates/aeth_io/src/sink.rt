@@ -26,7 +26,8 @@ pub trait Sink {
     /// The bytes that were written, where the sink tells them.
     ghost written: { Self → Option (List ℕ) };
 
-    /// How many calls failed. It never falls, and stays at the greatest `u64` once it is there.
+    /// How many calls failed. It never falls, and a call that fails raises it or leaves it at the
+    /// greatest `u64`.
     ghost faults: { Self → ℕ };
 
     /// Takes some bytes of the piece, from its first on, and says how many: at least one of a piece

@@ -1,5 +1,6 @@
-use Rattle.std.proofs.Common.{◌≡◌, ◌≤◌, ◌-◌, ℕ, List, Some, length}
+use Rattle.std.proofs.Common.{◌≡◌, ◌≤◌, ◌+◌, ◌-◌, ℕ, List, Some, length}
 use Rattle.aeth_io.proofs.Reading.{IsReadSoFar}
+use Rattle.aeth_io.specs.Limits.{max_file_bytes}
 use Rattle.aeth_io.proofs.shelf.read_all.Given as goal
 
 abbrev pub invariant-loop-chunk : goal.invariant-loop-chunk
@@ -11,4 +12,4 @@ invariant-loop-chunk g l = record {
 }
 
 abbrev pub decreases-loop-chunk : goal.decreases-loop-chunk
-decreases-loop-chunk g l = 33554433 - length l.text.items
+decreases-loop-chunk g l = max_file_bytes + 1 - length l.text.items
