@@ -8,7 +8,7 @@ home=$(dirname -- "$(dirname -- "$(readlink -f -- "$0")")")
 
 usage=$(instructions)
 printf '%4s  %-6s  %4s  %4s  %12s\n' SIZE FREE GAP NEED INSTRUCTIONS
-for size in 8 16 32 64; do
+for size in 8 16 32 64 128; do
     for step in 1 2; do
         free=$(seq -s , 0 "$step" $((size - 1)))
         name=every

@@ -1,4 +1,5 @@
-mod Listing
-mod Reading
 mod FileLemmas
+mod Listing
+mod PromiseLemmas
+mod Reading
 mod TaskLemmas

@@ -6,6 +6,7 @@ use Rattle.std.specs.List.{flat_map, join_with_byte}
 use Rattle.std.specs.Prelude.{slice_get, IfSome}
 use Rattle.std.proofs.lemmas.List.{flat_map_more, map-id, take_more}
 use Rattle.std.proofs.lemmas.Option.{slice_get_cases}
+use Rattle.aeth_cli.specs.Words.{comma}
 use Rattle.aeth_cli.specs.Text.{list_text}
 
 -- What is joined by a byte is the first piece, and then the byte and a piece for each other one.
@@ -18,10 +19,10 @@ join_with_byte-cons byte text x (y ∷ ys) =
 -- The text of a list that was gone through from its second number on.
 pub list_text-cons : (slots : List ℕ) (first : ℕ) (rest gone : List ℕ)
     → slots ≡ first ∷ rest → map (λ (n : ℕ). n) gone ≡ rest
-    → decimal first ++ flat_map (λ n. 44 ∷ decimal n) gone ≡ list_text slots
+    → decimal first ++ flat_map (λ n. comma ∷ decimal n) gone ≡ list_text slots
 list_text-cons slots first rest gone starts goes =
     let same : gone ≡ rest = sym (map-id gone) ∙ goes in
-    rw (starts, same) (sym (join_with_byte-cons 44 (λ n. decimal n) first rest))
+    rw (starts, same) (sym (join_with_byte-cons comma (λ n. decimal n) first rest))
 
 -- What is put behind the texts of the first items for the next one stands behind them.
 pub flat_map-take_more : {X : Type 0} (f : X → List ℕ) (text before after : List ℕ) (xs : List X)

@@ -11,7 +11,7 @@ use Rattle.std.proofs.lemmas.List.{at_drop_more, at_drop_all}
 use Rattle.std.proofs.lemmas.Option.{none-some, option_and_then_some, same_Some}
 use Rattle.aeth_slots.specs.SlotSet.{Slots}
 use Rattle.aeth_base.specs.Number.{number_of}
-use Rattle.aeth_cli.specs.Words.{bounded, number_within, rising_slots, slot_set_of}
+use Rattle.aeth_cli.specs.Words.{comma, bounded, number_within, rising_slots, slot_set_of}
 
 -- After some of the pieces their slots are read, and the next one is at least the least.
 pub record IsReadSoFar (size : ℕ) (pieces : List (List ℕ)) (count least : ℕ) (slots : List ℕ)
@@ -86,7 +86,7 @@ read-all size pieces count least slots read ended =
 -- A word that isn't `-` is read by its pieces.
 pub slot_set_of-list : (size : ℕ) (word : List ℕ) (read : Option (List ℕ))
     → false ≡ bytes_eq word (codes "-")
-    → rising_slots size 0 (slice_split (λ byte. eqb byte 44) word) ≡ read
+    → rising_slots size 0 (slice_split (λ byte. eqb byte comma) word) ≡ read
     → slot_set_of size word
     ≡ option_map (λ slots. let set : Slots = record { size = size; slots = slots } in set) read
 slot_set_of-list size word read no_dash is_read = rw (← no_dash, is_read) refl

@@ -1,14 +1,10 @@
--- Files that a command reads and judges, one after the other.
+-- Files that a command reads and judges, each a step of its task.
 --
---   too_long, reads_file      a file, which is refused where it is too long
---   judged      what comes of a file's value, or of the rule that it breaks
---   chip_refusal, with_chip      a chip file
---   app_refusal, with_app      an application file
---   GoesOn      what a call leaves of a task that begins with such a file
---   IsJudged      what a call gives where a file was judged
+--   text_file    a file that isn't too long
+--   judged       what a file tells, or the end by the rule that it breaks
+--   chip_file, app_file    a chip file; an application file
 -- This project's own.
-use Rattle.std.specs.Prelude.{ℕ, ◌≡◌, ◌≢◌, nat_le, List, length, Option, Result, Ok, Err, codes}
-use Rattle.std.specs.Prelude.{if◌then◌else◌}
+use Rattle.std.specs.Prelude.{ℕ, nat_le, List, length, Result, Ok, Err, codes, if◌then◌else◌}
 use Rattle.aeth_app.specs.App.{AppData}
 use Rattle.aeth_app.specs.AppFile.{app_of}
 use Rattle.aeth_app.specs.declared.fault.AppFault.{AppFault}
@@ -20,25 +16,22 @@ use Rattle.aeth_chip.specs.declared.fault.ChipFault.TheVariants.{BadToml, WrongK
 use Rattle.aeth_chip.specs.declared.fault.ChipFault.TheVariants.{NameTwice, UnknownName}
 use Rattle.aeth_chip.specs.declared.fault.ChipFault.TheVariants.{TooManyPorts, NiNotSingle, Memory}
 use Rattle.aeth_io.specs.declared.shelf.TheConstants.{MAX_FILE}
-use Rattle.aeth_cli.specs.declared.files.Judged.{Judged}
-use Rattle.aeth_cli.specs.declared.files.Judged.TheVariants.{Told, Ends}
-use Rattle.aeth_cli.specs.declared.status.TheConstants.{USAGE}
 use Rattle.aeth_cli.specs.Job.{Job}
 use Rattle.aeth_cli.specs.Refusal.{nowhere, refused_file}
-use Rattle.aeth_cli.specs.Task.{IsAnswer, Leads, Task, ends, reads}
+use Rattle.aeth_cli.specs.Task.{Step, ends, reads}
 
 -- A file that is too long is refused before all else.
 abbrev pub too_long : List ℕ → Job
 too_long file = refused_file file 0 (codes "TooLong") nowhere
 
--- A file is read, and if it isn't too long, judged.
-abbrev pub reads_file : List ℕ → List ℕ → (List ℕ → Task) → Task
-reads_file file name next =
+-- A file is read, by its word in texts and its name on the shelf, and mustn't be too long.
+abbrev pub text_file : List ℕ → List ℕ → Step (List ℕ)
+text_file file name next =
     reads file name
     (λ bytes. if nat_le (length bytes) MAX_FILE then next bytes else ends (too_long file))
 
 -- What comes of a value, or the end by the rule that is broken.
-abbrev pub judged : {A E : Type 0} → (E → Job) → Result A E → (A → Task) → Task
+abbrev pub judged : {A E : Type 0} → (E → Job) → Result A E → Step A
 judged refusal (Ok value) next = next value
 judged refusal (Err fault) next = ends (refusal fault)
 
@@ -52,11 +45,6 @@ chip_refusal (UnknownName broken) = refused_file (codes "chip") 5 (codes "Unknow
 chip_refusal (TooManyPorts broken) = refused_file (codes "chip") 6 (codes "TooManyPorts") broken
 chip_refusal (NiNotSingle broken) = refused_file (codes "chip") 7 (codes "NiNotSingle") broken
 chip_refusal Memory = refused_file (codes "chip") 8 (codes "Memory") nowhere
-
--- A chip file is read and judged, and what comes next comes of its chip.
-abbrev pub with_chip : List ℕ → (ChipData → Task) → Task
-with_chip name next =
-    reads_file (codes "chip") name (λ bytes. judged chip_refusal (chip_of bytes) next)
 
 -- The refusal of an application file by a fault. `app_of` never lacks memory, so the last is never
 -- asked.
@@ -74,23 +62,12 @@ app_refusal (app.SeatsOverfull broken) =
     refused_file (codes "app") 10 (codes "SeatsOverfull") broken
 app_refusal app.Memory = refused_file (codes "app") 11 (codes "Memory") nowhere
 
--- An application file is read and judged for a chip, and what comes next comes of its application.
-abbrev pub with_app : ChipData → List ℕ → (AppData → Task) → Task
-with_app chip name next =
-    reads_file (codes "app") name (λ bytes. judged app_refusal (app_of chip bytes) next)
+-- A chip file.
+abbrev pub chip_file : List ℕ → Step ChipData
+chip_file name next =
+    text_file (codes "chip") name (λ bytes. judged chip_refusal (chip_of bytes) next)
 
--- What a call leaves of a task that reads a file and goes on with what it tells: where it tells
--- something, what comes next of that; where it doesn't, the answer.
-abbrev pub GoesOn : {X A : Type 0} → (List ℕ → Option (List ℕ)) → (List ℕ → ℕ) → (List ℕ → ℕ)
-    → ((A → Task) → Task) → (X → A) → Judged X → Type 0
-GoesOn {X} {A} content old new task view (Told value) =
-    (next : A → Task) → Leads content old new (task next) (next (view value))
-GoesOn {X} {A} content old new task view (Ends answer) =
-    (answer.status ≢ USAGE) × ((next : A → Task) → IsAnswer content old new (task next) answer)
-
--- What a call gives where a file was judged: the value of its definition, or the refusal of its
--- fault.
-abbrev pub IsJudged : {X A E : Type 0} → (E → Job) → Result A E → (X → A) → Judged X → Type 0
-IsJudged {X} {A} {E} refusal defined view (Told value) = defined ≡ Ok (view value)
-IsJudged {X} {A} {E} refusal defined view (Ends answer) =
-    (fault : E) × (defined ≡ Err fault) × (answer ≡ refusal fault)
+-- An application file for a chip.
+abbrev pub app_file : ChipData → List ℕ → Step AppData
+app_file chip name next =
+    text_file (codes "app") name (λ bytes. judged app_refusal (app_of chip bytes) next)

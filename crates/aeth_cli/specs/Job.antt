@@ -1,7 +1,7 @@
 -- Jobs: a status and a text.
 -- This project's own.
-use Rattle.std.specs.Prelude.{ℕ, ◌==◌, List, [], if◌then◌else◌}
-use Rattle.aeth_cli.specs.declared.status.TheConstants.{DONE}
+use Rattle.std.specs.Prelude.{ℕ, ◌==◌, List, [], codes, if◌then◌else◌}
+use Rattle.aeth_cli.specs.Status.{done_status, not_granted_status, usage_status}
 
 -- A status, and the text that goes with it.
 pub record Job : Type 0 where
@@ -10,16 +10,20 @@ pub record Job : Type 0 where
 
 -- The text of a job that is done goes to `out`.
 abbrev pub out_text : Job → List ℕ
-out_text job = if job.status == DONE then job.text else []
+out_text job = if job.status == done_status then job.text else []
 
 -- The text of every other job goes to `err`.
 abbrev pub err_text : Job → List ℕ
-err_text job = if job.status == DONE then [] else job.text
+err_text job = if job.status == done_status then [] else job.text
 
 -- A job that is done, with its text.
 abbrev pub done : List ℕ → Job
-done text = record { status = DONE; text = text }
+done text = record { status = done_status; text = text }
 
--- A job that is refused with a status and a line.
-abbrev pub refused : ℕ → List ℕ → Job
-refused status line = record { status = status; text = line }
+-- What is asked for can't be granted, and the text says why.
+abbrev pub not_granted : List ℕ → Job
+not_granted text = record { status = not_granted_status; text = text }
+
+-- The words are no command.
+abbrev pub usage : Job
+usage = record { status = usage_status; text = codes "usage\n" }

@@ -1,10 +1,12 @@
-pub mod Answers
-pub mod AppCommand
-pub mod ChipCommand
-pub mod Command
+pub mod Commands
 pub mod Files
 pub mod Job
+pub mod Limits
+pub mod Places
+pub mod Promise
 pub mod Refusal
+pub mod Status
+pub mod Stop
 pub mod Task
 pub mod Text
 pub mod Words

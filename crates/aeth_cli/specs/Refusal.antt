@@ -4,8 +4,8 @@ use Rattle.std.specs.Prelude.{ℕ, ◌++◌, List, codes, decimal}
 use Rattle.aeth_base.specs.declared.shown.Broken.{Broken}
 use Rattle.aeth_base.specs.declared.shown.Shown.{Shown}
 use Rattle.aeth_base.specs.declared.shown.Shown.TheVariants.{Nothing, Odd, Number, Word}
-use Rattle.aeth_cli.specs.declared.status.TheConstants.{INPUT_REFUSED}
-use Rattle.aeth_cli.specs.Job.{Job, refused}
+use Rattle.aeth_cli.specs.Job.{Job}
+use Rattle.aeth_cli.specs.Status.{refused_status}
 
 -- The value as a refusal line shows it.
 abbrev pub value_text : Shown → List ℕ
@@ -22,7 +22,8 @@ refusal_text file rule name broken =
 
 -- A file is refused for a rule.
 abbrev pub refused_file : List ℕ → ℕ → List ℕ → Broken → Job
-refused_file file rule name broken = refused INPUT_REFUSED (refusal_text file rule name broken)
+refused_file file rule name broken =
+    record { status = refused_status; text = refusal_text file rule name broken }
 
 -- A rule that has no place and no value.
 abbrev pub nowhere : Broken

@@ -1,4 +1,4 @@
--- Words of a command line that are numbers in a range or lists of slots.
+-- Words of a command line: numbers in a range, lists of slots, names of files.
 -- This project's own.
 use Rattle.std.specs.Prelude.{ℕ, ◌+◌, ◌-◌, ◌&&◌, ◌==◌, nat_le, if◌then◌else◌, List, [], ◌∷◌, Option}
 use Rattle.std.specs.Prelude.{Some, None, codes}
@@ -7,7 +7,15 @@ use Rattle.std.specs.List.{slice_split}
 use Rattle.std.specs.Str.{bytes_eq}
 use Rattle.aeth_base.specs.Number.{number_of}
 use Rattle.aeth_slots.specs.SlotSet.{Slots}
-use Rattle.aeth_cli.specs.declared.words.TheConstants.{COMMA}
+
+-- What stands between the numbers of a list: a comma.
+abbrev pub comma : ℕ
+comma = 44
+
+-- A value, and then what comes of it; none where there is none.
+infixl 10 ◌>>=◌
+abbrev pub ◌>>=◌ : {A B : Type 0} → Option A → (A → Option B) → Option B
+value >>= next = option_and_then next value
 
 -- A number, where it lies between two bounds.
 abbrev pub bounded : ℕ → ℕ → ℕ → Option ℕ
@@ -29,9 +37,14 @@ rising_slots size least (text ∷ rest) =
 abbrev pub slots_of : ℕ → List ℕ → Option (List ℕ)
 slots_of size word =
     if bytes_eq word (codes "-") then Some []
-    else rising_slots size 0 (slice_split (λ byte. byte == COMMA) word)
+    else rising_slots size 0 (slice_split (λ byte. byte == comma) word)
 
 -- The same as a slot set of that table.
 abbrev pub slot_set_of : ℕ → List ℕ → Option Slots
 slot_set_of size word =
     option_map (λ slots. record { size = size; slots = slots }) (slots_of size word)
+
+-- The name of a file: any word but the empty one.
+abbrev pub file_name_of : List ℕ → Option (List ℕ)
+file_name_of [] = None
+file_name_of (byte ∷ rest) = Some (byte ∷ rest)

@@ -1,19 +1,12 @@
-// The answer to the words: a status and its text.
-ghost use Rattle.aeth_cli.specs.Answers.{chosen_job, latency_job, task, usage};
-ghost use Rattle.aeth_cli.specs.Job.{done, refused};
-ghost use Rattle.aeth_cli.specs.Task.{IsAnswer, ends};
-ghost use Rattle.aeth_slots.specs.Choice.{chosen};
-ghost use Rattle.std.specs.Prelude.{◌≡◌, ◌≤◌, ◌∷◌, [], IfOk, map, string_bytes};
+// What a command comes to: a status and a text.
+ghost use Rattle.aeth_cli.specs.Files.{too_long};
+ghost use Rattle.aeth_cli.specs.Job.{done, not_granted, usage};
+ghost use Rattle.aeth_cli.specs.Refusal.{refused_file, value_text};
+ghost use Rattle.aeth_cli.specs.Task.{read_fault};
+ghost use Rattle.std.specs.Prelude.{◌≡◌, ◌++◌, IfOk, OnOk};
 
-use crate::app_command::app_answer;
-use crate::chip_command::chip_answer;
-use crate::command::{Command, parse};
-use crate::status::{DONE, NOT_GRANTED, USAGE};
-use crate::text::{latency_line, push_slots};
-use aeth_base::NoMemory;
-use aeth_io::Shelf;
-use aeth_server::MAX_PATH;
-use aeth_slots::{MAX_SIZE, SlotSet, choose};
+use crate::status::Status;
+use aeth_base::{Broken, NoMemory, Shown, push_number};
 use std::alloc::Global;
 use std::marker::Model;
 
@@ -21,121 +14,125 @@ use std::marker::Model;
 /// else to `err`.
 #[derive(Drop)]
 pub struct Answer {
-    pub status: u8,
+    pub status: Status,
     pub text: Vec<u8>,
 }
 
 impl Model for Answer {
     ghost use Rattle.aeth_cli.specs.Job.{Job};
+    ghost use Rattle.aeth_cli.specs.Status.{number_of};
 
     ghost Value = { Job };
 
-    ghost view = { λ a. record { status = a.status; text = a.text.items } };
+    ghost view = { λ a. record { status = number_of a.status; text = a.text.items } };
 }
 
+/// Why a command doesn't come to its last step.
+#[derive(Drop)]
+pub enum Stop {
+    /// It ends before, with an answer.
+    Ends(Answer),
+    /// Memory was wanting.
+    Memory,
+}
+
+impl From<NoMemory> for Stop {
+    ghost use Rattle.aeth_cli.specs.declared.answer.Stop.TheVariants.{Memory};
+    ghost use Rattle.std.specs.Prelude.{◌≡◌};
+
+    ghost from_gives = { λ _ stop. stop ≡ Memory };
+
+    fn from(_: NoMemory) -> Stop {
+        Stop::Memory
+    }
+}
+
+/// Where a rule that has no place and no value is broken.
+pub const NOWHERE: Broken = Broken {
+    place: 0,
+    value: Shown::Nothing,
+};
+
 impl Answer {
+    /// The job is done, and this is its text.
     pub fn done(text: Vec<u8>) -> Answer
         ensures { result ≡ done text.items }
     {
-        Answer { status: DONE, text }
-    }
-
-    pub fn refused(alloc: Global, status: u8, line: &str) -> Result<Answer, NoMemory>
-        ensures { IfOk result (λ answer. answer ≡ refused status line.now) }
-    {
-        let text = Vec::from_slice(alloc, line.as_bytes())?;
-        Ok(Answer { status, text })
-    }
-}
-
-/// What the words ask for, done.
-pub fn answer_to<H: Shelf>(
-    alloc: Global,
-    words: &[String],
-    shelf: &mut H,
-) -> Result<Answer, NoMemory>
-    ensures answer { IfOk result (λ answer. IsAnswer (H.content shelf.old) (H.faults shelf.old)
-        (H.faults shelf.new) (task (map string_bytes words.now)) answer) }
-    ensures usage { IfOk result (λ answer. answer.status ≡ USAGE
-        → task (map string_bytes words.now) ≡ ends usage) }
-{
-    match words {
-        [name, file] => return file_answer(alloc, name.as_str(), file.as_str(), shelf),
-        [name, chip, app] => {
-            return design_answer(alloc, name.as_str(), chip.as_str(), app.as_str(), shelf);
+        Answer {
+            status: Status::Done,
+            text,
         }
-        _ => {}
     }
-    let Some(command) = parse(words) else {
-        return Answer::refused(alloc, USAGE, "usage\n");
-    };
-    match command {
-        Command::ChooseSlots { need, gap, free } => chosen_slots(alloc, need, gap, &free),
-        Command::BoundLatency { need, links, slots } => bounded_latency(alloc, need, links, &slots),
+
+    /// What was asked for can't be granted, for the cause that the line says.
+    pub fn not_granted(alloc: Global, line: &str) -> Result<Answer, NoMemory>
+        ensures { IfOk result (λ answer. answer ≡ not_granted line.now) }
+    {
+        Ok(Answer {
+            status: Status::NotGranted,
+            text: Vec::from_slice(alloc, line.as_bytes())?,
+        })
+    }
+
+    /// The words are no command.
+    pub fn usage(alloc: Global) -> Result<Answer, NoMemory>
+        ensures { IfOk result (λ answer. answer ≡ usage) }
+    {
+        Ok(Answer {
+            status: Status::Usage,
+            text: Vec::from_slice(alloc, b"usage\n")?,
+        })
+    }
+
+    /// A file breaks a rule, at a place and by a value.
+    pub fn refused_file(
+        alloc: Global,
+        file: &str,
+        rule: u8,
+        name: &str,
+        broken: &Broken,
+    ) -> Result<Answer, NoMemory>
+        ensures { IfOk result (λ answer. answer
+            ≡ refused_file file.now rule name.now broken.now) }
+    {
+        let place = broken.place;
+        let line = format!(in alloc; "refused {file} {rule} {name} {place} ")?;
+        let mut text = line.into_bytes();
+        push_value(&mut text, &broken.value)?;
+        text.push(b'\n')?;
+        Ok(Answer {
+            status: Status::InputRefused,
+            text,
+        })
+    }
+
+    /// A file is too long.
+    pub fn too_long(alloc: Global, file: &str) -> Result<Answer, NoMemory>
+        ensures { IfOk result (λ answer. answer ≡ too_long file.now) }
+    {
+        Answer::refused_file(alloc, file, 0, "TooLong", &NOWHERE)
+    }
+
+    /// A file can't be read.
+    pub fn read_fault(alloc: Global, file: &str) -> Result<Answer, NoMemory>
+        ensures { IfOk result (λ answer. answer ≡ read_fault file.now) }
+    {
+        let line = format!(in alloc; "read fault {file}\n")?;
+        Ok(Answer {
+            status: Status::ReadFault,
+            text: line.into_bytes(),
+        })
     }
 }
 
-fn file_answer<H: Shelf>(
-    alloc: Global,
-    command: &str,
-    file: &str,
-    shelf: &mut H,
-) -> Result<Answer, NoMemory>
-    ensures answer { IfOk result (λ answer. IsAnswer (H.content shelf.old) (H.faults shelf.old)
-        (H.faults shelf.new) (task (command.now ∷ file.now ∷ [])) answer) }
-    ensures usage { IfOk result (λ answer. answer.status ≡ USAGE
-        → task (command.now ∷ file.now ∷ []) ≡ ends usage) }
+fn push_value(text: &mut Vec<u8>, value: &Shown) -> Result<(), NoMemory>
+    ensures { OnOk result (text.new.items ≡ text.old.items ++ value_text value.now) }
 {
-    if command == "chip" && !file.is_empty() {
-        return chip_answer(alloc, file, shelf);
+    match value {
+        Shown::Nothing => text.push(b'-')?,
+        Shown::Odd => text.push(b'?')?,
+        Shown::Number(n) => push_number(text, *n)?,
+        Shown::Word(name) => text.extend_from_slice(name.as_bytes())?,
     }
-    Answer::refused(alloc, USAGE, "usage\n")
-}
-
-fn design_answer<H: Shelf>(
-    alloc: Global,
-    command: &str,
-    chip: &str,
-    app: &str,
-    shelf: &mut H,
-) -> Result<Answer, NoMemory>
-    ensures answer { IfOk result (λ answer. IsAnswer (H.content shelf.old) (H.faults shelf.old)
-        (H.faults shelf.new) (task (command.now ∷ chip.now ∷ app.now ∷ [])) answer) }
-    ensures usage { IfOk result (λ answer. answer.status ≡ USAGE
-        → task (command.now ∷ chip.now ∷ app.now ∷ []) ≡ ends usage) }
-{
-    if command == "app" && !chip.is_empty() && !app.is_empty() {
-        return app_answer(alloc, chip, app, shelf);
-    }
-    Answer::refused(alloc, USAGE, "usage\n")
-}
-
-fn chosen_slots(alloc: Global, need: u32, gap: u32, free: &SlotSet) -> Result<Answer, NoMemory>
-    requires { 1 ≤ need }
-    ensures { IfOk result (λ answer. answer ≡ chosen_job (chosen free.now need gap)) }
-{
-    let Some(set) = choose(free, need, gap) else {
-        return Answer::refused(alloc, NOT_GRANTED, "no slots\n");
-    };
-    let mut text = Vec::new(alloc);
-    push_slots(&mut text, &set)?;
-    text.push(b'\n')?;
-    Ok(Answer::done(text))
-}
-
-fn bounded_latency(
-    alloc: Global,
-    need: u32,
-    links: u32,
-    slots: &SlotSet,
-) -> Result<Answer, NoMemory>
-    requires least { 1 ≤ need }
-    requires most { need ≤ MAX_SIZE }
-    requires path { links ≤ MAX_PATH }
-    ensures { IfOk result (λ answer. answer ≡ latency_job need links slots.now) }
-{
-    if slots.count() < need {
-        return Answer::refused(alloc, NOT_GRANTED, "too few slots\n");
-    }
-    Ok(Answer::done(latency_line(alloc, need, links, slots)?))
+    Ok(())
 }

@@ -3,12 +3,13 @@ ghost use Rattle.aeth_app.specs.AppFile.{app_of};
 ghost use Rattle.aeth_app.specs.declared.fault.AppFault.TheVariants.{Memory as AppMemory};
 ghost use Rattle.aeth_chip.specs.declared.fault.ChipFault.TheVariants.{Memory};
 ghost use Rattle.aeth_chip.specs.ChipFile.{chip_of};
-ghost use Rattle.aeth_cli.specs.Files.{GoesOn, IsJudged, app_refusal, chip_refusal};
-ghost use Rattle.aeth_cli.specs.Files.{reads_file, with_app, with_chip};
+ghost use Rattle.aeth_cli.specs.Files.{app_file, app_refusal, chip_file, chip_refusal, text_file};
+ghost use Rattle.aeth_cli.specs.Places.{files_of};
+ghost use Rattle.aeth_cli.specs.Stop.{IsJudged, Takes};
 ghost use Rattle.std.specs.Prelude.{◌≡◌, ◌≢◌, ℕ, List, IfOk};
 
-use crate::answer::Answer;
-use crate::refusal::NOWHERE;
+use crate::answer::{Answer, NOWHERE, Stop};
+use crate::words::FileName;
 use aeth_app::{App, AppFault, read_app};
 use aeth_base::NoMemory;
 use aeth_chip::{Chip, ChipFault, read_chip};
@@ -21,54 +22,39 @@ const CHIP: &str = "chip";
 /// How an application file is called in texts.
 const APP: &str = "app";
 
-/// What came of a file: what it tells, or the answer that ends the command.
-#[derive(Drop)]
-pub enum Judged<T: Drop> {
-    Told(T),
-    Ends(Answer),
-}
-
 /// The bytes of a file, by its word in texts and its name on the shelf.
 fn read_file<H: Shelf>(
     alloc: Global,
     file: &str,
-    name: &str,
+    name: &FileName,
     shelf: &mut H,
-) -> Result<Judged<Vec<u8>>, NoMemory>
-    ensures goes_on { IfOk result (GoesOn (H.content shelf.old) (H.faults shelf.old)
-        (H.faults shelf.new) (reads_file file.now name.now) (λ bytes. bytes.items)) }
-    ensures kept { (other : List ℕ) → H.content shelf.new other ≡ H.content shelf.old other }
+) -> Result<Vec<u8>, Stop>
+    ensures { Takes (files_of H.Shelf shelf.old) (files_of H.Shelf shelf.new)
+        (text_file file.now name.now) (λ bytes. bytes.items) result }
 {
-    match read_all(alloc, shelf, name) {
-        Ok(bytes) => Ok(Judged::Told(bytes)),
-        Err(ReadFail::Fault) => Ok(Judged::Ends(Answer::read_fault(alloc, file)?)),
-        Err(ReadFail::TooLong) => Ok(Judged::Ends(Answer::too_long(alloc, file)?)),
-        Err(ReadFail::Memory) => Err(NoMemory),
+    match read_all(alloc, shelf, name.as_str()) {
+        Ok(bytes) => Ok(bytes),
+        Err(ReadFail::Fault) => Err(Stop::Ends(Answer::read_fault(alloc, file)?)),
+        Err(ReadFail::TooLong) => Err(Stop::Ends(Answer::too_long(alloc, file)?)),
+        Err(ReadFail::Memory) => Err(Stop::Memory),
     }
 }
 
 /// The chip of a file.
-pub fn read_chip_file<H: Shelf>(
-    alloc: Global,
-    name: &str,
-    shelf: &mut H,
-) -> Result<Judged<Chip>, NoMemory>
-    ensures goes_on { IfOk result (GoesOn (H.content shelf.old) (H.faults shelf.old)
-        (H.faults shelf.new) (with_chip name.now) (λ chip. chip)) }
-    ensures kept { (other : List ℕ) → H.content shelf.new other ≡ H.content shelf.old other }
+pub fn read_chip_file<H: Shelf>(alloc: Global, name: &FileName, shelf: &mut H) -> Result<Chip, Stop>
+    ensures { Takes (files_of H.Shelf shelf.old) (files_of H.Shelf shelf.new)
+        (chip_file name.now) (λ chip. chip) result }
 {
-    match read_file(alloc, CHIP, name, shelf)? {
-        Judged::Ends(answer) => Ok(Judged::Ends(answer)),
-        Judged::Told(bytes) => judge_chip(alloc, &bytes),
-    }
+    let bytes = read_file(alloc, CHIP, name, shelf)?;
+    judge_chip(alloc, &bytes)
 }
 
-fn judge_chip(alloc: Global, bytes: &[u8]) -> Result<Judged<Chip>, NoMemory>
-    ensures { IfOk result (IsJudged chip_refusal (chip_of bytes.now) (λ chip. chip)) }
+fn judge_chip(alloc: Global, bytes: &[u8]) -> Result<Chip, Stop>
+    ensures { IsJudged chip_refusal (chip_of bytes.now) (λ chip. chip) result }
 {
     match read_chip(alloc, bytes) {
-        Ok(chip) => Ok(Judged::Told(chip)),
-        Err(fault) => Ok(Judged::Ends(refused_chip(alloc, fault)?)),
+        Ok(chip) => Ok(chip),
+        Err(fault) => Err(Stop::Ends(refused_chip(alloc, fault)?)),
     }
 }
 
@@ -91,25 +77,22 @@ fn refused_chip(alloc: Global, fault: ChipFault) -> Result<Answer, NoMemory>
 pub fn read_app_file<H: Shelf>(
     alloc: Global,
     chip: &Chip,
-    name: &str,
+    name: &FileName,
     shelf: &mut H,
-) -> Result<Judged<App>, NoMemory>
-    ensures goes_on { IfOk result (GoesOn (H.content shelf.old) (H.faults shelf.old)
-        (H.faults shelf.new) (with_app chip.now name.now) (λ app. app)) }
-    ensures kept { (other : List ℕ) → H.content shelf.new other ≡ H.content shelf.old other }
+) -> Result<App, Stop>
+    ensures { Takes (files_of H.Shelf shelf.old) (files_of H.Shelf shelf.new)
+        (app_file chip.now name.now) (λ app. app) result }
 {
-    match read_file(alloc, APP, name, shelf)? {
-        Judged::Ends(answer) => Ok(Judged::Ends(answer)),
-        Judged::Told(bytes) => judge_app(alloc, &bytes, chip),
-    }
+    let bytes = read_file(alloc, APP, name, shelf)?;
+    judge_app(alloc, &bytes, chip)
 }
 
-fn judge_app(alloc: Global, bytes: &[u8], chip: &Chip) -> Result<Judged<App>, NoMemory>
-    ensures { IfOk result (IsJudged app_refusal (app_of chip.now bytes.now) (λ app. app)) }
+fn judge_app(alloc: Global, bytes: &[u8], chip: &Chip) -> Result<App, Stop>
+    ensures { IsJudged app_refusal (app_of chip.now bytes.now) (λ app. app) result }
 {
     match read_app(alloc, bytes, chip) {
-        Ok(app) => Ok(Judged::Told(app)),
-        Err(fault) => Ok(Judged::Ends(refused_app(alloc, fault)?)),
+        Ok(app) => Ok(app),
+        Err(fault) => Err(Stop::Ends(refused_app(alloc, fault)?)),
     }
 }
 

@@ -2,26 +2,14 @@
 #![tactic(auto)]
 
 mod answer;
-mod app_command;
-#[cfg(test)]
-mod app_tests;
-mod chip_command;
-#[cfg(test)]
-mod chip_tests;
-mod command;
+mod commands;
 mod files;
-#[cfg(test)]
-mod mesh;
+mod host;
 mod program;
-mod refusal;
-pub mod status;
-#[cfg(test)]
-mod tests;
+mod status;
 mod text;
-#[cfg(test)]
-mod trial;
-#[cfg(test)]
-mod video_tests;
 mod words;
 
+pub use host::start;
 pub use program::run;
+pub use status::Status;

@@ -1,22 +1,40 @@
 // The statuses with which the program ends.
 
-/// The job is done, and its text is on `out`.
-pub const DONE: u8 = 0;
+/// How a run of the program ended.
+#[derive(Clone, Copy, PartialEq, Eq)]
+pub enum Status {
+    /// The job is done, and its text is on `out`.
+    Done,
+    /// The words are no command.
+    Usage,
+    /// A file breaks a rule.
+    InputRefused,
+    /// What the words ask for can't be granted.
+    NotGranted,
+    /// A file can't be read.
+    ReadFault,
+    /// A sink failed, and has a proper prefix of its text.
+    WriteFault,
+    /// Memory was wanting, and nothing was written.
+    Memory,
+}
 
-/// The words are no command.
-pub const USAGE: u8 = 1;
+impl Status {
+    ghost use Rattle.aeth_cli.specs.Status.{number_of};
+    ghost use Rattle.std.specs.Prelude.{◌≡◌};
 
-/// A file breaks a rule.
-pub const INPUT_REFUSED: u8 = 2;
-
-/// What the words ask for can't be granted.
-pub const NOT_GRANTED: u8 = 3;
-
-/// A file can't be read.
-pub const READ_FAULT: u8 = 4;
-
-/// A sink failed, and has a proper prefix of its text.
-pub const WRITE_FAULT: u8 = 5;
-
-/// Memory was wanting, and nothing was written.
-pub const OUT_OF_MEMORY: u8 = 6;
+    /// The number with which the program ends.
+    pub fn number(self) -> u8
+        ensures { result ≡ number_of self }
+    {
+        match self {
+            Status::Done => 0,
+            Status::Usage => 1,
+            Status::InputRefused => 2,
+            Status::NotGranted => 3,
+            Status::ReadFault => 4,
+            Status::WriteFault => 5,
+            Status::Memory => 6,
+        }
+    }
+}

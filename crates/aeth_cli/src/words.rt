@@ -1,9 +1,11 @@
-// Words of a command line: numbers in a range, and lists of slots.
-ghost use Rattle.aeth_cli.specs.Words.{number_within, slot_set_of};
+// Words of a command line: numbers in a range, lists of slots, names of files.
+ghost use Rattle.aeth_base.specs.Limits.{max_slots};
+ghost use Rattle.aeth_cli.specs.Words.{file_name_of, number_within, slot_set_of};
 ghost use Rattle.std.specs.Prelude.{◌≡◌, ◌≤◌};
 
 use aeth_base::read_number;
-use aeth_slots::{MAX_SIZE, SlotSet};
+use aeth_slots::SlotSet;
+use std::marker::Model;
 
 /// What stands between the numbers of a list.
 pub const COMMA: u8 = b',';
@@ -20,7 +22,7 @@ pub fn number_in(low: u32, high: u32, word: &str) -> Option<u32>
 /// between them, or `-` for none.
 pub fn slots_in(size: u32, word: &str) -> Option<SlotSet>
     requires some { 1 ≤ size }
-    requires within { size ≤ MAX_SIZE }
+    requires within { size ≤ max_slots }
     ensures { result ≡ slot_set_of size word.now }
 {
     let mut set = SlotSet::empty(size);
@@ -34,4 +36,38 @@ pub fn slots_in(size: u32, word: &str) -> Option<SlotSet>
         least = slot + 1;
     }
     Some(set)
+}
+
+/// The name of a file on the shelf, which isn't empty.
+#[derive(Drop)]
+pub struct FileName<'a> {
+    text: &'a str,
+}
+
+impl<'a> Model for FileName<'a> {
+    ghost use Rattle.std.specs.Prelude.{ℕ, List};
+
+    ghost Value = { List ℕ };
+
+    ghost view = { λ name. name.text.now };
+}
+
+impl<'a> FileName<'a> {
+    /// The word as a name, where it isn't empty.
+    pub fn new(word: &'a str) -> Option<FileName<'a>>
+        ensures { result ≡ file_name_of word.now }
+    {
+        if word.is_empty() {
+            None
+        } else {
+            Some(FileName { text: word })
+        }
+    }
+
+    /// The text of the name.
+    pub fn as_str(&self) -> &str
+        ensures { result.now ≡ self.now }
+    {
+        self.text
+    }
 }

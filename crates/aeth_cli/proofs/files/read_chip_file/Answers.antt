@@ -1,26 +1,26 @@
-use Rattle.std.specs.Prelude.{codes}
-use Rattle.std.proofs.lemmas.Result.{IfOk-weaker}
+use Rattle.std.specs.Prelude.{ℕ, Vec, codes}
+use Rattle.std.specs.Global.{Global}
+use Rattle.std.proofs.lemmas.Result.{err_from_is_err_and}
 use Rattle.aeth_chip.specs.ChipFile.{chip_of}
-use Rattle.aeth_cli.specs.Files.{GoesOn, IsJudged, chip_refusal, judged, with_chip}
-use Rattle.aeth_cli.proofs.FileLemmas.{GoesOn-judged, chip_refusal-status}
+use Rattle.aeth_cli.specs.Files.{chip_refusal, judged, text_file}
+use Rattle.aeth_cli.specs.Places.{files_of}
+use Rattle.aeth_cli.proofs.FileLemmas.{Takes-judged, Takes-stopped, chip_refusal-status}
 use Rattle.aeth_cli.proofs.files.read_chip_file.Goals as goal
 
--- The file ends the command.
-pub returns-in-Ends-clause-goes_on : goal.returns-in-Ends-clause-goes_on
-returns-in-Ends-clause-goes_on g c =
-    let ended = rw c.in-Ends.is at c.in_ok-answer.ensures.goes_on in
-    (ended.0, λ next. ended.1 (λ held. judged chip_refusal (chip_of held) next))
+-- The file can't be read, or is too long.
+pub returns-in_err-bytes : goal.returns-in_err-bytes
+returns-in_err-bytes g c =
+    let p = err_from_is_err_and c.from_residual.result c.from_residual.ensures.1 in
+    rw (p.1, p.2)
+    (Takes-stopped (files_of g.H.Shelf c.args.shelf.now) (files_of g.H.Shelf c.read_file.new.shelf)
+    (text_file (codes "chip") c.args.name.now)
+    (λ bytes. judged chip_refusal (chip_of bytes)) (λ (bytes : Vec ℕ Global). bytes.items)
+    (λ chip. chip) _ c.in_err-bytes.ensures)
 
 -- The file was read, and is judged.
-pub returns-in-Told-clause-goes_on : goal.returns-in-Told-clause-goes_on
-returns-in-Told-clause-goes_on g c =
-    let content = g.H.Shelf.content c.args.shelf.now in
-    let old = g.H.Shelf.faults c.args.shelf.now in
-    let now = g.H.Shelf.faults c.read_file.new.shelf in
-    let leads = rw (c.in-Told.is, ← c.deref.ensures.value) at c.in_ok-answer.ensures.goes_on in
-    IfOk-weaker c.judge_chip.result
-    (IsJudged chip_refusal (chip_of c.deref.result.now) (λ chip. chip))
-    (GoesOn content old now (with_chip c.args.name.now) (λ chip. chip))
-    (λ came. GoesOn-judged content old now (codes "chip") c.args.name.now c.deref.result.now
-    chip_refusal chip_of (λ chip. chip) came chip_refusal-status leads)
-    c.judge_chip.ensures
+pub returns : goal.returns
+returns g c =
+    Takes-judged (files_of g.H.Shelf c.args.shelf.now) (files_of g.H.Shelf c.read_file.new.shelf)
+    (text_file (codes "chip") c.args.name.now) (λ bytes. bytes.items) c.in_ok-bytes.bytes
+    chip_refusal (chip_of) (λ chip. chip) c.judge_chip.result chip_refusal-status
+    c.in_ok-bytes.ensures (rw c.deref.ensures.value at c.judge_chip.ensures)

@@ -4,6 +4,7 @@ use Rattle.std.proofs.lemmas.List.{length_push}
 use Rattle.std.proofs.lemmas.Iterator.Consumers.{YieldsList-end, YieldsList-turn}
 use Rattle.std.proofs.lemmas.Iterator.Splits.{YieldsList-from_str_split}
 use Rattle.aeth_slots.proofs.Ascending.{Ascends-push, Ascends-wider}
+use Rattle.aeth_cli.specs.Words.{comma}
 use Rattle.aeth_cli.proofs.Reading.{number_within-bounds, read-all, read-more, read-none}
 use Rattle.aeth_cli.proofs.Reading.{slot_set_of-list}
 use Rattle.aeth_cli.proofs.words.slots_in.Goals as goal
@@ -13,10 +14,10 @@ pub returns-in_err-slot : goal.returns-in_err-slot
 returns-in_err-slot c =
     let word = c.args.word.now in
     let gone = c.loop-piece.yielded in
-    let list = YieldsList-from_str_split 44 word (lit< tt) (cc) (cc) (cc) in
+    let list = YieldsList-from_str_split comma word (lit< tt) (cc) (cc) (cc) in
     let turn = YieldsList-turn list gone _ c.loop-piece.yielded_by _ _ c.in-Some.piece c.in-Some.is
     c.next.ensures.steps in
-    let none = read-none c.args.size (slice_split (λ byte. byte == 44) word) _ _ _
+    let none = read-none c.args.size (slice_split (λ byte. byte == comma) word) _ _ _
     c.in-Some.piece.now c.loop-piece.invariant.read turn.0 turn.1 (sym c.in_err-slot.ensures) in
     rw c.from_residual.ensures (sym (slot_set_of-list c.args.size word None c.if-eq.ensures none))
 
@@ -27,7 +28,7 @@ loop-piece-preserved c =
     let gone = c.loop-piece.yielded in
     let slot = c.in_ok-slot.slot in
     let slots = c.loop-piece.set.slots in
-    let list = YieldsList-from_str_split 44 word (lit< tt) (cc) (cc) (cc) in
+    let list = YieldsList-from_str_split comma word (lit< tt) (cc) (cc) (cc) in
     let turn = YieldsList-turn list gone _ c.loop-piece.yielded_by _ _ c.in-Some.piece c.in-Some.is
     c.next.ensures.steps in
     let is_slot = sym c.in_ok-slot.ensures in
@@ -48,7 +49,7 @@ pub returns : goal.returns
 returns c =
     let word = c.args.word.now in
     let set = c.loop-piece.set in
-    let list = YieldsList-from_str_split 44 word (lit< tt) (cc) (cc) (cc) in
+    let list = YieldsList-from_str_split comma word (lit< tt) (cc) (cc) (cc) in
     let ended = YieldsList-end list c.loop-piece.yielded _ c.loop-piece.yielded_by _ _ c.in-None.is
     c.next.ensures.steps in
     let all = read-all c.args.size _ _ _ set.slots c.loop-piece.invariant.read (omega

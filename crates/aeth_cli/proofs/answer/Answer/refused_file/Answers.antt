@@ -1,6 +1,6 @@
-use Rattle.std.proofs.Common.{◌≡◌, ap, append_assoc}
-use Rattle.aeth_cli.specs.declared.status.TheConstants.{INPUT_REFUSED}
-use Rattle.aeth_cli.specs.Job.{refused}
+use Rattle.std.proofs.Common.{◌≡◌, ℕ, List, ap, append_assoc}
+use Rattle.aeth_cli.specs.Status.{refused_status}
+use Rattle.aeth_cli.specs.Job.{Job}
 use Rattle.aeth_cli.specs.Refusal.{refusal_text}
 use Rattle.aeth_cli.proofs.answer.Answer.refused_file.Goals as goal
 
@@ -15,4 +15,4 @@ returns c =
       c.into_bytes-text.ensures.value,
       c.in_ok-line.ensures.ok,
     ) (simp append_assoc) in
-    ap (refused INPUT_REFUSED) text
+    ap (λ (line : List ℕ). let job : Job = record { status = refused_status; text = line } in job) text

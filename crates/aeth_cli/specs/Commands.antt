@@ -1,0 +1,49 @@
+-- The commands, and what each asks for.
+-- This project's own.
+pub mod App
+pub mod Chip
+pub mod Server
+pub mod Slots
+use Rattle.std.specs.Prelude.{ℕ, ◌≡◌, List, [], ◌∷◌, Option, Some, None, codes, if◌then◌else◌}
+use Rattle.std.specs.Str.{bytes_eq}
+use Rattle.aeth_cli.specs.declared.commands.Command.{Command}
+use Rattle.aeth_cli.specs.declared.commands.Command.TheVariants as command
+use Rattle.aeth_cli.specs.Commands.App.{app_command, app_task}
+use Rattle.aeth_cli.specs.Commands.Chip.{chip_command, chip_task}
+use Rattle.aeth_cli.specs.Commands.Server.{latency_job, server_command}
+use Rattle.aeth_cli.specs.Commands.Slots.{chosen_job, slots_command}
+use Rattle.aeth_cli.specs.Job.{Job, usage}
+use Rattle.aeth_cli.specs.Places.{Files}
+use Rattle.aeth_cli.specs.Task.{IsAnswer, Task, ends, job_with}
+
+-- The command that the words are, if they are one: the first is its name.
+abbrev pub command_of : List (List ℕ) → Option Command
+command_of [] = None
+command_of (name ∷ words) =
+    if bytes_eq name (codes "slots") then slots_command words
+    else if bytes_eq name (codes "server") then server_command words
+    else if bytes_eq name (codes "chip") then chip_command words
+    else if bytes_eq name (codes "app") then app_command words
+    else None
+
+-- What a command does.
+abbrev pub task_of : Command → Task
+task_of (command.Slots need gap free) = ends (chosen_job need gap free)
+task_of (command.Server need links slots) = ends (latency_job need links slots)
+task_of (command.Chip chip) = chip_task chip
+task_of (command.App chip app) = app_task chip app
+
+-- What is asked for by a command, or by words that are none, where the contents on which it rests
+-- are told.
+abbrev pub asked_job : (List ℕ → Option (List ℕ)) → Option Command → Option Job
+asked_job content None = Some usage
+asked_job content (Some command) = job_with content (task_of command)
+
+-- What the words of a command line ask for.
+abbrev pub job : (List ℕ → Option (List ℕ)) → List (List ℕ) → Option Job
+job content words = asked_job content (command_of words)
+
+-- The answer to a command, or to words that are none.
+abbrev pub IsAnswerTo : Files → Files → Option Command → Job → Type 0
+IsAnswerTo old new None answer = answer ≡ usage
+IsAnswerTo old new (Some command) answer = IsAnswer old new (task_of command) answer

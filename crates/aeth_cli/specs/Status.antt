@@ -1,0 +1,43 @@
+-- The statuses with which the program ends, as numbers.
+-- This project's own.
+use Rattle.std.specs.Prelude.{ℕ}
+use Rattle.aeth_cli.specs.declared.status.Status.{Status}
+use Rattle.aeth_cli.specs.declared.status.Status.TheVariants as status
+
+-- The job is done, and its text is on `out`.
+abbrev pub done_status : ℕ
+done_status = 0
+
+-- The words are no command.
+abbrev pub usage_status : ℕ
+usage_status = 1
+
+-- A file breaks a rule.
+abbrev pub refused_status : ℕ
+refused_status = 2
+
+-- What the words ask for can't be granted.
+abbrev pub not_granted_status : ℕ
+not_granted_status = 3
+
+-- A file can't be read.
+abbrev pub read_fault_status : ℕ
+read_fault_status = 4
+
+-- A sink failed, and has a proper prefix of its text.
+abbrev pub write_fault_status : ℕ
+write_fault_status = 5
+
+-- Memory was wanting, and nothing was written.
+abbrev pub memory_status : ℕ
+memory_status = 6
+
+-- The number of a status.
+abbrev pub number_of : Status → ℕ
+number_of status.Done = done_status
+number_of status.Usage = usage_status
+number_of status.InputRefused = refused_status
+number_of status.NotGranted = not_granted_status
+number_of status.ReadFault = read_fault_status
+number_of status.WriteFault = write_fault_status
+number_of status.Memory = memory_status

@@ -1,0 +1,90 @@
+// The commands, and what each answers.
+ghost use Rattle.aeth_cli.specs.Commands.{IsAnswerTo, command_of};
+ghost use Rattle.aeth_cli.specs.Places.{files_of};
+ghost use Rattle.aeth_cli.specs.Stop.{IfAnswer};
+ghost use Rattle.std.specs.Prelude.{◌≡◌, IfOk, map, string_bytes};
+
+mod app;
+mod chip;
+mod server;
+mod slots;
+
+use crate::answer::{Answer, Stop};
+use crate::words::FileName;
+use aeth_base::NoMemory;
+use aeth_io::Shelf;
+use aeth_slots::SlotSet;
+use std::alloc::Global;
+
+/// What a command line asks for.
+#[derive(Drop)]
+pub enum Command<'a> {
+    /// `slots SIZE NEED GAP FREE`: the chosen set out of the free slots, with at least `need` slots
+    /// and no gap above `gap`.
+    Slots {
+        need: u32,
+        gap: u32,
+        free: SlotSet,
+    },
+    /// `server SIZE NEED LINKS SLOTS`: the rate that the need stands for, the least latency that
+    /// the slots guarantee at this rate, and the total over a path of so many links.
+    Server {
+        need: u32,
+        links: u32,
+        slots: SlotSet,
+    },
+    /// `chip CHIP`: the summary of a chip file.
+    Chip {
+        chip: FileName<'a>,
+    },
+    /// `app CHIP APP`: the summary of an application file for a chip file, and what its connections
+    /// need.
+    App {
+        chip: FileName<'a>,
+        app: FileName<'a>,
+    },
+}
+
+/// The command that the words are, if they are one.
+fn command_of(words: &[String]) -> Option<Command<'_>>
+    ensures { result ≡ command_of (map string_bytes words.now) }
+{
+    let (name, words) = words.split_first()?;
+    match name.as_str() {
+        "slots" => slots::command(words),
+        "server" => server::command(words),
+        "chip" => chip::command(words),
+        "app" => app::command(words),
+        _ => None,
+    }
+}
+
+/// The answer to the words.
+pub fn answer<H: Shelf>(alloc: Global, words: &[String], shelf: &mut H) -> Result<Answer, NoMemory>
+    ensures { IfOk result (IsAnswerTo (files_of H.Shelf shelf.old) (files_of H.Shelf shelf.new)
+        (command_of (map string_bytes words.now))) }
+{
+    match command_answer(alloc, words, shelf) {
+        Ok(answer) => Ok(answer),
+        Err(Stop::Ends(answer)) => Ok(answer),
+        Err(Stop::Memory) => Err(NoMemory),
+    }
+}
+
+/// What the words ask for, done, or what ends it before.
+fn command_answer<H: Shelf>(alloc: Global, words: &[String], shelf: &mut H) -> Result<Answer, Stop>
+    ensures { IfAnswer result (IsAnswerTo (files_of H.Shelf shelf.old) (files_of H.Shelf shelf.new)
+        (command_of (map string_bytes words.now))) }
+{
+    let Some(command) = command_of(words) else {
+        return Ok(Answer::usage(alloc)?);
+    };
+    match command {
+        Command::Slots { need, gap, free } => Ok(slots::answer(alloc, need, gap, &free)?),
+        Command::Server { need, links, slots } => {
+            Ok(server::answer(alloc, need, links, &slots)?)
+        }
+        Command::Chip { chip } => chip::answer(alloc, &chip, shelf),
+        Command::App { chip, app } => app::answer(alloc, &chip, &app, shelf),
+    }
+}

@@ -1,0 +1,102 @@
+// `app CHIP APP`: a summary of an application file, and what its connections need.
+ghost use Rattle.aeth_cli.specs.Commands.App.{app_command, app_task, app_text, need_text};
+ghost use Rattle.aeth_cli.specs.Commands.App.{summary_text};
+ghost use Rattle.aeth_cli.specs.Places.{files_of};
+ghost use Rattle.aeth_cli.specs.Stop.{IfAnswer};
+ghost use Rattle.aeth_cli.specs.Task.{IsAnswer};
+ghost use Rattle.aeth_group.specs.Members.{groups_of};
+ghost use Rattle.std.specs.Prelude.{◌≡◌, ◌<◌, ◌++◌, IfOk, OnOk, IfSome, flat_map, length};
+ghost use Rattle.std.specs.Prelude.{map, slice_get, string_bytes};
+
+use crate::answer::{Answer, Stop};
+use crate::commands::Command;
+use crate::files::{read_app_file, read_chip_file};
+use crate::text::push_count;
+use crate::words::FileName;
+use aeth_app::App;
+use aeth_base::{Channel, ConnId, NoMemory, Side};
+use aeth_group::Groups;
+use aeth_io::Shelf;
+use std::alloc::Global;
+
+/// The command of the words CHIP APP.
+pub fn command<'a>(words: &'a [String]) -> Option<Command<'a>>
+    ensures { result ≡ app_command (map string_bytes words.now) }
+{
+    let [chip, app] = words else {
+        return None;
+    };
+    let chip = FileName::new(chip.as_str())?;
+    let app = FileName::new(app.as_str())?;
+    Some(Command::App { chip, app })
+}
+
+/// The summary of an application file, and what its connections need.
+pub fn answer<H: Shelf>(
+    alloc: Global,
+    chip: &FileName,
+    app: &FileName,
+    shelf: &mut H,
+) -> Result<Answer, Stop>
+    ensures { IfAnswer result (IsAnswer (files_of H.Shelf shelf.old) (files_of H.Shelf shelf.new)
+        (app_task chip.now app.now)) }
+{
+    let chip = read_chip_file(alloc, chip, shelf)?;
+    let app = read_app_file(alloc, &chip, app, shelf)?;
+    Ok(Answer::done(app_lines(alloc, &app)?))
+}
+
+fn app_lines(alloc: Global, app: &App) -> Result<Vec<u8>, NoMemory>
+    ensures { IfOk result (λ text. text.items ≡ app_text app.now) }
+{
+    let groups = Groups::of(alloc, app)?;
+    let mut text = summary_line(alloc, app, &groups)?;
+    push_needs(&mut text, app)?;
+    Ok(text)
+}
+
+fn summary_line(alloc: Global, app: &App, groups: &Groups) -> Result<Vec<u8>, NoMemory>
+    requires { groups.now ≡ groups_of app.now }
+    ensures { IfOk result (λ text. text.items ≡ summary_text app.now) }
+{
+    let mut text = Vec::new(alloc);
+    push_count(&mut text, "app cores ", app.cores())?;
+    push_count(&mut text, " connections ", app.connections())?;
+    push_count(&mut text, " uses ", app.uses())?;
+    push_count(&mut text, " groups ", groups.count())?;
+    push_count(&mut text, " units ", groups.units())?;
+    text.push(b'\n')?;
+    Ok(text)
+}
+
+fn push_needs(text: &mut Vec<u8>, app: &App) -> Result<(), NoMemory>
+    ensures { OnOk result (text.new.items ≡ text.old.items
+        ++ flat_map (need_text app.now.slots) app.now.connections) }
+{
+    for connection in 0..app.connections() {
+        push_need(text, app, ConnId(connection))?;
+    }
+    Ok(())
+}
+
+fn push_need(text: &mut Vec<u8>, app: &App, conn: ConnId) -> Result<(), NoMemory>
+    requires { conn.0 < length app.now.connections }
+    ensures { OnOk result (IfSome (slice_get app.now.connections conn.0) (λ connection.
+        text.new.items ≡ text.old.items ++ need_text app.now.slots connection)) }
+{
+    let fwd = app.need(Channel {
+        conn,
+        side: Side::Fwd,
+    });
+    let back = app.need(Channel {
+        conn,
+        side: Side::Back,
+    });
+    let connection = app.connection(conn);
+    text.extend_from_slice(b"need ")?;
+    text.extend_from_slice(connection.name.as_bytes())?;
+    push_count(text, " ", fwd)?;
+    push_count(text, " ", back)?;
+    text.push(b'\n')?;
+    Ok(())
+}

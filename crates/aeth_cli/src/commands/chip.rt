@@ -1,0 +1,52 @@
+// `chip CHIP`: a summary of a chip file.
+ghost use Rattle.aeth_cli.specs.Commands.Chip.{chip_command, chip_task, chip_text};
+ghost use Rattle.aeth_cli.specs.Places.{files_of};
+ghost use Rattle.aeth_cli.specs.Stop.{IfAnswer};
+ghost use Rattle.aeth_cli.specs.Task.{IsAnswer};
+ghost use Rattle.std.specs.Prelude.{◌≡◌, IfOk, map, string_bytes};
+
+use crate::answer::{Answer, Stop};
+use crate::commands::Command;
+use crate::files::read_chip_file;
+use crate::text::push_count;
+use crate::words::FileName;
+use aeth_base::NoMemory;
+use aeth_chip::{Chip, Distances, Summary};
+use aeth_io::Shelf;
+use std::alloc::Global;
+
+/// The command of the word CHIP.
+pub fn command<'a>(words: &'a [String]) -> Option<Command<'a>>
+    ensures { result ≡ chip_command (map string_bytes words.now) }
+{
+    let [chip] = words else {
+        return None;
+    };
+    let chip = FileName::new(chip.as_str())?;
+    Some(Command::Chip { chip })
+}
+
+/// The summary of a chip file.
+pub fn answer<H: Shelf>(alloc: Global, chip: &FileName, shelf: &mut H) -> Result<Answer, Stop>
+    ensures { IfAnswer result (IsAnswer (files_of H.Shelf shelf.old) (files_of H.Shelf shelf.new)
+        (chip_task chip.now)) }
+{
+    let chip = read_chip_file(alloc, chip, shelf)?;
+    Ok(Answer::done(chip_line(alloc, &chip)?))
+}
+
+fn chip_line(alloc: Global, chip: &Chip) -> Result<Vec<u8>, NoMemory>
+    ensures { IfOk result (λ text. text.items ≡ chip_text chip.now) }
+{
+    let distances = Distances::of(alloc, chip)?;
+    let summary = Summary::of(chip, &distances);
+    let mut text = Vec::new(alloc);
+    push_count(&mut text, "chip slots ", chip.slots())?;
+    push_count(&mut text, " routers ", chip.routers())?;
+    push_count(&mut text, " nis ", chip.nis())?;
+    push_count(&mut text, " links ", chip.links())?;
+    push_count(&mut text, " far ", summary.far)?;
+    push_count(&mut text, " unreached ", summary.unreached)?;
+    text.push(b'\n')?;
+    Ok(text)
+}

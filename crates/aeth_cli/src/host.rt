@@ -1,0 +1,70 @@
+// The program on a host: its arguments, its files, its standard output and standard error.
+ghost use Rattle.aeth_cli.specs.Places.{Places};
+ghost use Rattle.aeth_cli.specs.Promise.{Promise};
+ghost use Rattle.aeth_cli.specs.Status.{memory_status};
+ghost use Rattle.std.specs.Prelude.{◌≡◌, ◌≤◌, map, string_bytes};
+ghost use Rattle.std.specs.Process.{exit_status};
+
+use crate::program::run;
+use crate::status::Status;
+use aeth_io::{HostShelf, HostSink, Shelf, Sink};
+use std::alloc::Global;
+use std::io::ErrorKind;
+use std::process::ExitCode;
+use std::rt::{Env, Files, Stderr, Stdout};
+use std::{env, io};
+
+/// Runs the command that the arguments after the program's name are, over the files of the host, and
+/// gives the exit code with which the program ends: the number of the status.
+pub fn start<R: Env + Files + AllocGlobal + Clone + Drop>(
+    rt: &R,
+    out: Stdout,
+    err: Stderr,
+) -> ExitCode
+    ensures { exit_status result ≤ memory_status }
+{
+    let words = match words_after_name(rt) {
+        Ok(words) => words,
+        Err(error) if error.kind() == ErrorKind::OutOfMemory => return out_of_memory(),
+
+        // Words that aren't text are no command, as no words are.
+        Err(_) => Vec::new(rt.alloc()),
+    };
+    let Ok(files) = rt.clone() else {
+        return out_of_memory();
+    };
+    let mut shelf = HostShelf::new(files);
+    let mut out = HostSink::new(out);
+    let mut err = HostSink::new(err);
+    exit_code(rt.alloc(), &words, &mut shelf, &mut out, &mut err)
+}
+
+/// Runs a command, and gives the status with which it ends as an exit code.
+fn exit_code<H: Shelf, O: Sink, E: Sink>(
+    alloc: Global,
+    words: &[String],
+    shelf: &mut H,
+    out: &mut O,
+    err: &mut E,
+) -> ExitCode
+    ensures promise { Promise H.Shelf O.Sink E.Sink (map string_bytes words.now)
+        (record { shelf = shelf.old; out = out.old; err = err.old })
+        (record { shelf = shelf.new; out = out.new; err = err.new }) (exit_status result) }
+    ensures status { exit_status result ≤ memory_status }
+{
+    ExitCode::from(run(alloc, words, shelf, out, err))
+}
+
+fn out_of_memory() -> ExitCode
+    ensures { exit_status result ≡ memory_status }
+{
+    ExitCode::from(Status::Memory.number())
+}
+
+fn words_after_name<R: Env + AllocGlobal>(rt: &R) -> io::Result<Vec<String>> {
+    let mut words = Vec::new(rt.alloc());
+    for word in env::args(rt)?.skip(1) {
+        words.push(word)?;
+    }
+    Ok(words)
+}
