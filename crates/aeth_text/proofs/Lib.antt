@@ -1,0 +1,8 @@
+pub mod Readers
+pub mod PartLaws
+pub mod FieldLaws
+pub mod LineLaws
+pub mod OrderLaws
+pub mod PrintLaws
+pub mod Fronts
+mod Cuts

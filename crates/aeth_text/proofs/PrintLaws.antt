@@ -1,0 +1,53 @@
+-- Lists that are printed word by word, with commas between.
+use Rattle.std.proofs.Common.{◌≡◌, ◌+◌, ◌∙◌, ℕ, Bool, true, false, List, [], ◌∷◌, ◌++◌, drop}
+use Rattle.std.proofs.Common.{Some, refl, sym, ap, append_assoc, slice_get}
+use Rattle.std.specs.Prelude.{flat_map}
+use Rattle.std.specs.List.{join_with_byte}
+use Rattle.std.proofs.lemmas.List.{append-nil, drop_more}
+use Rattle.std.proofs.lemmas.Option.{get_or_from_slice_get, slice_get_within}
+use Rattle.aeth_text.specs.Limits.{comma}
+use Rattle.aeth_text.specs.Spelling.{item}
+
+-- ---- Commas
+
+-- The words of a list that are still to be printed.
+abbrev pub joined_on : Bool → List (List ℕ) → List ℕ
+joined_on true words = join_with_byte comma words
+joined_on false words = flat_map (λ word. comma ∷ word) words
+
+join-cons : (word : List ℕ) (words : List (List ℕ))
+    → join_with_byte comma (word ∷ words) ≡ word ++ joined_on false words
+join-cons word [] = sym (append-nil word)
+join-cons word (next ∷ words) =
+    ap (λ text. word ++ comma ∷ text) (join-cons next words)
+
+item_on : (first : Bool) (word : List ℕ) (words : List (List ℕ))
+    → joined_on first (word ∷ words) ≡ item first word ++ joined_on false words
+item_on true word words = join-cons word words
+item_on false word words = refl
+
+-- One word more is printed.
+pub item_step : (out new : List ℕ) (first : Bool) (word : List ℕ) (words : List (List ℕ))
+    (total : List ℕ) → new ≡ out ++ item first word → out ++ joined_on first (word ∷ words) ≡ total
+    → new ++ joined_on false words ≡ total
+item_step out new first word words total is so_far =
+    ap (λ text. text ++ joined_on false words) is
+    ∙ append_assoc out (item first word) (joined_on false words)
+    ∙ ap (λ text. out ++ text) (sym (item_on first word words)) ∙ so_far
+
+-- All are printed.
+pub items_end : (out : List ℕ) (first : Bool) (words : List (List ℕ)) (total : List ℕ)
+    → words ≡ [] → out ++ joined_on first words ≡ total → out ≡ total
+items_end out true words total none so_far =
+    sym (append-nil out) ∙ ap (λ ws. out ++ joined_on true ws) (sym none) ∙ so_far
+items_end out false words total none so_far =
+    sym (append-nil out) ∙ ap (λ ws. out ++ joined_on false ws) (sym none) ∙ so_far
+
+-- ---- Places
+
+-- From a place on, a list has the item there and those after it.
+pub drop_from : {X : Type 0} (xs : List X) (i : ℕ) (x : X) → slice_get xs i ≡ Some x
+    → drop i xs ≡ x ∷ drop (i + 1) xs
+drop_from xs i x at =
+    drop_more xs i x (slice_get_within xs i x at)
+    ∙ ap (λ y. y ∷ drop (i + 1) xs) (get_or_from_slice_get xs i x x at)

@@ -1,0 +1,5 @@
+pub mod Limits
+pub mod Grammar
+pub mod Order
+pub mod Fields
+pub mod Spelling

@@ -1,0 +1,23 @@
+-- The numbers of the rules on texts.
+-- This project's own.
+use Rattle.std.specs.Prelude.{ℕ}
+
+-- A number of a text is at most this, the greatest of 32 bits.
+abbrev pub max_number : ℕ
+max_number = 4294967295
+
+-- Lines are counted up to this number. A text that is longer counts each further line as the last.
+abbrev pub last_line : ℕ
+last_line = 4294967295
+
+-- The byte that ends a line.
+abbrev pub line_feed : ℕ
+line_feed = 10
+
+-- The byte between two words of a line.
+abbrev pub space : ℕ
+space = 32
+
+-- The byte between two items of a list.
+abbrev pub comma : ℕ
+comma = 44
