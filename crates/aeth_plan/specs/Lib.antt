@@ -1,0 +1,7 @@
+pub mod Layout
+pub mod Refusals
+pub mod Lines
+pub mod Spelling
+pub mod Plan
+pub mod Rules
+pub mod PlanText

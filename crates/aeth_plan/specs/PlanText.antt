@@ -1,0 +1,91 @@
+-- The plan of a text, or the first rule that the text breaks; and the text of a plan.
+--
+--   plan_in, plan_of      the plan of a text
+--   seat_words, grant_words, plan_words, plan_text      the text of a plan
+--   HasSeat, HasConnection      what a line has to name to be printed
+--   HasNames      what holds of the names of a chip and an application that were read
+-- This project's own.
+use Rattle.std.specs.Prelude.{ℕ, ◌<◌, ◌==◌, List, length, map, IsTrue, Result, Ok}
+use Rattle.std.specs.List.{AllByRecursion, IsDistinct}
+use Rattle.std.specs.Str.{bytes_eq}
+use Rattle.aeth_base.specs.Faults.{BrokenRule}
+use Rattle.aeth_base.specs.Name.{is_name}
+use Rattle.aeth_document.specs.Chain.{◌>>=◌}
+use Rattle.aeth_text.specs.Order.{misplaced}
+use Rattle.aeth_chip.specs.Chip.{ChipData}
+use Rattle.aeth_app.specs.App.{AppData}
+use Rattle.aeth_group.specs.Members.{GroupsData}
+use Rattle.aeth_group.specs.declared.grant.Grant.{Grant}
+use Rattle.aeth_group.specs.declared.grant.SeatLine.{SeatLine}
+use Rattle.aeth_plan.specs.declared.text.SeatText.{SeatText}
+use Rattle.aeth_plan.specs.Layout.{first_grant_line, first_seat_line}
+use Rattle.aeth_plan.specs.Lines.{GrantWords, PlanWords, text_of}
+use Rattle.aeth_plan.specs.Plan.{PlanData, connection_names, core_names, grant_before, name_at}
+use Rattle.aeth_plan.specs.Plan.{seat_before}
+use Rattle.aeth_plan.specs.Rules.{each, holds, known_grant, known_seat, ordered}
+use Rattle.aeth_plan.specs.Spelling.{text_from}
+
+-- The plan of what the lines say: unknown fields line by line, then lines that are out of order.
+unfoldable pub plan_in : ChipData → AppData → GroupsData → PlanWords → Result PlanData BrokenRule
+plan_in chip app groups text = do
+  slots ← holds 1 3 (text.slots == chip.slots)
+  seats ← each (known_seat chip app) first_seat_line text.seats
+  grants ← each (known_grant chip app groups) (first_grant_line text.seats) text.grants
+  seat_order ← ordered (misplaced seat_before first_seat_line seats)
+  grant_order ← ordered (misplaced grant_before (first_grant_line text.seats) grants)
+  Ok (record { slots = text.slots; seats = seats; grants = grants })
+
+-- The plan of a text, or the first rule that the text breaks.
+unfoldable pub plan_of : ChipData → AppData → GroupsData → List ℕ → Result PlanData BrokenRule
+plan_of chip app groups bytes = text_of bytes >>= plan_in chip app groups
+
+-- ---- The text
+
+-- What a seat's line says.
+abbrev pub seat_words : ChipData → AppData → SeatLine → SeatText
+seat_words chip app seat = record {
+  core = name_at (core_names app) seat.core.0;
+  ni = name_at chip.nis seat.ni.0;
+  seat = seat.seat;
+}
+
+-- What a grant's line says.
+abbrev pub grant_words : AppData → Grant → GrantWords
+grant_words app grant = record {
+  conn = name_at (connection_names app) grant.unit.conn.0;
+  group = grant.unit.group.0;
+  side = grant.side;
+  links = grant.path;
+  starts = grant.slots.slots;
+}
+
+-- What the lines of a plan say.
+abbrev pub plan_words : ChipData → AppData → PlanData → PlanWords
+plan_words chip app plan = record {
+  slots = plan.slots;
+  seats = map (seat_words chip app) plan.seats;
+  grants = map (grant_words app) plan.grants;
+}
+
+-- The text of a plan.
+unfoldable pub plan_text : ChipData → AppData → PlanData → List ℕ
+plan_text chip app plan = text_from (plan_words chip app plan)
+
+-- A seat line names a core and an interface that there are.
+pub record HasSeat (chip : ChipData) (app : AppData) (seat : SeatLine) : Type 0 where
+  pub core : seat.core.0 < length app.cores
+  pub ni : seat.ni.0 < length chip.nis
+
+-- A grant names a connection that there is.
+abbrev pub HasConnection : AppData → Grant → Type 0
+HasConnection app grant = grant.unit.conn.0 < length app.connections
+
+-- What holds of the names of every chip and application: they are names, and no two interfaces, no
+-- two cores and no two connections have one.
+pub record HasNames (chip : ChipData) (app : AppData) : Type 0 where
+  pub nis : AllByRecursion (λ name. IsTrue (is_name name)) chip.nis
+  pub cores : AllByRecursion (λ name. IsTrue (is_name name)) (core_names app)
+  pub connections : AllByRecursion (λ name. IsTrue (is_name name)) (connection_names app)
+  pub apart_nis : IsDistinct bytes_eq chip.nis
+  pub apart_cores : IsDistinct bytes_eq (core_names app)
+  pub apart_connections : IsDistinct bytes_eq (connection_names app)

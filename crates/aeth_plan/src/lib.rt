@@ -1,0 +1,20 @@
+//! Plans of reservations: their text, read and printed.
+#![tactic(auto)]
+
+mod fault;
+mod known;
+mod laws;
+mod layout;
+mod lines;
+mod ordered;
+mod plan;
+mod printing;
+mod read;
+mod reading;
+mod text;
+
+pub use fault::PlanFault;
+pub use laws::{plan_has_text, plan_is_for_chip, text_is_read};
+pub use plan::Plan;
+pub use printing::print;
+pub use read::read_plan;
