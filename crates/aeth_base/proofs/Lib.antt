@@ -1,4 +1,6 @@
 mod Constants
+pub mod DistinctNames
+pub mod Division
 pub mod Lists
 pub mod NameLemmas
 pub mod Numbers
