@@ -8,3 +8,6 @@ mod PartLemmas
 mod RangeLemmas
 mod RepeatLemmas
 mod ToldLemmas
+mod OwnNames
+mod PositionLemmas
+pub mod NeedLemmas

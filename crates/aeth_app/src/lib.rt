@@ -6,6 +6,7 @@ mod app;
 mod connection;
 mod fault;
 mod keys;
+pub mod laws;
 mod limits;
 mod names;
 mod parts;

@@ -1,0 +1,58 @@
+-- Positions of a core's connections ascend.
+use Rattle.std.proofs.Common.{◌≡◌, ◌∙◌, ◌<◌, ℕ, zero, suc, true, List, [], ◌∷◌}
+use Rattle.std.proofs.Common.{take, slice_get, refl, ap, inl, inr, arith}
+use Rattle.std.specs.Prelude.{IsSomeAnd, IsTrue}
+use Rattle.std.proofs.lemmas.Bool.{cases_order}
+use Rattle.std.proofs.lemmas.Option.{slice_get_cases}
+use Rattle.aeth_base.proofs.Lists.{count_by-before}
+use Rattle.aeth_base.specs.declared.ids.CoreId.{CoreId}
+use Rattle.aeth_app.specs.App.{is_end, position_of}
+use Rattle.aeth_app.specs.declared.connection.Connection.{Connection}
+
+-- What comes before a place comes before it in a longer part of the list.
+take-take : {X : Type 0} (xs : List X) (i j : ℕ) → i < j → take i (take j xs) ≡ take i xs
+take-take [] zero j below = refl
+take-take [] (suc i) zero below = absurd (omega arith)
+take-take [] (suc i) (suc j) below = refl
+take-take (x ∷ xs) zero j below = refl
+take-take (x ∷ xs) (suc i) zero below = absurd (omega arith)
+take-take (x ∷ xs) (suc i) (suc j) below = ap (λ ys. x ∷ ys) (take-take xs i j (omega arith))
+
+slice_get-take : {X : Type 0} (xs : List X) (i j : ℕ) → i < j
+    → slice_get (take j xs) i ≡ slice_get xs i
+slice_get-take [] i zero below = refl
+slice_get-take [] i (suc j) below = refl
+slice_get-take (x ∷ xs) i zero below = absurd (omega arith)
+slice_get-take (x ∷ xs) zero (suc j) below = refl
+slice_get-take (x ∷ xs) (suc i) (suc j) below = slice_get-take xs i j (omega arith)
+
+-- A later connection has a greater position.
+pub position_of-ascends : (connections : List Connection) (core : CoreId) (i j : ℕ)
+    → IsSomeAnd (slice_get connections i) (λ c. IsTrue (is_end core c)) → i < j
+    → position_of connections core i < position_of connections core j
+position_of-ascends connections core i j ends before =
+    elim ((slice_get_cases connections i).1) [
+      | inl found ↦
+          let here : is_end core found.0 ≡ true = rw found.2 at ends in
+          rw (← take-take connections i j before)
+          (count_by-before (is_end core) (take j connections) i found.0
+          (slice_get-take connections i j before ∙ found.2) here)
+      | inr past ↦ absurd (rw past.1 at ends)
+    ]
+
+-- Connections of a core with one position are one.
+pub position_of-apart : (connections : List Connection) (core : CoreId) (i j : ℕ)
+    → IsSomeAnd (slice_get connections i) (λ c. IsTrue (is_end core c))
+    → IsSomeAnd (slice_get connections j) (λ c. IsTrue (is_end core c))
+    → position_of connections core i ≡ position_of connections core j → i ≡ j
+position_of-apart connections core i j first second same = elim (cases_order i j) [
+  | inl is ↦ is
+  | inr other ↦ elim other [
+    | inl less ↦
+        let ascends = position_of-ascends connections core i j first less in
+        absurd (omega arith)
+    | inr more ↦
+        let ascends = position_of-ascends connections core j i second more in
+        absurd (omega arith)
+  ]
+]
