@@ -1,8 +1,10 @@
 mod Constants
 pub mod DistinctNames
 pub mod Division
+pub mod ExtremeLemmas
 pub mod Lists
 pub mod NameLemmas
 pub mod Numbers
 mod PathLemmas
 pub mod Ranges
+pub mod Sequences

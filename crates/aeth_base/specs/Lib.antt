@@ -1,4 +1,5 @@
 pub mod Answers
+pub mod Extremes
 pub mod Faults
 pub mod Limits
 pub mod Name

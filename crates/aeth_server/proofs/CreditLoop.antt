@@ -3,20 +3,21 @@
 use Rattle.std.proofs.Common.{◌&&◌, Bool, ℕ, ◌+◌, ◌-◌, ◌*◌, ◌/◌, ◌<◌, ◌≤◌, ◌≡◌, zero, suc, length}
 use Rattle.std.proofs.Common.{ap, inl, inr, arith}
 use Rattle.std.proofs.Math.Nat.{mul-le-mul_left, mul-le-mul_right, lt_of_mul-lt-mul_left}
-use Rattle.std.proofs.Math.Nat.{le_of_mul-le-mul_left}
+use Rattle.std.proofs.Math.Nat.{le_of_mul-le-mul_left, mul-div-le, lt-mul-div-succ, div-le_of_le-mul}
+use Rattle.std.proofs.lemmas.Nat.{le-div}
 use Rattle.std.proofs.lemmas.Bool.{cases_lt, cases_eq}
 use Rattle.std.proofs.lemmas.List.Kept.{IsNonDecreasingBy-filter}
 use Rattle.std.specs.List.Sorted.{IsNonDecreasing}
 use Rattle.std.specs.Prelude.{nat_le, nat_lt}
 use Rattle.aeth_base.specs.Limits.{credits_per_flit, words_per_flit}
+use Rattle.aeth_base.proofs.Sequences.{first-reached}
 use Rattle.aeth_server.specs.Shape.{IsGranted, payload_latency, credit_latency, buffer_of}
-use Rattle.aeth_server.specs.PrivateServer.{PrivateServer, accepted, arrived, sent, landed, taken}
+use Rattle.aeth_server.specs.PrivateServer.{PrivateServer, accepted, arrived, landed, taken}
 use Rattle.aeth_server.specs.PrivateServer.{returned}
 use Rattle.aeth_server.specs.Landing.{due_time, KeepsDelay, LandsBy, IsDue}
-use Rattle.aeth_server.proofs.ServiceLemmas.{served-by, first-reached}
+use Rattle.aeth_server.proofs.ServiceLemmas.{served-by}
 use Rattle.aeth_server.proofs.FinishTimeLemmas.{arrivals_before-none, one-share, finish-leaves}
-use Rattle.aeth_server.proofs.FinishTimeLemmas.{finish-shares, whole-cycles, whole-cycles-least}
-use Rattle.aeth_server.proofs.FinishTimeLemmas.{whole-cycles-most}
+use Rattle.aeth_server.proofs.FinishTimeLemmas.{finish-shares}
 use Rattle.aeth_server.proofs.ShapeLemmas.{payload-bounded, credits-bounded, granted-size}
 use Rattle.aeth_server.proofs.ShapeLemmas.{buffer-room}
 use Rattle.aeth_server.proofs.PrivateServerLemmas.{counts-none, sent-more, taken-more}
@@ -104,11 +105,11 @@ module _ (server : PrivateServer) (granted : IsGranted server.shape)
       ] in
       let early : rate * r ≤ rate * (due (taken server (r - 1) + 1) / rate + delay + 1) =
       mul-le-mul_left rate near in
-      let whole = whole-cycles rate (due (taken server (r - 1) + 1)) some-rate in
+      let whole = mul-div-le (due (taken server (r - 1) + 1)) rate in
       let share = due-share (taken server (r - 1) + 1) k (omega arith) in
       let next : k - taken server (r - 1) ≡ (k - (taken server (r - 1) + 1)) + 1 = omega arith in
       let one = one-share (k - taken server (r - 1)) (k - (taken server (r - 1) + 1)) size next in
-      omega (arith, early, whole.0, share, one)
+      omega (arith, early, whole, share, one)
 
   -- where credit k hasn't returned by cycle s, little more than a round trip has passed since
   -- word k was due
@@ -162,9 +163,9 @@ module _ (server : PrivateServer) (granted : IsGranted server.shape)
       let later = due-share j i (omega arith) in
       let before : j < i = omega (arith, some-buffer) in
       let lands = land j before least (omega arith) (omega (arith, later)) in
-      let whole = whole-cycles rate (due j) some-rate in
+      let whole = mul-div-le (due j) rate in
       let soon : rate * (due j / rate + delay) ≤ rate * t =
-      omega (arith, whole.0, later, gap, room) in
+      omega (arith, whole, later, gap, room) in
       let by = keeps.takes (due j / rate) (le_of_mul-le-mul_left soon some-rate) in
       omega (arith, lands, by)
 
@@ -196,15 +197,15 @@ module _ (server : PrivateServer) (granted : IsGranted server.shape)
       let land : LandBelow t i = λ j before. land-below t early keeps top j (omega arith) in
       let none = arrivals_before-none (accepted server) in
       let first = word-leaves t i 0 keeps land most late (omega arith) (omega (arith, none)) in
-      let whole = whole-cycles rate (due i) some-rate in
-      let after = whole-cycles-least rate (due i) out some-rate (omega (arith, first)) in
-      let before = whole-cycles-most rate (due i) t some-rate late in
+      let past = lt-mul-div-succ (due i) some-rate in
+      let after = le-div out (due i) rate some-rate (omega (arith, first)) in
+      let before = div-le_of_le-mul rate late in
       let parts : (due i / rate + 1 - out) + out ≡ due i / rate + 1 = omega (arith, after) in
       let time = ap (λ n. rate * n) parts in
       let stops : due i / rate + 1 - out ≤ server.stop = omega (arith, before) in
       let gone = served-by size server.shape.slots words_per_flit rate wait
       (payload-bounded server.shape granted) (sendable server granted) (omega (arith, none))
-      (due i / rate + 1 - out) i (due i - rate * out) (omega (arith, time, whole.1, first))
+      (due i / rate + 1 - out) i (due i - rate * out) (omega (arith, time, past, first))
       (λ s soon waits.
       omega (arith, word-leaves t i s keeps land most late (omega arith) waits)) in
       omega (arith, gone, sent-served server granted (due i / rate + 1 - out) stops)
@@ -212,19 +213,16 @@ module _ (server : PrivateServer) (granted : IsGranted server.shape)
   -- A word lands by its due time, while the receiver keeps its delay.
   pub lands-by : (i t : ℕ) → IsDue server i t → LandsBy server i (due i)
   lands-by i t is =
-      let none : 0 - out ≡ 0 = omega arith in
-      let first = ap (sent server) none in
-      let idle = (counts-none server).sent in
       let lands =
       land-below t is.in_time is.keeps (suc i) i (omega arith) is.least is.most is.due in
-      let none_yet : landed server 0 < i = omega (arith, first, idle, is.least) in
+      let none_yet : landed server 0 < i = omega (arith, (counts-none server).landed, is.least) in
       let reached = first-reached (landed server) i (due i / rate) none_yet lands in
-      let whole = whole-cycles rate (due i) some-rate in
+      let whole = mul-div-le (due i) rate in
       let early : rate * reached.cycle ≤ rate * (due i / rate) = mul-le-mul_left rate reached.by in
       record {
         cycle = reached.cycle;
         lands = record { before = reached.before; after = reached.after };
-        early = omega (arith, early, whole.0);
+        early = omega (arith, early, whole);
       }
 
   -- so it has landed by each cycle by which it is due

@@ -1,8 +1,8 @@
 -- Finish times leave room for each word and for those before it.
-use Rattle.std.proofs.Common.{ℕ, ◌+◌, ◌-◌, ◌*◌, ◌/◌, ◌%◌, ◌<◌, ◌≤◌, ◌≡◌, zero, suc, List, [], ◌∷◌}
+use Rattle.std.proofs.Common.{ℕ, ◌+◌, ◌-◌, ◌*◌, ◌<◌, ◌≤◌, ◌≡◌, zero, suc, List, [], ◌∷◌}
 use Rattle.std.proofs.Common.{length, get_or, refl, ap, inl, inr, arith}
 use Rattle.std.specs.List.Sorted.{IsNonDecreasing}
-use Rattle.std.proofs.Math.Nat.{mul-le-mul_left, lt_of_mul-lt-mul_left, le_of_mul-le-mul_left}
+use Rattle.std.proofs.Math.Nat.{mul-le-mul_left}
 use Rattle.std.proofs.lemmas.Bool.{cases_lt, lt-ltb, le-ltb}
 use Rattle.aeth_server.specs.FinishTimes.{arrivals_before, finish_time}
 
@@ -118,27 +118,3 @@ module _ (size rate latency : ℕ) (arrivals : List ℕ) where
         mul-le-mul_left rate later in
         omega (arith, waits, share)
   ]
-
--- ---- whole cycles
--- the whole cycles of a time.
-pub whole-cycles : (rate time : ℕ) → 0 < rate
-    → (rate * (time / rate) ≤ time) × (time < rate * (time / rate + 1))
-whole-cycles rate time some =
-    let parts : rate * (time / rate) + time % rate ≡ time = omega arith in
-    let rest : time % rate < rate = omega arith in
-    (omega arith, omega arith)
-
--- No less than any number of cycles that the time has.
-pub whole-cycles-least : (rate time n : ℕ) → 0 < rate → rate * n ≤ time → n ≤ time / rate
-whole-cycles-least rate time n some within =
-    let whole = whole-cycles rate time some in
-    let less : rate * n < rate * (time / rate + 1) = omega (arith, whole.1) in
-    let below : n < time / rate + 1 = lt_of_mul-lt-mul_left rate less in
-    omega (arith, below)
-
--- No more than any number of cycles that have the time.
-pub whole-cycles-most : (rate time n : ℕ) → 0 < rate → time ≤ rate * n → time / rate ≤ n
-whole-cycles-most rate time n some within =
-    let whole = whole-cycles rate time some in
-    let less : rate * (time / rate) ≤ rate * n = omega (arith, whole.0) in
-    le_of_mul-le-mul_left less some

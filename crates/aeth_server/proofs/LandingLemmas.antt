@@ -8,8 +8,8 @@ use Rattle.aeth_server.specs.FinishTimes.{due_cycle}
 use Rattle.aeth_server.specs.PrivateServer.{PrivateServer, landed}
 use Rattle.aeth_server.specs.Progress.{after_word, progress_of}
 use Rattle.aeth_server.specs.Landing.{LandsAt, landing_cycle}
-use Rattle.aeth_server.proofs.ExtremeLemmas.{true_and_false, least_below-passes, least_below-first}
-use Rattle.aeth_server.proofs.LatencyLemmas.{div_ceil-le, le-div_ceil}
+use Rattle.aeth_base.proofs.ExtremeLemmas.{true_and_false, least_below-passes, least_below-first}
+use Rattle.aeth_base.proofs.Division.{div_ceil-le, le-div_ceil}
 use Rattle.aeth_server.proofs.PrivateServerLemmas.{counts-none}
 
 -- Nothing has landed before the first cycle.

@@ -1,32 +1,14 @@
 -- The latency of a slot set is the least that bounds its service.
 use Rattle.std.proofs.Common.{ℕ, ◌+◌, ◌-◌, ◌*◌, ◌<◌, ◌≤◌, ◌≡◌, List, length, ap, arith}
-use Rattle.std.proofs.Math.Nat.{lt_of_mul-lt-mul_right, mul-le-mul_left}
-use Rattle.std.specs.Int.{div_ceil}
-use Rattle.std.proofs.lemmas.Grind.{div_ceil_times}
+use Rattle.std.proofs.Math.Nat.{mul-le-mul_left}
+use Rattle.aeth_base.proofs.Division.{div_ceil-le, le-div_ceil}
 use Rattle.aeth_slots.specs.SlotSet.{Ascends}
-use Rattle.aeth_server.specs.Extremes.{greatest_below}
+use Rattle.aeth_base.specs.Extremes.{greatest_below}
 use Rattle.aeth_server.specs.SlotCycles.{nth_slot}
 use Rattle.aeth_server.specs.Latency.{BoundsService, lateness, lateness_from, latency_of}
-use Rattle.aeth_server.proofs.ExtremeLemmas.{greatest_below-above, greatest_below-least}
+use Rattle.aeth_base.proofs.ExtremeLemmas.{greatest_below-above, greatest_below-least}
 use Rattle.aeth_server.proofs.SlotCycleLemmas.{nth_slot-reached}
 
--- ---- a quotient that is rounded up
--- it is at most a number where the product is.
-pub div_ceil-le : (x y n : ℕ) → 0 < y → x ≤ y * n → div_ceil x y ≤ n
-div_ceil-le x y n some below =
-    let round = div_ceil_times x y some in
-    let less : div_ceil x y * y < (n + 1) * y = omega (arith, round.1) in
-    let next : div_ceil x y < n + 1 = lt_of_mul-lt-mul_right y less in
-    omega (arith, next)
-
--- And only there.
-pub le-div_ceil : (x y n : ℕ) → 0 < y → div_ceil x y ≤ n → x ≤ y * n
-le-div_ceil x y n some below =
-    let round = div_ceil_times x y some in
-    let wider : y * div_ceil x y ≤ y * n = mul-le-mul_left y below in
-    omega (arith, round.0, wider)
-
--- ---- the least latency
 module _ (size : ℕ) (slots : List ℕ) (cap rate : ℕ) (some : 1 ≤ rate) where
   -- how late the q-th slot at or after s comes, and how late a slot at or after s at most
   abbrev late : ℕ → ℕ → ℕ

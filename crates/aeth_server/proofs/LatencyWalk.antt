@@ -8,7 +8,7 @@ use Rattle.std.proofs.lemmas.Bool.{false_from_ne_true}
 use Rattle.std.proofs.lemmas.Bool.Decides.{nat_tests}
 use Rattle.aeth_base.specs.Limits.{credits_per_flit, max_slots}
 use Rattle.aeth_slots.specs.SlotSet.{Ascends}
-use Rattle.aeth_server.specs.Extremes.{greatest_below}
+use Rattle.aeth_base.specs.Extremes.{greatest_below}
 use Rattle.aeth_server.specs.SlotCycles.{is_slot, slots_within}
 use Rattle.aeth_server.specs.Latency.{BoundsService, lateness, lateness_from, latency_of}
 use Rattle.aeth_server.proofs.LatencyLemmas.{latency_of-enough, latency_of-least, latency_of-within}

@@ -1,4 +1,3 @@
-pub mod ExtremeLemmas
 pub mod SlotCycleLemmas
 pub mod LatencyLemmas
 pub mod ServiceLemmas

@@ -1,8 +1,8 @@
 -- The counts of a private server, from cycle to cycle. Nothing else looks into its history.
 use Rattle.std.proofs.Common.{◌&&◌, ℕ, ◌+◌, ◌-◌, ◌≤◌, ◌≡◌, ◌∙◌, zero, suc, Bool, true, false, cond}
-use Rattle.std.proofs.Common.{ltb, leb, List, [], ◌∷◌, min, sym, refl, ap, inl, inr, arith}
+use Rattle.std.proofs.Common.{ltb, leb, List, [], ◌∷◌, min, sym, refl, ap, arith}
 use Rattle.std.specs.Prelude.{filter, nat_le, nat_lt}
-use Rattle.std.proofs.lemmas.Bool.{cases_eq, le-ltb, leb-true}
+use Rattle.std.proofs.lemmas.Bool.{le-ltb, leb-true}
 use Rattle.aeth_base.specs.Limits.{credits_per_flit, words_per_flit}
 use Rattle.aeth_server.specs.SlotCycles.{is_slot}
 use Rattle.aeth_server.specs.FinishTimes.{arrivals_before}
@@ -12,7 +12,7 @@ use Rattle.aeth_server.specs.PrivateServer.{cycle_at, history, counts, accepted,
 use Rattle.aeth_server.specs.PrivateServer.{sent, landed, taken, credited, returned}
 use Rattle.aeth_server.specs.CountLaws.{IsStep, IsIdle, IsInOrder, HasRoom, FitsFlit, HasGrown}
 use Rattle.aeth_server.specs.CountLaws.{IsClosed, IsAlike}
-use Rattle.aeth_server.proofs.ServiceLemmas.{never-falls}
+use Rattle.aeth_base.proofs.Sequences.{never-falls, rests}
 use Rattle.aeth_server.proofs.FinishTimeLemmas.{arrivals_before-none, arrivals_before-more}
 
 -- ---- the history
@@ -278,15 +278,6 @@ module _ (server : PrivateServer) (paths : HasPaths server.shape) where
         credited = credited_none;
         returned = omega (arith, ordered.returns, credited_none);
       }
-
-  -- a count that rests from some cycle on
-  rests : (count : ℕ → ℕ) (from t : ℕ) → ((u : ℕ) → from ≤ u → count (suc u) ≡ count u) → from ≤ t
-      → count t ≡ count from
-  rests count from zero still after = let first : zero ≡ from = omega arith in ap count first
-  rests count from (suc t) still after = elim (cases_eq (suc t) from) [
-    | inl first ↦ ap count first
-    | inr later ↦ still t (omega arith) ∙ rests count from t still (omega arith)
-  ]
 
   -- what may not be sent isn't
   cond-shut : (may slot : Bool) (before n : ℕ) → may ≡ false

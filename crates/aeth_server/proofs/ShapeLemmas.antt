@@ -7,7 +7,7 @@ use Rattle.aeth_server.specs.declared.shape.ChannelShape.{ChannelShape}
 use Rattle.aeth_server.specs.ChannelShape.{IsShapeInRange, shape_of}
 use Rattle.aeth_server.specs.Shape.{Shape, IsGranted, payload_latency, credit_latency, round_trip}
 use Rattle.aeth_server.specs.Shape.{buffer_of}
-use Rattle.aeth_server.proofs.LatencyLemmas.{le-div_ceil, div_ceil-le}
+use Rattle.aeth_base.proofs.Division.{le-div_ceil, div_ceil-le}
 use Rattle.std.proofs.Math.Nat.{mul-le-mul}
 use Rattle.std.specs.Int.{div_ceil}
 use Rattle.aeth_server.proofs.SlotCycleLemmas.{slots-most}

@@ -9,10 +9,10 @@ use Rattle.std.proofs.lemmas.Bool.{eqb-true, ne_eqb, eq-eqb, le-leb, leb-true, f
 use Rattle.std.proofs.lemmas.Bool.{cases_lt}
 use Rattle.std.proofs.lemmas.Map.Views.{Contains-from_any, list_any-from_Contains}
 use Rattle.aeth_slots.specs.SlotSet.{Ascends}
-use Rattle.aeth_server.specs.Extremes.{least_below}
+use Rattle.aeth_base.specs.Extremes.{least_below}
 use Rattle.aeth_server.specs.SlotCycles.{is_slot, slots_within, nth_slot}
-use Rattle.aeth_server.proofs.ExtremeLemmas.{true_and_false, least_below-passes, least_below-first}
-use Rattle.aeth_server.proofs.ExtremeLemmas.{least_below-is}
+use Rattle.aeth_base.proofs.ExtremeLemmas.{true_and_false, least_below-passes, least_below-first}
+use Rattle.aeth_base.proofs.ExtremeLemmas.{least_below-is}
 
 -- Cycles with one slot have one slot as many cycles later.
 pub same_slot-later : (size s u n : ℕ) → s % size ≡ u % size → (s + n) % size ≡ (u + n) % size

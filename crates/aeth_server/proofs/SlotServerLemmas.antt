@@ -1,15 +1,17 @@
 -- What a slot server keeps: its words' finish times, and the service of a busy period.
 use Rattle.std.proofs.Common.{ℕ, ◌+◌, ◌-◌, ◌*◌, ◌/◌, ◌<◌, ◌≤◌, ◌≡◌, zero, suc, length, min, ap, inl}
 use Rattle.std.proofs.Common.{inr, arith}
+use Rattle.std.proofs.Math.Nat.{mul-div-le, lt-mul-div-succ}
 use Rattle.std.proofs.Math.Nat.{mul-le-mul_left, mul-le-mul_right, le_of_mul-le-mul_left}
 use Rattle.std.proofs.lemmas.Bool.{cases_eq}
+use Rattle.aeth_base.proofs.Sequences.{first-reached, never-falls}
 use Rattle.aeth_server.specs.FinishTimes.{arrivals_before}
 use Rattle.aeth_server.specs.SlotServer.{SlotServer, KeepsRate, IsSentBy, IsBusyPeriod, SendsInTurn}
 use Rattle.aeth_server.specs.SlotServer.{ServesAtRate, sent_by, own_latency, own_finish}
 use Rattle.aeth_server.specs.SlotServer.{arrival_after, steady_from}
 use Rattle.aeth_server.proofs.ServiceLemmas.{IsBounded, latency-bounded, served-by}
-use Rattle.aeth_server.proofs.ServiceLemmas.{served-next, first-reached, never-falls, some-size}
-use Rattle.aeth_server.proofs.FinishTimeLemmas.{arrivals_before-none, finish-leaves, whole-cycles}
+use Rattle.aeth_server.proofs.ServiceLemmas.{served-next, some-size}
+use Rattle.aeth_server.proofs.FinishTimeLemmas.{arrivals_before-none, finish-leaves}
 
 module _ (server : SlotServer) (keeps : KeepsRate server) where
   abbrev rate : ℕ
@@ -42,9 +44,10 @@ module _ (server : SlotServer) (keeps : KeepsRate server) where
       → IsSentBy server i time
   sent-by i time some most late =
       let none = arrivals_before-none server.arrivals in
-      let whole = whole-cycles rate time keeps.least_rate in
+      let whole = mul-div-le time rate in
+      let past = lt-mul-div-succ time keeps.least_rate in
       let gone = served-by server.size server.slots server.cap rate (own_latency server) bounded
-      (arrivals_before server.arrivals) none (time / rate + 1) i time whole.1
+      (arrivals_before server.arrivals) none (time / rate + 1) i time past
       (λ s before waits. omega (arith, leaves s i most waits, late)) in
       let reached = first-reached sent i (time / rate) (omega arith) gone in
       let early : rate * reached.cycle ≤ rate * (time / rate) = mul-le-mul_left rate reached.by in
@@ -52,7 +55,7 @@ module _ (server : SlotServer) (keeps : KeepsRate server) where
         cycle = reached.cycle;
         before = reached.before;
         after = reached.after;
-        early = omega (arith, early, whole.0);
+        early = omega (arith, early, whole);
       }
 
   -- by its finish time for one
@@ -110,9 +113,9 @@ module _ (server : SlotServer) (keeps : KeepsRate server) where
         let time = ap (λ m. rate * m) since in
         let some =
         some-size server.size server.slots server.cap rate (own_latency server) bounded in
-        let whole = whole-cycles server.size (rate * (t - steady_from server i)) some in
+        let whole = mul-div-le (rate * (t - steady_from server i)) server.size in
         let few : min n (rate * (t - steady_from server i) / server.size)
         ≤ rate * (t - steady_from server i) / server.size = omega arith in
         let share = mul-le-mul_right server.size few in
         sent-at t (min n (rate * (t - steady_from server i) / server.size)) (omega arith)
-        (omega (arith, time, share, whole.0))
+        (omega (arith, time, share, whole))

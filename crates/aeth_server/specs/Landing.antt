@@ -2,7 +2,7 @@
 -- Due times: after the latency-rate server (Stiliadis and Varma, 1998), for whole words.
 use Rattle.std.specs.Prelude.{ℕ, ◌+◌, ◌-◌, ◌*◌, ◌<◌, ◌≤◌, ◌≡◌, nat_le, slice_index, length}
 use Rattle.aeth_slots.specs.Choice.{IsSuitable}
-use Rattle.aeth_server.specs.Extremes.{least_below}
+use Rattle.aeth_base.specs.Extremes.{least_below}
 use Rattle.aeth_server.specs.FinishTimes.{finish_time}
 use Rattle.aeth_server.specs.Shape.{channel_latency}
 use Rattle.aeth_server.specs.PrivateServer.{PrivateServer, accepted, sent, landed, taken, returned}

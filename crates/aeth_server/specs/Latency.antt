@@ -4,7 +4,7 @@
 -- for whole words.
 use Rattle.std.specs.Prelude.{ℕ, ◌+◌, ◌-◌, ◌*◌, ◌<◌, ◌≤◌, List, length}
 use Rattle.std.specs.Int.{div_ceil}
-use Rattle.aeth_server.specs.Extremes.{greatest_below}
+use Rattle.aeth_base.specs.Extremes.{greatest_below}
 use Rattle.aeth_server.specs.SlotCycles.{nth_slot}
 
 -- With the latency theta, from whatever cycle s on a server is busy, the q-th slot at or after s

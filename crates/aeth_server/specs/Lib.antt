@@ -1,5 +1,4 @@
 pub mod Limits
-pub mod Extremes
 pub mod SlotCycles
 pub mod Latency
 pub mod FinishTimes

@@ -2,7 +2,7 @@
 -- Slot table: after Æthereal (2005).
 use Rattle.std.specs.Prelude.{ℕ, ◌+◌, ◌*◌, ◌%◌, ◌==◌, nat_le, Bool, if◌then◌else◌, List, zero, suc}
 use Rattle.std.specs.List.{list_any}
-use Rattle.aeth_server.specs.Extremes.{least_below}
+use Rattle.aeth_base.specs.Extremes.{least_below}
 
 -- The slot of this cycle is in the list.
 abbrev pub is_slot : ℕ → List ℕ → ℕ → Bool

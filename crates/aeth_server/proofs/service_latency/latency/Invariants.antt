@@ -1,5 +1,5 @@
 use Rattle.std.proofs.Common.{◌≡◌}
-use Rattle.aeth_server.specs.Extremes.{greatest_below}
+use Rattle.aeth_base.specs.Extremes.{greatest_below}
 use Rattle.aeth_server.specs.Latency.{lateness_from}
 use Rattle.aeth_server.proofs.service_latency.latency.Given as goal
 

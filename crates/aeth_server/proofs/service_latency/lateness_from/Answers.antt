@@ -1,5 +1,5 @@
 use Rattle.std.proofs.Common.{arith}
-use Rattle.aeth_server.proofs.ExtremeLemmas.{true_and_false}
+use Rattle.aeth_base.proofs.ExtremeLemmas.{true_and_false}
 use Rattle.aeth_server.proofs.LatencyWalk.{walk-slot, walk-other, walk-end, rate-within}
 use Rattle.aeth_server.proofs.service_latency.lateness_from.Goals as goal
 use Rattle.aeth_server.proofs.service_latency.lateness_from.Goals.{then-has, else-has}

@@ -2,7 +2,7 @@
 use Rattle.std.proofs.Common.{ℕ, ◌-◌, ◌<◌, ◌≤◌, ◌≡◌, ◌∙◌, zero, suc, Bool, true, false, cond, sym}
 use Rattle.std.proofs.Common.{refl, ap, inl, inr, arith}
 use Rattle.std.proofs.lemmas.Bool.{cases_eq, cases_lt}
-use Rattle.aeth_server.specs.Extremes.{least_below, greatest_below}
+use Rattle.aeth_base.specs.Extremes.{least_below, greatest_below}
 
 -- A number below the bound that passes the test.
 pub record Passes (test : ℕ → Bool) (bound k : ℕ) : Type 0 where
