@@ -4,3 +4,4 @@ mod TextLemmas
 pub mod Least
 pub mod WalkLemmas
 pub mod ChainLemmas
+pub mod KeyLemmas

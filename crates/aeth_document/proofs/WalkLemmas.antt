@@ -3,12 +3,14 @@ use Rattle.std.proofs.Common.{append_assoc, ◌≡◌, ◌≤◌, ◌<◌, ◌+�
 use Rattle.std.proofs.Common.{pos, negsuc, true, false, List, [], ◌∷◌, length, map, Option, Some}
 use Rattle.std.proofs.Common.{None, fold, is_none, refl, sym, ap, inl, inr, arith}
 use Rattle.std.specs.Prelude.{position}
-use Rattle.std.specs.List.{AllByRecursion, filter_map, list_any, range_with_len}
+use Rattle.std.specs.List.{AllByRecursion, IsDistinct, filter_map, list_any, range_with_len}
 use Rattle.std.specs.Str.{bytes_eq}
 use Rattle.std.proofs.lemmas.Bool.{cases_Bool}
+use Rattle.std.proofs.lemmas.Cmp.{nat_list_eq_equiv}
 use Rattle.std.proofs.lemmas.List.{append-nil}
 use Rattle.std.proofs.lemmas.List.Quantifiers.{position-Some}
 use Rattle.std.proofs.lemmas.List.Sums.{fold-append}
+use Rattle.std.proofs.lemmas.Map.Keys.{IsDistinct-push}
 use Rattle.std.proofs.lemmas.Option.{option_and_then_some}
 use Rattle.indexmap.specs.IndexSet.{insert_key}
 use Rattle.aeth_base.specs.Name.{is_name, name_of}
@@ -59,6 +61,12 @@ walked-ended (At place) None checks ended = absurd (cc ended)
 walked-ended (At place) (Some value) checks ended =
     sym (walked-stopped (record { place = place; value = value }) checks)
 walked-ended (Stopped broken) check checks ended = sym (walked-stopped broken checks)
+
+-- A walk that has stopped is as it was after any checks.
+pub walked-done : (walk : Walk) (checks : List (Option Shown)) → is_none (found_by walk) ≡ false
+    → walked walk checks ≡ walk
+walked-done (At place) checks done = absurd (cc done)
+walked-done (Stopped broken) checks done = walked-stopped broken checks
 
 -- A walk finds the first broken check.
 pub found_by-walked : (place : ℕ) (checks : List (Option Shown))
@@ -145,6 +153,18 @@ filter_map-name_of place (text ∷ texts) none =
     let rest = first_broken-tail place (no_name text) checks none in
     rw named (ap (λ names. text ∷ names) (filter_map-name_of (next_place place) texts rest))
 
+-- Texts none of which is refused are names.
+pub names-from_walk : (place : ℕ) (texts : List (List ℕ))
+    → first_broken place (map no_name texts) ≡ None
+    → AllByRecursion (λ text. is_name text ≡ true) texts
+names-from_walk place [] none = tt
+names-from_walk place (text ∷ texts) none =
+    let checks = map no_name texts in (
+      no_name-none text (first_broken-head place (no_name text) checks none),
+      names-from_walk (next_place place) texts
+          (first_broken-tail place (no_name text) checks none),
+    )
+
 -- The repeats among two lists are those of the first, and those of the second with the first among
 -- the others.
 pub repeats-append : (others xs ys : List (List ℕ))
@@ -162,6 +182,50 @@ repeated-none others text none =
       | inl among ↦ absurd (cc (rw among at none))
       | inr apart ↦ apart
     ]
+
+-- A text that is among none of some others is among none of fewer.
+repeated-fewer : (more others : List (List ℕ)) (text : List ℕ)
+    → repeated (more ++ others) text ≡ None → repeated others text ≡ None
+repeated-fewer [] others text none = none
+repeated-fewer (one ∷ more) others text none =
+    elim (cases_Bool (bytes_eq text one)) [
+      | inl same ↦ absurd (cc (rw same at none))
+      | inr apart ↦ repeated-fewer more others text (rw apart at none)
+    ]
+
+-- Texts without repeats behind some others have none behind fewer of them.
+pub fewer_repeats : (place : ℕ) (more others texts : List (List ℕ))
+    → first_broken place (repeats (more ++ others) texts) ≡ None
+    → first_broken place (repeats others texts) ≡ None
+fewer_repeats place more others [] none = refl
+fewer_repeats place more others (text ∷ texts) none =
+    let behind = rw (append_assoc more others (text ∷ [])) at none in
+    let checks = repeats (more ++ (others ++ text ∷ [])) texts in
+    let first = repeated-fewer more others text
+    (first_broken-head place (repeated (more ++ others) text) checks behind) in
+    let rest = fewer_repeats (next_place place) more (others ++ text ∷ []) texts
+    (first_broken-tail place (repeated (more ++ others) text) checks behind) in
+    rw first rest
+
+-- Texts without repeats, behind others that are distinct, are distinct with them.
+distinct-behind : (place : ℕ) (others texts : List (List ℕ))
+    → first_broken place (repeats others texts) ≡ None → IsDistinct bytes_eq others
+    → IsDistinct bytes_eq (others ++ texts)
+distinct-behind place others [] none apart = rw append-nil apart
+distinct-behind place others (text ∷ texts) none apart =
+    let checks = repeats (others ++ text ∷ []) texts in
+    let new = repeated-none others text
+    (first_broken-head place (repeated others text) checks none) in
+    let rest = first_broken-tail place (repeated others text) checks none in
+    rw (← append_assoc others (text ∷ []) texts)
+    (distinct-behind (next_place place) (others ++ text ∷ []) texts rest
+    (IsDistinct-push nat_list_eq_equiv others text apart new))
+
+-- Texts without repeats are distinct.
+pub distinct-from_walk : (place : ℕ) (texts : List (List ℕ))
+    → first_broken place (repeats [] texts) ≡ None → IsDistinct bytes_eq texts
+unfolding IsDistinct
+distinct-from_walk place texts none = distinct-behind place [] texts none tt
 
 -- Texts without repeats are the set of themselves, behind the others.
 pub distinct_set : (place : ℕ) (others texts : List (List ℕ))
@@ -197,3 +261,6 @@ pub place_of-within : (names : List (List ℕ)) (text : List ℕ) (i : ℕ) → 
 place_of-within names text i found =
     option_and_then_some (λ name. position (bytes_eq name) names) (name_of text) i found
     (λ name named at. (position-Some (bytes_eq name) names i [] at).0)
+
+-- The laws by which a walk over several lists finds the first broken check of them all.
+pub ruleset walk_laws = (walked-append, found_by-walked)

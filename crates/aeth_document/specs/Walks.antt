@@ -2,7 +2,7 @@
 --
 --   next_place, first_broken    the places of a walk's checks, and the first that is broken
 --   step, walked, found_by    the same as a cursor that goes from check to check
---   judged    a rule, by the walk over its checks
+--   broken_as, judged    a rule, by the walk over its checks
 --   outside, no_name, repeats, place_of, size_of    checks of numbers and names
 -- This project's own.
 use Rattle.std.specs.Prelude.{ℕ, ◌+◌, ℤ, pos, negsuc, ◌&&◌, nat_le, List, [], ◌∷◌, ◌++◌, Option}
@@ -46,12 +46,16 @@ abbrev pub found_by : Walk → Option Broken
 found_by (At place) = None
 found_by (Stopped broken) = Some broken
 
+-- A rule that is broken, by its number and its name.
+abbrev pub broken_as : ℕ → List ℕ → Broken → BrokenRule
+broken_as rule name broken =
+    record { rule = rule; name = name; place = broken.place; value = broken.value }
+
 -- A rule, by its number and its name: it is kept where the walk over its checks finds nothing, and
 -- else broken at the place and by the value that are found.
 abbrev pub judged : ℕ → List ℕ → Option Broken → Result (Unit {0}) BrokenRule
 judged rule name None = Ok tt
-judged rule name (Some broken) =
-    Err (record { rule = rule; name = name; place = broken.place; value = broken.value })
+judged rule name (Some broken) = Err (broken_as rule name broken)
 
 -- A number that is out of its range.
 abbrev pub outside : ℕ → ℕ → ℤ → Option Shown
