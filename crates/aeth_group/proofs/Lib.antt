@@ -9,3 +9,6 @@ pub mod MemberLemmas
 mod MakingLemmas
 pub mod UnitLemmas
 pub mod AppGroupsLemmas
+pub mod ListLemmas
+pub mod OccupationLemmas
+pub mod ConflictLemmas

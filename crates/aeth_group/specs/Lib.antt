@@ -4,3 +4,5 @@ pub mod Groups
 pub mod Marks
 pub mod Members
 pub mod AppGroups
+pub mod Occupation
+pub mod Conflict

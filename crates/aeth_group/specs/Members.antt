@@ -5,6 +5,7 @@
 --   IsGroups      what holds of all groups
 --   group_in, group_at      the group of a use case
 --   use_has, has_at      whether a use case has a connection
+--   has_unit      whether a use case is of a unit's group and has its connection
 --   is_member, are_together, is_kept      which connections are in a group, together, and kept
 --   units_with, units_of      the units
 -- This project's own.
@@ -67,6 +68,10 @@ use_has None c = false
 -- Whether a use case has a connection.
 abbrev pub has_at : GroupsData → ℕ → ℕ → Bool
 has_at groups u c = use_has (slice_get groups.uses u) c
+
+-- Whether a use case is of a unit's group and has its connection.
+abbrev pub has_unit : GroupsData → GroupUnit → ℕ → Bool
+has_unit groups unit u = has_at groups u unit.conn.0 && group_at groups u == unit.group.0
 
 -- Whether some use case of a group has a connection.
 abbrev pub is_member : GroupsData → ℕ → ℕ → Bool

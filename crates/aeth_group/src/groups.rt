@@ -4,12 +4,12 @@ ghost use Rattle.std.specs.List.{range_with_len};
 ghost use Rattle.aeth_app.specs.App.{has_connection, is_marked};
 ghost use Rattle.aeth_group.specs.AppGroups.{IsGroupsOf};
 ghost use Rattle.aeth_group.specs.Members.{IsGroups, are_together, group_at, groups_of, has_at};
-ghost use Rattle.aeth_group.specs.Members.{is_kept, is_member, units_of};
+ghost use Rattle.aeth_group.specs.Members.{has_unit, is_kept, is_member, units_of};
 
 use crate::closing::chained;
 use crate::numbering::{class_of, firsts_below};
-use aeth_app::App;
-use aeth_base::{ConnId, GroupId, NoMemory, UseId};
+use aeth_app::{App, MAX_USES};
+use aeth_base::{ConnId, GroupId, NoMemory, Unit, UseId};
 use std::alloc::Global;
 use std::marker::Model;
 
@@ -29,6 +29,16 @@ impl Model for UseGroup {
 }
 
 impl UseGroup {
+    fn copy(&self) -> Result<UseGroup, NoMemory>
+        ensures { IfOk result (λ one. one ≡ self.now) }
+    {
+        let has = self.has.clone()?;
+        Ok(UseGroup {
+            group: self.group,
+            has,
+        })
+    }
+
     fn has(&self, connection: ConnId) -> bool
         ensures { result ≡ is_marked self.now.has connection.0 }
     {
@@ -88,6 +98,39 @@ impl Groups {
             count: firsts_below(&marks, count, count),
             uses,
         })
+    }
+
+    /// The same groups once more. `Err` where there was no memory.
+    pub fn copy(&self, alloc: Global) -> Result<Groups, NoMemory>
+        ensures { IfOk result (λ groups. groups ≡ self.now) }
+    {
+        let mut uses = Vec::new(alloc);
+        for one in &self.uses {
+            uses.push(one.copy()?)?;
+        }
+        Ok(Groups {
+            connections: self.connections,
+            count: self.count,
+            uses,
+        })
+    }
+
+    /// The number of use cases.
+    pub fn uses(&self) -> u32
+        ensures uses { result ≡ length self.now.uses }
+        ensures most { result ≤ MAX_USES }
+    {
+        self.uses.len() as u32
+    }
+
+    /// Whether a use case is of a unit's group and has its connection.
+    pub fn has_unit(&self, u: UseId, unit: Unit) -> bool
+        ensures { result ≡ has_unit self.now unit u.0 }
+    {
+        match self.uses.get(u.0 as usize) {
+            Some(one) => one.has(unit.conn) && one.group == unit.group.0,
+            None => false,
+        }
     }
 
     /// The number of groups.
