@@ -1,4 +1,4 @@
-//! Why a word is no header.
+// Why a word is no header.
 
 use std::error::Error;
 use std::fmt;

@@ -1,4 +1,4 @@
-//! The header word of a flit, after Æthereal (2005); its layout is this project's own.
+// The header word of a flit, after Æthereal (2005); its layout is this project's own.
 #![tactic(auto, unfolding(crate::specs::Header::word_of, crate::specs::Header::fields_of))]
 
 ghost use Rattle.std.specs.Prelude.{◌≡◌, ◌<◌, ◌+◌, ◌*◌, ◌%◌, ◌^◌, ◌↔◌, IfOk, IsErr};
@@ -50,7 +50,7 @@ pub struct Header {
     pub count: u8,
 }
 
-/// The word of a header.
+/// The word of a header, whose fields are in their ranges.
 pub fn pack(header: &Header) -> u32
     requires { IsPackable header.now }
     ensures word { result ≡ word_of header.now }
@@ -93,7 +93,7 @@ pub fn hop(word: u32) -> (u8, u32)
     (port, sent)
 }
 
-/// The lowest bits of a word.
+// The lowest bits of a word.
 #[tactic(auto, using(crate::proofs::Shifts::and_ones))]
 fn low_bits(word: u32, bits: u32) -> u32
     requires { bits < 32 }
@@ -102,7 +102,7 @@ fn low_bits(word: u32, bits: u32) -> u32
     word & ((1 << bits) - 1)
 }
 
-/// The word moved up by some bits, with a field in these.
+// The word moved up by some bits, with a field in these.
 #[tactic(auto, using(crate::proofs::Shifts::or_above))]
 fn append(word: u32, bits: u32, field: u32) -> u32
     requires below_width { bits < 32 }

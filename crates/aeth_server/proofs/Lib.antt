@@ -6,6 +6,7 @@ pub mod SlotServerLemmas
 pub mod ShapeLemmas
 pub mod PrivateServerLemmas
 pub mod PrivateServerParts
+pub mod SessionEnds
 pub mod CreditLoop
 pub mod SingleWord
 pub mod AloneStates

@@ -1,18 +1,15 @@
 -- The counts of a private server, from cycle to cycle. Nothing else looks into its history.
 use Rattle.std.proofs.Common.{◌&&◌, ℕ, ◌+◌, ◌-◌, ◌≤◌, ◌≡◌, ◌∙◌, zero, suc, Bool, true, false, cond}
-use Rattle.std.proofs.Common.{ltb, leb, List, [], ◌∷◌, min, sym, refl, ap, arith}
-use Rattle.std.specs.Prelude.{filter, nat_le, nat_lt}
-use Rattle.std.proofs.lemmas.Bool.{le-ltb, leb-true}
+use Rattle.std.proofs.Common.{ltb, ◌∷◌, min, sym, refl, ap, arith}
 use Rattle.aeth_base.specs.Limits.{credits_per_flit, words_per_flit}
 use Rattle.aeth_server.specs.SlotCycles.{is_slot}
-use Rattle.aeth_server.specs.FinishTimes.{arrivals_before}
 use Rattle.aeth_server.specs.Shape.{HasPaths}
 use Rattle.aeth_server.specs.PrivateServer.{PrivateServer, Counts, counts_after, counts_ago}
 use Rattle.aeth_server.specs.PrivateServer.{cycle_at, history, counts, accepted, arrived, pull_at}
 use Rattle.aeth_server.specs.PrivateServer.{sent, landed, taken, credited, returned}
 use Rattle.aeth_server.specs.CountLaws.{IsStep, IsIdle, IsInOrder, HasRoom, FitsFlit, HasGrown}
-use Rattle.aeth_server.specs.CountLaws.{IsClosed, IsAlike}
-use Rattle.aeth_base.proofs.Sequences.{never-falls, rests}
+use Rattle.aeth_server.specs.CountLaws.{IsAlike}
+use Rattle.aeth_base.proofs.Sequences.{never-falls}
 use Rattle.aeth_server.proofs.FinishTimeLemmas.{arrivals_before-none, arrivals_before-more}
 
 -- ---- the history
@@ -119,7 +116,7 @@ module _ (server : PrivateServer) (paths : HasPaths server.shape) where
       (min (arrived server (suc t) - sent server t)
       (server.buffer + returned server (suc t) - sent server t))
 
-  abbrev credits_ready : ℕ → ℕ
+  abbrev pub credits_ready : ℕ → ℕ
   credits_ready t = min credits_per_flit (taken server t - credited server t)
 
   abbrev words_taken : ℕ → ℕ
@@ -239,60 +236,3 @@ module _ (server : PrivateServer) (paths : HasPaths server.shape) where
             rw next (omega (arith, ordered.allowed, ordered.returns, ordered.credits, grown));
         credits = rw next (omega (arith, credited-most t, (in-order t).credits));
       }
-
-  -- ---- outside the session
-  -- no word is accepted before the session goes
-  abbrev accepts : ℕ → Bool
-  accepts a = nat_le server.go a && nat_lt a server.until
-
-  nothing-accepted : (t : ℕ) → t ≤ server.go → (offers : List ℕ)
-      → arrivals_before (filter accepts offers) t ≡ 0
-  nothing-accepted t early [] = refl
-  nothing-accepted t early (a ∷ offers) =
-      let rest = nothing-accepted t early offers in
-      let late : leb server.go a ≡ true → arrivals_before (a ∷ filter accepts offers) t ≡ 0 = λ is.
-      let after = leb-true server.go a is in
-      rw (le-ltb a t (omega arith)) rest in
-      let split : (v w : Bool) → leb server.go a ≡ v
-      → arrivals_before (cond (v && w) (a ∷ filter accepts offers) (filter accepts offers)) t ≡ 0 =
-      elim [
-        | false ↦ λ w is. rest
-        | true ↦ elim [ true ↦ λ is. late is | false ↦ λ is. rest ]
-      ] in
-      split (leb server.go a) (ltb a server.until) refl
-
-  -- so nothing is done before
-  pub idle-before : (t : ℕ) → t ≤ server.go → IsIdle server t
-  idle-before t early =
-      let ordered = in-order t in
-      let none : arrived server t ≡ 0 = nothing-accepted t early server.offers in
-      let sent_none : sent server t ≡ 0 = omega (arith, ordered.sends, none) in
-      let landed_none : landed server t ≡ 0 = omega (arith, ordered.lands, sent_none) in
-      let taken_none : taken server t ≡ 0 = omega (arith, ordered.takes, landed_none) in
-      let credited_none : credited server t ≡ 0 = omega (arith, ordered.credits, taken_none) in
-      record {
-        arrived = none;
-        sent = sent_none;
-        landed = landed_none;
-        taken = taken_none;
-        credited = credited_none;
-        returned = omega (arith, ordered.returns, credited_none);
-      }
-
-  -- what may not be sent isn't
-  cond-shut : (may slot : Bool) (before n : ℕ) → may ≡ false
-      → before + cond (may && slot) n 0 ≡ before
-  cond-shut may slot before n shut = rw shut (omega arith)
-
-  -- so nothing is done after the session
-  pub is-closed : (t : ℕ) → IsClosed server t
-  is-closed t = record {
-    sent = rests (sent server) server.stop t (λ u after.
-        sent-next u ∙ cond-shut _ _ (sent server u) (words_ready u) (le-ltb u server.stop after));
-    credited = rests (credited server) server.stop t (λ u after.
-        credited-next u
-        ∙ cond-shut _ _ (credited server u) (credits_ready u) (le-ltb u server.stop after));
-    taken = rests (taken server) server.finish t (λ u after.
-        let pulls : pull_at server u ≡ 0 = rw (le-ltb u server.finish after) refl in
-        omega (arith, taken-next u, pulls));
-  }

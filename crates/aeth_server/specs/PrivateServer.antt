@@ -2,6 +2,12 @@
 -- channel in the network. All its counts are functions of what it is given. A count speaks of the
 -- first t cycles, 0 to t - 1: what is sent by the end of cycle t is the count at t + 1. All counts
 -- at 0 are 0.
+--
+--   PrivateServer    what it is given
+--   Counts, Cycle, counts_after    what it has done, what a cycle brings, and what a cycle does
+--   accepted, arrived, pull_at, cycle_at    what the session brings to each cycle
+--   counts_ago, history, counts    the counts after each cycle, newest first, and after the last
+--   sent, landed, taken, credited, returned    each count by itself
 -- Credits: after Æthereal (2005). The private server: this project's own.
 use Rattle.std.specs.Prelude.{ℕ, ◌+◌, ◌-◌, ◌&&◌, nat_lt, nat_le, min, Bool, if◌then◌else◌, List, []}
 use Rattle.std.specs.Prelude.{◌∷◌, slice_index_or, filter, zero, suc}

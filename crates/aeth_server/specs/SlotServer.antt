@@ -1,6 +1,12 @@
 -- A server that sends in the slots of a table, and what it is to keep.
 -- A count speaks of the first t cycles, 0 to t - 1: what is sent by the end of cycle t is the count
 -- at t + 1. Rates are in words per table.
+--
+--   served, ServesInFull    what a server sends, and the stretch in which it serves every slot in full
+--   SlotServer, KeepsRate    a server, and what it needs to keep its rate
+--   sent_by, own_latency, own_finish, IsSentBy    what it sends by a cycle, and when its words are done
+--   arrival_after, steady_from, IsBusyPeriod    a busy period, and from when on it has the rate
+--   SendsInTurn, ServesAtRate    what a busy period is served
 -- Busy period: after the latency-rate server (Stiliadis and Varma, 1998), for whole words.
 use Rattle.std.specs.Prelude.{ℕ, ◌+◌, ◌-◌, ◌*◌, ◌/◌, ◌<◌, ◌≤◌, ◌≡◌, min, if◌then◌else◌, List}
 use Rattle.std.specs.Prelude.{length, slice_index, zero, suc}

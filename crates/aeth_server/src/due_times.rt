@@ -10,7 +10,8 @@ ghost use Rattle.aeth_server.specs.Shape.{channel_latency};
 use crate::shape::ChannelShape;
 use std::marker::Model;
 
-/// The due cycles of a session's words, one after the other, in constant time a word.
+/// The due cycles of a session's words, one after the other, in constant time a word. A session has
+/// at most 1,000,000 words, which are offered in cycles up to 1,000,000.
 /// After the latency-rate server (Stiliadis and Varma, 1998), for whole words.
 #[derive(Debug, Drop)]
 pub struct Due {
@@ -66,7 +67,7 @@ impl Due {
         self.finish.div_ceil(u128::from(self.rate)) as u64
     }
 
-    /// The rate times the time by which all words so far are due.
+    // The rate times the time by which all words so far are due.
     fn finish(&self) -> u128
         ensures { result ≡ self.now.finish }
     {
@@ -74,8 +75,9 @@ impl Due {
     }
 }
 
-/// The rate times the time by which the `i`-th word is due, of words that are offered in these
-/// cycles; 0 for `i` = 0.
+/// The rate times the time in cycles by which the `i`-th word is due, of words that are offered in
+/// these cycles; 0 for `i` = 0. There are at most 1,000,000 words, and their cycles are at most
+/// 1,000,000.
 pub fn deadline(shape: &ChannelShape, arrivals: &[u64], i: usize) -> u128
     requires shape { IsShapeInRange shape.now }
     requires word { i ≤ length arrivals.now }

@@ -1,4 +1,4 @@
-//! What holds of every server, over the definitions alone.
+// What holds of every server, over the definitions alone.
 ghost use Rattle.std.specs.Prelude.{◌≡◌, ℕ, ◌+◌, ◌-◌, ◌*◌, ◌≤◌, ◌↔◌, Bool, List, length};
 ghost use Rattle.std.specs.Prelude.{slice_index};
 ghost use Rattle.std.specs.List.Sorted.{IsNonDecreasing};

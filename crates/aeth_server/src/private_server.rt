@@ -12,11 +12,11 @@ use aeth_base::{CREDITS_PER_FLIT, MAX_PATH_DELAY, WORDS_PER_FLIT};
 use aeth_slots::SlotSet;
 use std::marker::Model;
 
-/// For how many cycles a flit is under way at most.
+// For how many cycles a flit is under way at most.
 const MEMORY: usize = MAX_PATH_DELAY as usize;
 
 /// One channel by itself: its private server from the first cycle on, in one session without a
-/// close. It remembers what is under way alone, at most a path's length of cycles each way.
+/// close. It remembers what is under way alone, for the greatest delay of a path each way.
 #[derive(Debug, Drop)]
 pub struct Alone {
     shape: ChannelShape,
@@ -31,8 +31,11 @@ pub struct Alone {
 /// The words sent, landed and taken after a cycle, as totals since the first cycle.
 #[derive(Clone, Copy, Debug, PartialEq, Eq)]
 pub struct AloneStep {
+    /// The words sent.
     pub sent: u32,
+    /// The words landed: those sent a path delay before.
     pub landed: u32,
+    /// The words that the receiver took.
     pub taken: u32,
 }
 
@@ -57,7 +60,7 @@ impl Model for Alone {
 }
 
 impl Alone {
-    /// Before the first cycle.
+    /// Before the first cycle, with a buffer of at most 65,535 words.
     pub fn new(shape: &ChannelShape, buffer: u32) -> Alone
         requires shape { IsShapeInRange shape.now }
         requires buffer { buffer ≤ max_queue_words }
@@ -75,7 +78,8 @@ impl Alone {
     }
 
     /// Cycle `t`, which is the next one: `words` more words are offered, the receiver takes at most
-    /// `pull`, and flits are sent where `may_send` says so. It takes constant time.
+    /// `pull`, and flits are sent where `may_send` says so. Cycles are numbered from 0 to 1,000,000, and
+    /// all words together are at most 1,000,000. It takes constant time.
     pub fn cycle(&mut self, t: u64, words: u32, pull: u32, may_send: bool) -> AloneStep
         requires next { t ≡ self.old.time }
         requires early { t ≤ max_cycles }
@@ -109,8 +113,8 @@ impl Alone {
     }
 }
 
-/// How many go of so many that wait: none where the cycle isn't open, and at most as many as a flit
-/// carries.
+// How many go of so many that wait: none where the cycle isn't open, and at most as many as a flit
+// carries.
 fn going(is_open: bool, most: u32, waiting: u32) -> u32
     ensures gives { result ≡ (if is_open then min most waiting else 0) }
     ensures within { result ≤ waiting }
@@ -118,14 +122,14 @@ fn going(is_open: bool, most: u32, waiting: u32) -> u32
     if is_open { most.min(waiting) } else { 0 }
 }
 
-/// Whether flits may be sent, and the cycle's slot is in the set.
+// Whether flits may be sent, and the cycle's slot is in the set.
 fn is_open(may_send: bool, slots: &SlotSet, t: u64) -> bool
     ensures { result ≡ (may_send && is_slot slots.now.size slots.now.slots t) }
 {
     may_send && slots.has((t % u64::from(slots.size())) as u32)
 }
 
-/// The newest count before the others, of which the oldest is dropped.
+// The newest count before the others, of which the oldest is dropped.
 fn shifted(newest: u32, counts: &[u32; MEMORY]) -> [u32; MEMORY]
     ensures { result ≡ newest ∷ take (max_path_delay - 1) counts.now }
 {

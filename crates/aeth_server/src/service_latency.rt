@@ -7,7 +7,8 @@ use aeth_slots::SlotSet;
 
 /// The latency, in cycles, of a server that sends up to `cap` words in each of these slots and
 /// keeps a rate of `rate` words per table: the least with which every slot, from every cycle on,
-/// comes in time. It takes about as many steps as the square of the table size.
+/// comes in time. A slot carries 1 to 15 words, and the rate is from 1 to what all slots carry. It
+/// takes about as many steps as the square of the table size.
 /// After the latency-rate server (Stiliadis and Varma, 1998), for whole words.
 pub fn latency(slots: &SlotSet, cap: u32, rate: u32) -> u32
     requires least_cap { 1 ≤ cap }
@@ -28,7 +29,7 @@ pub fn latency(slots: &SlotSet, cap: u32, rate: u32) -> u32
     late.div_ceil(rate)
 }
 
-/// The rate times how late a slot from cycle `s` on comes at most, with no latency.
+// The rate times how late a slot from cycle `s` on comes at most, with no latency.
 fn lateness_from(slots: &SlotSet, cap: u32, rate: u32, s: u32) -> u32
     requires start { s < slots.now.size }
     requires most_cap { cap ≤ credits_per_flit }

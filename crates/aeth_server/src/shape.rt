@@ -62,7 +62,7 @@ impl ChannelShape {
 }
 
 /// The words for which the receiver needs room, so that the credits never keep a word behind its
-/// due time: those of a round trip at the rate, and two more.
+/// due time: those of a round trip at the rate, and two more. They are at most 65,535.
 pub fn buffer(shape: &ChannelShape) -> u32
     requires { IsShapeInRange shape.now }
     ensures gives { result ≡ buffer_of (shape_of shape.now) }

@@ -2,8 +2,8 @@
 use aeth_header::{Header, HeaderFault, hop, pack, unpack};
 use std::test::Fail;
 
-/// A route, queue, credits and count, the word, and the port and the word of its hop. The second word
-/// has every bit but one.
+// A route, queue, credits and count, the word, and the port and the word of its hop. The second word
+// has every bit but one.
 const WORKED: [((u32, u8, u8, u8), u32, (u8, u32)); 3] = [
     ((2, 9, 3, 2), 0x8D20_0002, (2, 0x8D20_0000)),
     ((0x1F_FFFF, 31, 15, 2), 0xBFFF_FFFF, (7, 0xBFE3_FFFF)),

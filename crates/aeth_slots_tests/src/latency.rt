@@ -4,7 +4,7 @@ use crate::slot_set::set_of;
 use aeth_server::latency;
 use aeth_slots::SlotSet;
 
-/// The latency of these slots, where they can carry the rate.
+// The latency of these slots, where they can carry the rate.
 fn latency_of(slots: &SlotSet, cap: u32, rate: u32) -> Option<u32> {
     if cap < 1 || cap > 15 {
         return None;
@@ -15,7 +15,7 @@ fn latency_of(slots: &SlotSet, cap: u32, rate: u32) -> Option<u32> {
     Some(latency(slots, cap, rate))
 }
 
-/// A table size, slots, words a slot, a rate in words per table, and the latency in cycles.
+// A table size, slots, words a slot, a rate in words per table, and the latency in cycles.
 const WORKED: [(u32, &[u32], u32, u32, u32); 13] = [
     (8, &[0, 4], 2, 4, 1),
     (8, &[0, 1], 2, 4, 4),

@@ -5,8 +5,8 @@ ghost use Rattle.aeth_server.specs.ChannelShape.{IsShapeInRange};
 use crate::slot_set::set_of;
 use aeth_server::{Alone, ChannelShape, Due, buffer, deadline};
 
-/// A channel: its table, its need, its slots and the delay of its path, the slots and the delay of the
-/// opposite channel, and the delay of its receiver.
+// A channel: its table, its need, its slots and the delay of its path, the slots and the delay of the
+// opposite channel, and the delay of its receiver.
 #[derive(Clone, Copy)]
 struct Channel {
     size: u32,
@@ -88,7 +88,7 @@ const RAREST: Channel = Channel {
     delay: 0,
 };
 
-/// The shape of a channel, where its numbers are in their ranges and its slots suffice.
+// The shape of a channel, where its numbers are in their ranges and its slots suffice.
 fn shape_of(channel: &Channel) -> Option<ChannelShape>
     ensures { IfSome result IsShapeInRange }
 {
@@ -114,7 +114,7 @@ fn shape_of(channel: &Channel) -> Option<ChannelShape>
     })
 }
 
-/// A channel, its latency with the path, and its buffer in words.
+// A channel, its latency with the path, and its buffer in words.
 const BUFFERS: [(Channel, u32, u32); 7] = [
     (SPREAD, 4, 9),
     (SINGLE, 6, 6),
@@ -134,9 +134,9 @@ fn buffers_hold_a_round_trip(rt: HostRuntime) {
     }
 }
 
-/// A run of a channel: its buffer, the cycles in which words are offered, how many words the receiver
-/// takes at most in a cycle, the cycle from which on nothing is sent, how many cycles there are, the
-/// cycles in which words land, and those in which they are due.
+// A run of a channel: its buffer, the cycles in which words are offered, how many words the receiver
+// takes at most in a cycle, the cycle from which on nothing is sent, how many cycles there are, the
+// cycles in which words land, and those in which they are due.
 #[derive(Clone, Copy)]
 struct Run {
     name: &'static str,
@@ -241,7 +241,7 @@ const RUNS: [Run; 8] = [
     },
 ];
 
-/// How many of these are the cycle.
+// How many of these are the cycle.
 fn times(cycles: &[u64], t: u64) -> usize
     ensures { result ≤ length cycles.now }
 {
@@ -254,7 +254,7 @@ fn times(cycles: &[u64], t: u64) -> usize
     count
 }
 
-/// Whether words land in the cycles of a run, and in no others.
+// Whether words land in the cycles of a run, and in no others.
 fn lands(run: &Run, shape: &ChannelShape) -> bool
     requires { IsShapeInRange shape.now }
 {
@@ -277,7 +277,7 @@ fn lands(run: &Run, shape: &ChannelShape) -> bool
     true
 }
 
-/// Whether words are due in the cycles of a run, one after the other.
+// Whether words are due in the cycles of a run, one after the other.
 fn is_due(run: &Run, shape: &ChannelShape) -> bool
     requires { IsShapeInRange shape.now }
 {
@@ -293,7 +293,7 @@ fn is_due(run: &Run, shape: &ChannelShape) -> bool
     true
 }
 
-/// Whether a run is as its channel by itself.
+// Whether a run is as its channel by itself.
 fn holds(run: &Run) -> bool {
     match shape_of(&run.channel) {
         Some(shape) => lands(run, &shape) && is_due(run, &shape),

@@ -1,5 +1,5 @@
 use Rattle.aeth_server.proofs.PrivateServerLemmas.{in-order, has-room, fits-flit, has-grown}
-use Rattle.aeth_server.proofs.PrivateServerLemmas.{idle-before, is-closed}
+use Rattle.aeth_server.proofs.SessionEnds.{idle-before, is-closed}
 use Rattle.aeth_server.proofs.laws.count_order.Goals as goal
 
 -- By induction on the cycles.
