@@ -9,13 +9,13 @@ use Rattle.aeth_header.specs.Layout.{port_bits, route_ports, route_bits}
 use Rattle.aeth_header.specs.Route.{IsPort, route_of}
 
 -- The first port of a route is its lowest.
-pub route_of-mod : (port : ℕ) (ports : List ℕ) → IsPort port →
-    route_of (port ∷ ports) % 2 ^ port_bits ≡ port
+pub route_of-mod : (port : ℕ) (ports : List ℕ) → IsPort port
+    → route_of (port ∷ ports) % 2 ^ port_bits ≡ port
 route_of-mod port ports fits = omega arith
 
 -- Behind its first port a route is that of the other ports.
-pub route_of-div : (port : ℕ) (ports : List ℕ) → IsPort port →
-    route_of (port ∷ ports) / 2 ^ port_bits ≡ route_of ports
+pub route_of-div : (port : ℕ) (ports : List ℕ) → IsPort port
+    → route_of (port ∷ ports) / 2 ^ port_bits ≡ route_of ports
 route_of-div port ports fits = omega arith
 
 -- One port more takes its bits more.
@@ -24,8 +24,8 @@ bits-suc count =
     ap (λ (bits : ℕ). 2 ^ bits) (omega arith) ∙ pow-add 2 (port_bits * count) port_bits
 
 -- A route takes the bits of its ports.
-pub route_of-below : (ports : List ℕ) → All IsPort ports →
-    route_of ports < 2 ^ (port_bits * length ports)
+pub route_of-below : (ports : List ℕ) → All IsPort ports
+    → route_of ports < 2 ^ (port_bits * length ports)
 route_of-below [] fit = lit< tt
 route_of-below (port ∷ ports) fit =
     let first_fits : IsPort port = All-head IsPort port ports fit in
@@ -33,16 +33,16 @@ route_of-below (port ∷ ports) fit =
     rw (bits-suc (length ports)) (omega arith)
 
 -- A route that is short enough fits its field.
-pub route_of-fits : (ports : List ℕ) → All IsPort ports → length ports ≤ route_ports →
-    route_of ports < 2 ^ route_bits
+pub route_of-fits : (ports : List ℕ) → All IsPort ports → length ports ≤ route_ports
+    → route_of ports < 2 ^ route_bits
 route_of-fits ports fit short =
     let below = route_of-below ports fit in
     let bits : port_bits * length ports ≤ route_bits = omega arith in
     omega (arith, pow_mono bits)
 
 -- Behind some ports a route is that of the ports left.
-pub route_of-drop : (i : ℕ) (ports : List ℕ) → All IsPort ports →
-    route_of ports / 2 ^ (port_bits * i) ≡ route_of (drop i ports)
+pub route_of-drop : (i : ℕ) (ports : List ℕ) → All IsPort ports
+    → route_of ports / 2 ^ (port_bits * i) ≡ route_of (drop i ports)
 route_of-drop zero ports fit = omega arith
 route_of-drop (suc i) [] fit = zero-div (2 ^ (port_bits * suc i))
 route_of-drop (suc i) (port ∷ ports) fit =
