@@ -15,20 +15,20 @@ use Rattle.aeth_clocked.proofs.WiresLemmas.{Drives-whole}
 
 module _ {P : Type 0} (outputs : P → ℕ → Bool) where
   -- Of disjoint components those behind the first are disjoint.
-  pub AreDisjoint-tail : (part : P) (parts : List P) →
-      AreDisjoint outputs (part ∷ parts) → AreDisjoint outputs parts
+  pub AreDisjoint-tail : (part : P) (parts : List P)
+      → AreDisjoint outputs (part ∷ parts) → AreDisjoint outputs parts
   AreDisjoint-tail part parts disjoint i j link one other at there is is_too =
       let same = disjoint (suc i) (suc j) link one other at there is is_too in omega arith
 
   -- An output of a component is an output.
-  pub is_output-at : (parts : List P) (i link : ℕ) (part : P) → slice_get parts i ≡ Some part →
-      outputs part link ≡ true → is_output outputs parts link ≡ true
+  pub is_output-at : (parts : List P) (i link : ℕ) (part : P) → slice_get parts i ≡ Some part
+      → outputs part link ≡ true → is_output outputs parts link ≡ true
   is_output-at parts i link part at is =
       any_passes_from_place (λ part. outputs part link) parts i part at is
 
   -- An output is some component's.
-  pub is_output-some : (parts : List P) (link : ℕ) → is_output outputs parts link ≡ true →
-      (i : ℕ) × (part : P) × (slice_get parts i ≡ Some part) × (outputs part link ≡ true)
+  pub is_output-some : (parts : List P) (link : ℕ) → is_output outputs parts link ≡ true
+      → (i : ℕ) × (part : P) × (slice_get parts i ≡ Some part) × (outputs part link ≡ true)
   is_output-some [] link is = absurd cc
   is_output-some (part ∷ parts) link is =
       elim (cases_Bool (outputs part link)) [
@@ -38,9 +38,9 @@ module _ {P : Type 0} (outputs : P → ℕ → Bool) where
       ]
 
   -- Where one component alone has an output, its flit is driven there.
-  pub driven-at : (emit : P → ℕ → ℕ → Option Flit) (parts : List P) (i cycle link : ℕ) (part : P) →
-      AreDisjoint outputs parts → slice_get parts i ≡ Some part → outputs part link ≡ true →
-      driven outputs emit parts cycle link ≡ emit part cycle link
+  pub driven-at : (emit : P → ℕ → ℕ → Option Flit) (parts : List P) (i cycle link : ℕ) (part : P)
+      → AreDisjoint outputs parts → slice_get parts i ≡ Some part → outputs part link ≡ true
+      → driven outputs emit parts cycle link ≡ emit part cycle link
   driven-at emit [] i cycle link part disjoint at is = absurd cc
   driven-at emit (first ∷ others) zero cycle link part disjoint at is =
       let same : first ≡ part = same_Some first part at in
@@ -54,8 +54,8 @@ module _ {P : Type 0} (outputs : P → ℕ → Bool) where
       ]
 
   -- On a link that is no output nothing is driven.
-  pub driven-none : (emit : P → ℕ → ℕ → Option Flit) (parts : List P) (cycle link : ℕ) →
-      is_output outputs parts link ≡ false → driven outputs emit parts cycle link ≡ None
+  pub driven-none : (emit : P → ℕ → ℕ → Option Flit) (parts : List P) (cycle link : ℕ)
+      → is_output outputs parts link ≡ false → driven outputs emit parts cycle link ≡ None
   driven-none emit [] cycle link none = refl
   driven-none emit (part ∷ parts) cycle link none =
       elim (cases_Bool (outputs part link)) [
@@ -64,9 +64,9 @@ module _ {P : Type 0} (outputs : P → ℕ → Bool) where
       ]
 
 -- A component of the changed ones comes from one at its place.
-changed-from : {P : Type 0} (change : P → P) (parts : List P) (i : ℕ) (changed : P) →
-    slice_get (map change parts) i ≡ Some changed →
-    (part : P) × (slice_get parts i ≡ Some part) × (change part ≡ changed)
+changed-from : {P : Type 0} (change : P → P) (parts : List P) (i : ℕ) (changed : P)
+    → slice_get (map change parts) i ≡ Some changed
+    → (part : P) × (slice_get parts i ≡ Some part) × (change part ≡ changed)
 changed-from change [] i changed at = absurd cc
 changed-from change (part ∷ parts) zero changed at =
     (part, refl, same_Some (change part) changed at)
@@ -76,8 +76,8 @@ changed-from change (part ∷ parts) (suc i) changed at = changed-from change pa
 module _ {P : Type 0} (links : P → ℕ → Bool) (change : P → P)
     (kept : (part : P) (link : ℕ) → links (change part) link ≡ links part link) where
   -- Disjoint components stay so.
-  pub AreDisjoint-map : (parts : List P) →
-      AreDisjoint links parts → AreDisjoint links (map change parts)
+  pub AreDisjoint-map : (parts : List P)
+      → AreDisjoint links parts → AreDisjoint links (map change parts)
   AreDisjoint-map parts disjoint i j link one other at there is is_too =
       let first = changed-from change parts i one at in
       let second = changed-from change parts j other there in
@@ -85,15 +85,15 @@ module _ {P : Type 0} (links : P → ℕ → Bool) (change : P → P)
       (sym (kept first.0 link) ∙ rw first.2 is) (sym (kept second.0 link) ∙ rw second.2 is_too)
 
   -- Their outputs stay.
-  pub is_output-map : (parts : List P) (link : ℕ) →
-      is_output links (map change parts) link ≡ is_output links parts link
+  pub is_output-map : (parts : List P) (link : ℕ)
+      → is_output links (map change parts) link ≡ is_output links parts link
   is_output-map [] link = refl
   is_output-map (part ∷ parts) link = rw (kept part link, is_output-map parts link) refl
 
   -- Their links stay within the wires.
-  pub AreLinks-map : (parts : List P) (count : ℕ) →
-      All (λ part. AreLinks (links part) count) parts →
-      All (λ part. AreLinks (links part) count) (map change parts)
+  pub AreLinks-map : (parts : List P) (count : ℕ)
+      → All (λ part. AreLinks (links part) count) parts
+      → All (λ part. AreLinks (links part) count) (map change parts)
   AreLinks-map parts count within =
       All-map (λ part. AreLinks (links part) count) change parts (λ i part below link is.
       within i part below link (sym (kept (get_or parts i part) link) ∙ is))
@@ -101,11 +101,11 @@ module _ {P : Type 0} (links : P → ℕ → Bool) (change : P → P)
 -- Where each link is an output, components that have driven, were taken from and have latched are
 -- stepped.
 pub stepped-from_Drives : {P : Type 0} (meaning : Meaning P) (taken : List P → List P)
-    (parts : List P) (cycle : ℕ) (old new : List (Option Flit)) →
-    ((link : ℕ) → link < length old → is_output meaning.outputs parts link ≡ true) →
-    Drives (is_output meaning.outputs parts) (driven meaning.outputs meaning.emit parts cycle)
-    old new →
-    map (λ part. meaning.absorb part new) (taken (map (λ part. meaning.after part cycle) parts))
+    (parts : List P) (cycle : ℕ) (old new : List (Option Flit))
+    → ((link : ℕ) → link < length old → is_output meaning.outputs parts link ≡ true)
+    → Drives (is_output meaning.outputs parts) (driven meaning.outputs meaning.emit parts cycle)
+    old new
+    → map (λ part. meaning.absorb part new) (taken (map (λ part. meaning.after part cycle) parts))
     ≡ stepped meaning taken parts (length old) cycle
 stepped-from_Drives meaning taken parts cycle old new all drives =
     rw (Drives-whole (is_output meaning.outputs parts)

@@ -17,9 +17,9 @@ use Rattle.aeth_clocked.proofs.Turns.{take-turn}
 use Rattle.aeth_clocked.proofs.WiresLemmas.{Drives-same, Drives-then}
 
 -- A test of each place is a test of each element.
-list_any-range : {P : Type 0} (test : P → Bool) (test_at : ℕ → Bool) (parts : List P) (first : ℕ) →
-    ((i j : ℕ) (part : P) → first + i ≡ j → slice_get parts i ≡ Some part → test_at j ≡ test part) →
-    list_any test_at (range_with_len first (length parts)) ≡ list_any test parts
+list_any-range : {P : Type 0} (test : P → Bool) (test_at : ℕ → Bool) (parts : List P) (first : ℕ)
+    → ((i j : ℕ) (part : P) → first + i ≡ j → slice_get parts i ≡ Some part → test_at j ≡ test part)
+    → list_any test_at (range_with_len first (length parts)) ≡ list_any test parts
 list_any-range test test_at [] first same = refl
 list_any-range test test_at (part ∷ parts) first same =
     let here = same 0 first part (omega arith) refl in
@@ -33,8 +33,8 @@ module _ {P : Type 0} (outputs : P → ℕ → Bool) (parts : List P) where
   has_output link number =
       option_map_or (λ part. outputs part link) (slice_get parts number) false
 
-  has_output-at : (link number : ℕ) (part : P) → slice_get parts number ≡ Some part →
-      has_output link number ≡ outputs part link
+  has_output-at : (link number : ℕ) (part : P) → slice_get parts number ≡ Some part
+      → has_output link number ≡ outputs part link
   has_output-at link number part is = rw is refl
 
   -- Whether a link is an output of a component with one of these numbers.
@@ -42,9 +42,9 @@ module _ {P : Type 0} (outputs : P → ℕ → Bool) (parts : List P) where
   is_output_among numbers link = list_any (has_output link) numbers
 
   -- One number more.
-  is_output_among-push : (numbers : List ℕ) (number link : ℕ) (part : P) →
-      slice_get parts number ≡ Some part →
-      (is_output_among numbers link || outputs part link)
+  is_output_among-push : (numbers : List ℕ) (number link : ℕ) (part : P)
+      → slice_get parts number ≡ Some part
+      → (is_output_among numbers link || outputs part link)
       ≡ is_output_among (numbers ++ number ∷ []) link
   is_output_among-push numbers number link part is =
       let pushed = list_any-append (has_output link) numbers (number ∷ []) in
@@ -52,8 +52,8 @@ module _ {P : Type 0} (outputs : P → ℕ → Bool) (parts : List P) where
       rw (pushed, own, or-false (outputs part link)) refl
 
   -- The numbers of an order have all outputs.
-  is_output_among-order : (order : List ℕ) (link : ℕ) → IsOrder order →
-      length order ≡ length parts → is_output_among order link ≡ is_output outputs parts link
+  is_output_among-order : (order : List ℕ) (link : ℕ) → IsOrder order
+      → length order ≡ length parts → is_output_among order link ≡ is_output outputs parts link
   is_output_among-order order link is_order size =
       let test = λ (part : P). outputs part link in
       let range = range_with_len 0 (length order) in
@@ -67,10 +67,10 @@ module _ {P : Type 0} (outputs : P → ℕ → Bool) (parts : List P) where
       (drives : Drives (is_output_among (take turn order)) (driven outputs emit parts cycle)
       old now) where
     -- The component whose turn comes drives.
-    pub Drives-turn : (number : ℕ) (part : P) (new : List (Option Flit)) →
-        AreDisjoint outputs parts → slice_get order turn ≡ Some number →
-        slice_get parts number ≡ Some part → Drives (outputs part) (emit part cycle) now new →
-        Drives (is_output_among (take (turn + 1) order)) (driven outputs emit parts cycle) old new
+    pub Drives-turn : (number : ℕ) (part : P) (new : List (Option Flit))
+        → AreDisjoint outputs parts → slice_get order turn ≡ Some number
+        → slice_get parts number ≡ Some part → Drives (outputs part) (emit part cycle) now new
+        → Drives (is_output_among (take (turn + 1) order)) (driven outputs emit parts cycle) old new
     Drives-turn number part new disjoint at is then =
         let flit_on = driven outputs emit parts cycle in
         let earlier = is_output_among (take turn order) in
@@ -83,8 +83,8 @@ module _ {P : Type 0} (outputs : P → ℕ → Bool) (parts : List P) where
         drives then)
 
     -- After the last turn all have driven.
-    pub Drives-all : IsOrder order → length order ≡ length parts → length order ≤ turn →
-        Drives (is_output outputs parts) (driven outputs emit parts cycle) old now
+    pub Drives-all : IsOrder order → length order ≡ length parts → length order ≤ turn
+        → Drives (is_output outputs parts) (driven outputs emit parts cycle) old now
     Drives-all is_order size over =
         Drives-same (is_output_among order) (is_output outputs parts)
         (driven outputs emit parts cycle) old now

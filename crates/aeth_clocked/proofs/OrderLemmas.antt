@@ -23,8 +23,8 @@ module _ (numbers : List ℕ) (order : IsOrder numbers) where
       Contains-permutation (range_with_len 0 n) numbers i order.permutes (Contains-range n i below)
 
   -- So the test for such a number passes.
-  pub IsOrder-passes : (i : ℕ) → i < length numbers →
-      list_any (λ number. eqb number i) numbers ≡ true
+  pub IsOrder-passes : (i : ℕ) → i < length numbers
+      → list_any (λ number. eqb number i) numbers ≡ true
   IsOrder-passes i below =
       let at = IsOrder-contains i below in
       list_any_at (λ number. eqb number i) numbers at.0 i at.1 (rw at.2 (eq-eqb i i refl))
@@ -51,17 +51,17 @@ module _ (numbers : List ℕ) (order : IsOrder numbers) where
   AreChosen-order = record { distinct = IsOrder-distinct; below = IsOrder-below }
 
 -- Of chosen numbers the one at a place is below the count.
-pub AreChosen-below-at : (count : ℕ) (numbers : List ℕ) → AreChosen count numbers →
-    (place number : ℕ) → slice_get numbers place ≡ Some number → number < count
+pub AreChosen-below-at : (count : ℕ) (numbers : List ℕ) → AreChosen count numbers
+    → (place number : ℕ) → slice_get numbers place ≡ Some number → number < count
 AreChosen-below-at count numbers chosen place number at =
     let within = slice_get_within numbers place number at in
     let is = get_or_from_slice_get numbers place number number at in
     omega (arith, chosen.below place number within)
 
 -- Where the test for each number below the length passes, there is an order.
-pub IsOrder-from_passes : (numbers : List ℕ) → length numbers < 2 ^ 32 →
-    ((i : ℕ) → i < length numbers → list_any (λ number. eqb number i) numbers ≡ true) →
-    IsOrder numbers
+pub IsOrder-from_passes : (numbers : List ℕ) → length numbers < 2 ^ 32
+    → ((i : ℕ) → i < length numbers → list_any (λ number. eqb number i) numbers ≡ true)
+    → IsOrder numbers
 IsOrder-from_passes numbers short passes =
     record {
       short = short;
@@ -71,8 +71,8 @@ IsOrder-from_passes numbers short passes =
     }
 
 -- A rotation comes to each number.
-rotation_reaches : (count turn i : ℕ) → 0 < count → i < count →
-    (place : ℕ) × (place < count) × ((turn + place) % count ≡ i)
+rotation_reaches : (count turn i : ℕ) → 0 < count → i < count
+    → (place : ℕ) × (place < count) × ((turn + place) % count ≡ i)
 rotation_reaches count turn i some below =
     let first = turn % count in
     let first_below = mod-lt turn some in
@@ -91,8 +91,8 @@ rotation_reaches count turn i some below =
     ]
 
 -- A rotation is an order.
-pub IsOrder-rotation_of : (count turn : ℕ) → count < 2 ^ 32 → 0 < count →
-    IsOrder (rotation_of count turn)
+pub IsOrder-rotation_of : (count turn : ℕ) → count < 2 ^ 32 → 0 < count
+    → IsOrder (rotation_of count turn)
 IsOrder-rotation_of count turn short some =
     let numbers = rotation_of count turn in
     let number_at = λ (place : ℕ). (turn + place) % count in

@@ -22,21 +22,21 @@ Contains-range n i below =
     (i, rw (length-range_with_len 0 n) below, get_or-range_with_len 0 n i i below ∙ omega arith)
 
 -- One number more.
-range_with_len-suc : (a n last : ℕ) → a + n ≡ last →
-    range_with_len a (suc n) ≡ range_with_len a n ++ last ∷ []
+range_with_len-suc : (a n last : ℕ) → a + n ≡ last
+    → range_with_len a (suc n) ≡ range_with_len a n ++ last ∷ []
 range_with_len-suc a zero last is = ap (λ (number : ℕ). number ∷ []) (omega arith)
 range_with_len-suc a (suc n) last is =
     ap (λ (numbers : List ℕ). a ∷ numbers) (range_with_len-suc (a + 1) n last (omega arith))
 
 -- A number of a list that isn't its first is one of the others.
-Contains-others : (first : ℕ) (others : List ℕ) (i : ℕ) → i ≢ first →
-    Contains (first ∷ others) i → Contains others i
+Contains-others : (first : ℕ) (others : List ℕ) (i : ℕ) → i ≢ first
+    → Contains (first ∷ others) i → Contains others i
 Contains-others first others i other (zero, within, same) = absurd (other (sym same))
 Contains-others first others i other (suc k, within, same) = (k, omega arith, same)
 
 -- The last number in front of a permutation of the others.
-IsPermutation-suc : (n : ℕ) (others numbers : List ℕ) → IsPermutation (range_with_len 0 n) others →
-    IsPermutation numbers (n ∷ others) → IsPermutation (range_with_len 0 (suc n)) numbers
+IsPermutation-suc : (n : ℕ) (others numbers : List ℕ) → IsPermutation (range_with_len 0 n) others
+    → IsPermutation numbers (n ∷ others) → IsPermutation (range_with_len 0 (suc n)) numbers
 IsPermutation-suc n others numbers rest split =
     let below = range_with_len 0 n in
     let last_first = IsPermutation-to_front below n in
@@ -48,8 +48,8 @@ IsPermutation-suc n others numbers rest split =
     (IsPermutation-trans (below ++ n ∷ []) (n ∷ others) numbers moved joined)
 
 -- A list that has each number below its length is a permutation of these.
-pub IsPermutation-from_all : (n : ℕ) (numbers : List ℕ) → length numbers ≡ n →
-    ((i : ℕ) → i < n → Contains numbers i) → IsPermutation (range_with_len 0 n) numbers
+pub IsPermutation-from_all : (n : ℕ) (numbers : List ℕ) → length numbers ≡ n
+    → ((i : ℕ) → i < n → Contains numbers i) → IsPermutation (range_with_len 0 n) numbers
 IsPermutation-from_all zero [] size all = IsPermutation-refl []
 IsPermutation-from_all zero (x ∷ xs) size all = absurd (omega arith)
 IsPermutation-from_all (suc n) numbers size all =

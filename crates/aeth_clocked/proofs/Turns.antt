@@ -20,21 +20,21 @@ abbrev pub is_among : List ℕ → ℕ → Bool
 is_among numbers i = list_any (λ number. eqb number i) numbers
 
 -- One number more.
-is_among-push : (numbers : List ℕ) (i j : ℕ) →
-    is_among (numbers ++ i ∷ []) j ≡ (is_among numbers j || (eqb i j || false))
+is_among-push : (numbers : List ℕ) (i j : ℕ)
+    → is_among (numbers ++ i ∷ []) j ≡ (is_among numbers j || (eqb i j || false))
 is_among-push numbers i j = list_any-append (λ number. eqb number j) numbers (i ∷ [])
 
 -- The numbers up to a place.
-pub take-turn : (order : List ℕ) (turn number : ℕ) → slice_get order turn ≡ Some number →
-    take (turn + 1) order ≡ take turn order ++ number ∷ []
+pub take-turn : (order : List ℕ) (turn number : ℕ) → slice_get order turn ≡ Some number
+    → take (turn + 1) order ≡ take turn order ++ number ∷ []
 take-turn order turn number at =
     let is = get_or_from_slice_get order turn number number at in
     take_more order turn number (slice_get_within order turn number at)
     ∙ ap (λ (last : ℕ). take turn order ++ last ∷ []) is
 
 -- A number is not among those before it.
-is_among-before : (count : ℕ) (order : List ℕ) (turn number : ℕ) → AreChosen count order →
-    slice_get order turn ≡ Some number → is_among (take turn order) number ≡ false
+is_among-before : (count : ℕ) (order : List ℕ) (turn number : ℕ) → AreChosen count order
+    → slice_get order turn ≡ Some number → is_among (take turn order) number ≡ false
 is_among-before count order turn number chosen at =
     let before = take turn order in
     list_any_none (λ other. eqb other number) before (λ i default below.
@@ -64,16 +64,16 @@ module _ {P : Type 0} (change : P → P) where
       record { size = refl; at = λ i. sym (option_map-same (slice_get parts i)) }
 
   -- A component that has had no turn is as it was.
-  Changed-left : (numbers : List ℕ) (old now : List P) (i : ℕ) (part : P) →
-      Changed numbers old now → is_among numbers i ≡ false → slice_get now i ≡ Some part →
-      slice_get old i ≡ Some part
+  Changed-left : (numbers : List ℕ) (old now : List P) (i : ℕ) (part : P)
+      → Changed numbers old now → is_among numbers i ≡ false → slice_get now i ≡ Some part
+      → slice_get old i ≡ Some part
   Changed-left numbers old now i part changed left at =
       sym (rw left at (changed.at i) ∙ option_map-same (slice_get old i)) ∙ at
 
   -- One turn more.
-  Changed-more : (numbers : List ℕ) (old now : List P) (i : ℕ) (part : P) →
-      Changed numbers old now → is_among numbers i ≡ false → slice_get now i ≡ Some part →
-      Changed (numbers ++ i ∷ []) old (slice_set now i (change part))
+  Changed-more : (numbers : List ℕ) (old now : List P) (i : ℕ) (part : P)
+      → Changed numbers old now → is_among numbers i ≡ false → slice_get now i ≡ Some part
+      → Changed (numbers ++ i ∷ []) old (slice_set now i (change part))
   Changed-more numbers old now i part changed left at =
       let within = slice_get_within now i part at in
       let was = Changed-left numbers old now i part changed left at in
@@ -99,8 +99,8 @@ module _ {P : Type 0} (change : P → P) where
   module _ (order : List ℕ) (old now : List P) (turn : ℕ)
       (changed : Changed (take turn order) old now) where
     -- The component whose turn comes is as it was.
-    pub Changed-next : AreChosen (length old) order → (number : ℕ) (read : P) →
-        slice_get order turn ≡ Some number → slice_get old number ≡ Some (get_or now number read)
+    pub Changed-next : AreChosen (length old) order → (number : ℕ) (read : P)
+        → slice_get order turn ≡ Some number → slice_get old number ≡ Some (get_or now number read)
     Changed-next chosen number read at =
         let below = AreChosen-below-at (length old) order chosen turn number at in
         let same = changed.size in
@@ -109,9 +109,9 @@ module _ {P : Type 0} (change : P → P) where
         (slice_get-get_or now number read (omega arith))
 
     -- It takes its turn.
-    pub Changed-turn : AreChosen (length old) order → (number : ℕ) (read part : P) →
-        slice_get order turn ≡ Some number → part ≡ change (get_or now number read) →
-        Changed (take (turn + 1) order) old (slice_set now number part)
+    pub Changed-turn : AreChosen (length old) order → (number : ℕ) (read part : P)
+        → slice_get order turn ≡ Some number → part ≡ change (get_or now number read)
+        → Changed (take (turn + 1) order) old (slice_set now number part)
     Changed-turn chosen number read part at is =
         let below = AreChosen-below-at (length old) order chosen turn number at in
         let same = changed.size in
@@ -121,8 +121,8 @@ module _ {P : Type 0} (change : P → P) where
         (slice_get-get_or now number read (omega arith)))
 
     -- After the last turn of an order all have changed.
-    pub Changed-all : IsOrder order → length order ≡ length old → length order ≤ turn →
-        now ≡ map change old
+    pub Changed-all : IsOrder order → length order ≡ length old → length order ≤ turn
+        → now ≡ map change old
     Changed-all is_order size over =
         same_list now (map change old) (λ i.
         let mapped = slice_get-map change old i in

@@ -16,14 +16,14 @@ pub AreLinks-one : (output count : ℕ) → AreLinks (λ link. eqb output link) 
 AreLinks-one output count links = links output (eq-eqb output output refl)
 
 -- No output, no change.
-pub Drives-none : (flit_on : ℕ → Option Flit) (wires : List (Option Flit)) →
-    Drives (λ link. false) flit_on wires wires
+pub Drives-none : (flit_on : ℕ → Option Flit) (wires : List (Option Flit))
+    → Drives (λ link. false) flit_on wires wires
 Drives-none flit_on wires = record { links = refl; at = λ link within. refl }
 
 -- A component with one output: a write to it.
-pub Drives-slice_set : (output : ℕ) (flit_on : ℕ → Option Flit) (old : List (Option Flit)) →
-    output < length old →
-    Drives (λ link. eqb output link) flit_on old (slice_set old output (flit_on output))
+pub Drives-slice_set : (output : ℕ) (flit_on : ℕ → Option Flit) (old : List (Option Flit))
+    → output < length old
+    → Drives (λ link. eqb output link) flit_on old (slice_set old output (flit_on output))
 Drives-slice_set output flit_on old within =
     record {
       links = length-set old output (flit_on output);
@@ -38,8 +38,8 @@ Drives-slice_set output flit_on old within =
 
 -- The same outputs by another test.
 pub Drives-same : (outputs others : ℕ → Bool) (flit_on : ℕ → Option Flit)
-    (old new : List (Option Flit)) → ((link : ℕ) → outputs link ≡ others link) →
-    Drives outputs flit_on old new → Drives others flit_on old new
+    (old new : List (Option Flit)) → ((link : ℕ) → outputs link ≡ others link)
+    → Drives outputs flit_on old new → Drives others flit_on old new
 Drives-same outputs others flit_on old new same drives =
     record {
       links = drives.links;
@@ -48,10 +48,10 @@ Drives-same outputs others flit_on old new same drives =
 
 -- A component that drives after others, where one function tells the flits of all.
 pub Drives-then : (earlier outputs : ℕ → Bool) (flit_on own_flit_on : ℕ → Option Flit)
-    (old middle new : List (Option Flit)) →
-    ((link : ℕ) → outputs link ≡ true → flit_on link ≡ own_flit_on link) →
-    Drives earlier flit_on old middle → Drives outputs own_flit_on middle new →
-    Drives (λ link. earlier link || outputs link) flit_on old new
+    (old middle new : List (Option Flit))
+    → ((link : ℕ) → outputs link ≡ true → flit_on link ≡ own_flit_on link)
+    → Drives earlier flit_on old middle → Drives outputs own_flit_on middle new
+    → Drives (λ link. earlier link || outputs link) flit_on old new
 Drives-then earlier outputs flit_on own_flit_on old middle new told before then =
     record {
       links = then.links ∙ before.links;
@@ -65,8 +65,8 @@ Drives-then earlier outputs flit_on own_flit_on old middle new told before then 
 
 -- Where each link is an output, the new wires are the flits.
 pub Drives-whole : (outputs : ℕ → Bool) (flit_on : ℕ → Option Flit)
-    (old new : List (Option Flit)) → ((link : ℕ) → link < length old → outputs link ≡ true) →
-    Drives outputs flit_on old new → new ≡ map flit_on (range_with_len 0 (length old))
+    (old new : List (Option Flit)) → ((link : ℕ) → link < length old → outputs link ≡ true)
+    → Drives outputs flit_on old new → new ≡ map flit_on (range_with_len 0 (length old))
 Drives-whole outputs flit_on old new all drives =
     let count = length old in
     let flits = map flit_on (range_with_len 0 count) in

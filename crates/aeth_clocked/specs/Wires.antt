@@ -17,8 +17,8 @@ AreLinks links count = (link : ℕ) → links link ≡ true → link < count
 pub record Drives (outputs : ℕ → Bool) (flit_on : ℕ → Option Flit)
     (old new : List (Option Flit)) : Type 0 where
   pub links : length new ≡ length old
-  pub at : (link : ℕ) → link < length old →
-      slice_get new link ≡ (if outputs link then Some (flit_on link) else slice_get old link)
+  pub at : (link : ℕ) → link < length old
+      → slice_get new link ≡ (if outputs link then Some (flit_on link) else slice_get old link)
 
 -- The wires have the same on each link of the set.
 abbrev pub AgreeOn : (ℕ → Bool) → List (Option Flit) → List (Option Flit) → Type 0

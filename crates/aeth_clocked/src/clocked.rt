@@ -1,4 +1,4 @@
-//! The components of a clocked network.
+// The components of a clocked network.
 
 ghost use Rattle.std.specs.Prelude.{◌≡◌, ℕ, Bool, Option, List, length};
 ghost use Rattle.aeth_clocked.specs.declared.flit.Flit.{Flit};
@@ -36,22 +36,22 @@ pub trait Clocked {
         ensures { self.new ≡ absorb self.old wires.now };
 
     /// A component keeps its outputs when it has emitted.
-    ghost outputs_after: { (part : Self) (cycle link : ℕ) →
-        outputs (after part cycle) link ≡ outputs part link };
+    ghost outputs_after: { (part : Self) (cycle link : ℕ)
+        → outputs (after part cycle) link ≡ outputs part link };
 
     /// It keeps its inputs then.
-    ghost inputs_after: { (part : Self) (cycle link : ℕ) →
-        inputs (after part cycle) link ≡ inputs part link };
+    ghost inputs_after: { (part : Self) (cycle link : ℕ)
+        → inputs (after part cycle) link ≡ inputs part link };
 
     /// It keeps its outputs when it has latched.
-    ghost outputs_absorb: { (part : Self) (wires : List (Option Flit)) (link : ℕ) →
-        outputs (absorb part wires) link ≡ outputs part link };
+    ghost outputs_absorb: { (part : Self) (wires : List (Option Flit)) (link : ℕ)
+        → outputs (absorb part wires) link ≡ outputs part link };
 
     /// It keeps its inputs then.
-    ghost inputs_absorb: { (part : Self) (wires : List (Option Flit)) (link : ℕ) →
-        inputs (absorb part wires) link ≡ inputs part link };
+    ghost inputs_absorb: { (part : Self) (wires : List (Option Flit)) (link : ℕ)
+        → inputs (absorb part wires) link ≡ inputs part link };
 
     /// What it absorbs is what its inputs have, alone.
-    ghost absorb_agrees: { (part : Self) (some other : List (Option Flit)) →
-        AgreeOn (inputs part) some other → absorb part some ≡ absorb part other };
+    ghost absorb_agrees: { (part : Self) (some other : List (Option Flit))
+        → AgreeOn (inputs part) some other → absorb part some ≡ absorb part other };
 }

@@ -1,4 +1,4 @@
-//! The two halves of a cycle: each component drives in its turn, and then each latches.
+// The two halves of a cycle: each component drives in its turn, and then each latches.
 
 ghost use Rattle.std.specs.Prelude.{◌≡◌, ℕ, length, map, All};
 ghost use Rattle.aeth_clocked.specs.Wires.{AreLinks, Drives};

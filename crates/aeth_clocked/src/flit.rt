@@ -1,4 +1,4 @@
-//! What a link carries in one cycle.
+// What a link carries in one cycle.
 
 /// A flit: one header word and up to two payload words, after Æthereal (2005).
 ///

@@ -1,4 +1,4 @@
-//! The order in which components take their turns within a cycle.
+// The order in which components take their turns within a cycle.
 
 ghost use Rattle.std.specs.Prelude.{◌≡◌, ◌<◌, ◌↔◌, Some, IfOk, IfSome, IsSome, IsTrue};
 ghost use Rattle.std.specs.Prelude.{length, slice_get};
@@ -69,7 +69,7 @@ impl Order {
     }
 }
 
-/// Whether each number below the length is in the list.
+// Whether each number below the length is in the list.
 fn is_order(numbers: &[u32]) -> bool
     ensures { IsTrue result ↔ IsOrder numbers.now }
 {
@@ -84,7 +84,7 @@ fn is_order(numbers: &[u32]) -> bool
     true
 }
 
-/// The numbers below a count, from a turn on and round.
+// The numbers below a count, from a turn on and round.
 fn rotated(alloc: Global, count: u32, turn: u32) -> Result<Vec<u32>, AllocError>
     requires { 0 < count }
     ensures { IfOk result (λ numbers. numbers.items ≡ rotation_of count turn) }

@@ -1,4 +1,4 @@
-//! The wires between components.
+// The wires between components.
 
 ghost use Rattle.std.specs.Prelude.{◌≡◌, ◌<◌, None, Some, IfOk};
 ghost use Rattle.std.specs.Prelude.{length, slice_get, slice_set, replicate};

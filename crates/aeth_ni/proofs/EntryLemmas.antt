@@ -7,7 +7,8 @@ use Rattle.std.proofs.lemmas.Bool.{cases_eq, eq-eqb, ne_eqb}
 use Rattle.std.proofs.lemmas.Bool.Decides.{nat_tests}
 use Rattle.std.proofs.lemmas.Option.{same_Some}
 use Rattle.aeth_base.proofs.Lists.{slice_get-slice_set_same, slice_get-slice_set_other}
-use Rattle.aeth_slots.proofs.Lists.{Contains-there, Contains-cases, Contains-filter, filter-Contains}
+use Rattle.aeth_slots.proofs.Lists.{Contains-there, Contains-cases}
+use Rattle.aeth_slots.proofs.Lists.{Contains-filter, filter-Contains}
 use Rattle.aeth_base.specs.declared.ids.NiId.{NiId}
 use Rattle.aeth_ni.specs.declared.write.Write.{Write}
 use Rattle.aeth_ni.specs.declared.write.Write.TheVariants.{ClearSlot, ClearRoute, SetRoute, SetSlot}
@@ -17,17 +18,17 @@ use Rattle.aeth_ni.specs.Writes.{addressee, IsWritable, written, written_at}
 use Rattle.aeth_ni.specs.Entries.{Holds}
 
 -- An entry of another slot stays.
-without_entry-other : (ni : NiId) (slot : ℕ) (entries : List Entry) (entry : Entry) →
-    (eqb entry.ni.0 ni.0 && eqb entry.slot slot) ≡ false →
-    Contains (without_entry ni slot entries) entry ↔ Contains entries entry
+without_entry-other : (ni : NiId) (slot : ℕ) (entries : List Entry) (entry : Entry)
+    → (eqb entry.ni.0 ni.0 && eqb entry.slot slot) ≡ false
+    → Contains (without_entry ni slot entries) entry ↔ Contains entries entry
 without_entry-other ni slot entries entry other = (
   (λ has. (filter-Contains _ entries entry has).0),
   (λ has. Contains-filter _ entries entry has (rw other refl)),
 )
 
 -- The slot's own is gone.
-pub without_entry-same : (ni : NiId) (slot : ℕ) (entries : List Entry) (entry : Entry) →
-    entry.ni.0 ≡ ni.0 → entry.slot ≡ slot → Contains (without_entry ni slot entries) entry → ⊥
+pub without_entry-same : (ni : NiId) (slot : ℕ) (entries : List Entry) (entry : Entry)
+    → entry.ni.0 ≡ ni.0 → entry.slot ≡ slot → Contains (without_entry ni slot entries) entry → ⊥
 without_entry-same ni slot entries entry same at has =
     let kept = (filter-Contains _ entries entry has).1 in grind (arith, nat_tests)
 
@@ -52,8 +53,8 @@ module _ (interface : InterfaceState) (entries : List Entry) (slot : ℕ)
   ]
 
   -- A slot of the interface names a queue.
-  Holds-named : (named : ℕ) →
-      Holds (record interface { entries = slice_set interface.entries slot (Some named) })
+  Holds-named : (named : ℕ)
+      → Holds (record interface { entries = slice_set interface.entries slot (Some named) })
       (record { ni = interface.number; slot = slot; queue = named }
       ∷ without_entry interface.number slot entries)
   Holds-named named s queue = elim (cases_eq s slot) [
@@ -87,9 +88,9 @@ module _ (interface : InterfaceState) (entries : List Entry) (slot : ℕ)
   ]
 
 -- A write to the interface.
-pub Holds-written : (write : Write) (interface : InterfaceState) (entries : List Entry) →
-    addressee write ≡ interface.number → IsWritable write interface → Holds interface entries →
-    Holds (written write interface) (entries_behind entries write)
+pub Holds-written : (write : Write) (interface : InterfaceState) (entries : List Entry)
+    → addressee write ≡ interface.number → IsWritable write interface → Holds interface entries
+    → Holds (written write interface) (entries_behind entries write)
 Holds-written (ClearSlot ni slot) interface entries to within holds =
     subst (λ (n : NiId).
     Holds (written (ClearSlot ni slot) interface) (without_entry n slot entries))
@@ -102,18 +103,18 @@ Holds-written (SetSlot ni slot queue) interface entries to within holds =
     (Holds-named interface entries slot within.0 holds queue)
 
 -- The entries of an interface that a slot of another leaves.
-Holds-elsewhere : (interface : InterfaceState) (entries : List Entry) (ni : NiId) (slot : ℕ) →
-    ni.0 ≢ interface.number.0 → Holds interface entries →
-    Holds interface (without_entry ni slot entries)
+Holds-elsewhere : (interface : InterfaceState) (entries : List Entry) (ni : NiId) (slot : ℕ)
+    → ni.0 ≢ interface.number.0 → Holds interface entries
+    → Holds interface (without_entry ni slot entries)
 Holds-elsewhere interface entries ni slot other holds s queue =
     let kept = without_entry-other ni slot entries
     (record { ni = interface.number; slot = s; queue = queue }) (grind (arith, nat_tests)) in
     ((λ at. kept.1 ((holds s queue).0 at)), (λ has. (holds s queue).1 (kept.0 has)))
 
 -- A write to another interface.
-pub Holds-other : (write : Write) (interface : InterfaceState) (entries : List Entry) →
-    (addressee write).0 ≢ interface.number.0 → Holds interface entries →
-    Holds interface (entries_behind entries write)
+pub Holds-other : (write : Write) (interface : InterfaceState) (entries : List Entry)
+    → (addressee write).0 ≢ interface.number.0 → Holds interface entries
+    → Holds interface (entries_behind entries write)
 Holds-other (ClearSlot ni slot) interface entries other holds =
     Holds-elsewhere interface entries ni slot other holds
 Holds-other (ClearRoute ni queue) interface entries other holds = holds
@@ -128,9 +129,9 @@ Holds-other (SetSlot ni slot named) interface entries other holds = λ s queue.
     )
 
 -- A write to any.
-pub Holds-written_at : (write : Write) (interface : InterfaceState) (entries : List Entry) →
-    (addressee write ≡ interface.number → IsWritable write interface) → Holds interface entries →
-    Holds (written_at write interface) (entries_behind entries write)
+pub Holds-written_at : (write : Write) (interface : InterfaceState) (entries : List Entry)
+    → (addressee write ≡ interface.number → IsWritable write interface) → Holds interface entries
+    → Holds (written_at write interface) (entries_behind entries write)
 Holds-written_at write interface entries within holds =
     elim (cases_eq (addressee write).0 interface.number.0) [
       | inl same ↦

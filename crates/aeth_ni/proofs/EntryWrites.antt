@@ -19,9 +19,9 @@ abbrev pub clear_of : Entry → Write
 clear_of entry = ClearSlot entry.ni entry.slot
 
 -- An entry behind a write is set by it, or was there.
-entries_behind-cases : (entries : List Entry) (write : Write) (entry : Entry) →
-    Contains (entries_behind entries write) entry →
-    (write ≡ set_of entry) ⊎ Contains entries entry
+entries_behind-cases : (entries : List Entry) (write : Write) (entry : Entry)
+    → Contains (entries_behind entries write) entry
+    → (write ≡ set_of entry) ⊎ Contains entries entry
 entries_behind-cases entries (ClearSlot ni slot) entry has =
     inr (filter-Contains _ entries entry has).0
 entries_behind-cases entries (ClearRoute ni queue) entry has = inr has
@@ -33,9 +33,9 @@ entries_behind-cases entries (SetSlot ni slot queue) entry has =
     ]
 
 -- An entry behind writes is set by one of them, or was there.
-pub fold-cases : (writes : List Write) (entries : List Entry) (entry : Entry) →
-    Contains (fold entries_behind entries writes) entry →
-    Contains writes (set_of entry) ⊎ Contains entries entry
+pub fold-cases : (writes : List Write) (entries : List Entry) (entry : Entry)
+    → Contains (fold entries_behind entries writes) entry
+    → Contains writes (set_of entry) ⊎ Contains entries entry
 fold-cases [] entries entry has = inr has
 fold-cases (write ∷ writes) entries entry has =
     elim (fold-cases writes (entries_behind entries write) entry has) [
@@ -47,9 +47,9 @@ fold-cases (write ∷ writes) entries entry has =
     ]
 
 -- Where one of them clears its slot, it is set by one.
-pub fold-cleared : (writes : List Write) (entries : List Entry) (entry : Entry) →
-    Contains (fold entries_behind entries writes) entry → Contains writes (clear_of entry) →
-    Contains writes (set_of entry)
+pub fold-cleared : (writes : List Write) (entries : List Entry) (entry : Entry)
+    → Contains (fold entries_behind entries writes) entry → Contains writes (clear_of entry)
+    → Contains writes (set_of entry)
 fold-cleared [] entries entry has clears = Contains-nil clears
 fold-cleared (write ∷ writes) entries entry has clears =
     elim (Contains-cases write writes (clear_of entry) clears) [
@@ -65,12 +65,12 @@ fold-cleared (write ∷ writes) entries entry has clears =
 -- The writes leave an entry, where none clears its slot, and none sets it otherwise.
 pub record Leave (writes : List Write) (entry : Entry) : Type 0 where
   pub clear : Contains writes (clear_of entry) → ⊥
-  pub set : (queue : ℕ) → Contains writes (SetSlot entry.ni entry.slot queue) →
-      queue ≡ entry.queue
+  pub set : (queue : ℕ) → Contains writes (SetSlot entry.ni entry.slot queue)
+      → queue ≡ entry.queue
 
 -- What leaves an entry still does behind the first write.
-Leave-tail : (write : Write) (writes : List Write) (entry : Entry) →
-    Leave (write ∷ writes) entry → Leave writes entry
+Leave-tail : (write : Write) (writes : List Write) (entry : Entry)
+    → Leave (write ∷ writes) entry → Leave writes entry
 Leave-tail write writes entry leave =
     record {
       clear = λ has. leave.clear (Contains-there write writes (clear_of entry) has);
@@ -79,8 +79,8 @@ Leave-tail write writes entry leave =
     }
 
 -- The slot of an entry, by the test that a write makes.
-slot_is : (ni : NiId) (slot : ℕ) (entry : Entry) →
-    (eqb entry.ni.0 ni.0 && eqb entry.slot slot) ≡ true → (ni ≡ entry.ni) × (slot ≡ entry.slot)
+slot_is : (ni : NiId) (slot : ℕ) (entry : Entry)
+    → (eqb entry.ni.0 ni.0 && eqb entry.slot slot) ≡ true → (ni ≡ entry.ni) × (slot ≡ entry.slot)
 slot_is ni slot entry is =
     let parts = and_parts (eqb entry.ni.0 ni.0) (eqb entry.slot slot) is in
     let number = eqb-true entry.ni.0 ni.0 parts.0 in
@@ -89,8 +89,8 @@ slot_is ni slot entry is =
 
 -- One write leaves it.
 entries_behind-keeps : (entries : List Entry) (write : Write) (writes : List Write)
-    (entry : Entry) → Leave (write ∷ writes) entry → Contains entries entry →
-    Contains (entries_behind entries write) entry
+    (entry : Entry) → Leave (write ∷ writes) entry → Contains entries entry
+    → Contains (entries_behind entries write) entry
 entries_behind-keeps entries (ClearSlot ni slot) writes entry leave has =
     elim (cases_Bool (eqb entry.ni.0 ni.0 && eqb entry.slot slot)) [
       | inl is ↦
@@ -110,18 +110,18 @@ entries_behind-keeps entries (SetSlot ni slot queue) writes entry leave has =
     ]
 
 -- All leave it.
-pub fold-keeps : (writes : List Write) (entries : List Entry) (entry : Entry) →
-    Leave writes entry → Contains entries entry →
-    Contains (fold entries_behind entries writes) entry
+pub fold-keeps : (writes : List Write) (entries : List Entry) (entry : Entry)
+    → Leave writes entry → Contains entries entry
+    → Contains (fold entries_behind entries writes) entry
 fold-keeps [] entries entry leave has = has
 fold-keeps (write ∷ writes) entries entry leave has =
     fold-keeps writes (entries_behind entries write) entry (Leave-tail write writes entry leave)
     (entries_behind-keeps entries write writes entry leave has)
 
 -- An entry that one of them sets, and that they leave, is there behind them.
-pub fold-sets : (writes : List Write) (entries : List Entry) (entry : Entry) →
-    Leave writes entry → Contains writes (set_of entry) →
-    Contains (fold entries_behind entries writes) entry
+pub fold-sets : (writes : List Write) (entries : List Entry) (entry : Entry)
+    → Leave writes entry → Contains writes (set_of entry)
+    → Contains (fold entries_behind entries writes) entry
 fold-sets [] entries entry leave sets = Contains-nil sets
 fold-sets (write ∷ writes) entries entry leave sets =
     let rest = Leave-tail write writes entry leave in

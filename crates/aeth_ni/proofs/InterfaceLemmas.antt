@@ -19,29 +19,29 @@ length-with_queue number change queues =
 
 -- The queue has changed.
 pub queue_at-with_queue_same : (number : ℕ) (change : QueueState → QueueState)
-    (queues : List QueueState) → number < length queues →
-    queue_at (with_queue number change queues) number ≡ change (queue_at queues number)
+    (queues : List QueueState) → number < length queues
+    → queue_at (with_queue number change queues) number ≡ change (queue_at queues number)
 queue_at-with_queue_same number change queues within =
     get_or-set_at queues number number _ (empty_queue 0) refl within
 
 -- No other has.
 pub queue_at-with_queue_other : (number other : ℕ) (change : QueueState → QueueState)
-    (queues : List QueueState) → other ≢ number →
-    queue_at (with_queue number change queues) other ≡ queue_at queues other
+    (queues : List QueueState) → other ≢ number
+    → queue_at (with_queue number change queues) other ≡ queue_at queues other
 queue_at-with_queue_other number other change queues apart =
     get_or-set_other queues number other (change (queue_at queues number)) (empty_queue 0) apart
 
 -- Where nothing is emitted, the queues stay.
-pub sent_by-none : (entry : Option ℕ) (queues : List QueueState) →
-    emitted_by entry queues ≡ None → sent_by entry queues ≡ queues
+pub sent_by-none : (entry : Option ℕ) (queues : List QueueState)
+    → emitted_by entry queues ≡ None → sent_by entry queues ≡ queues
 sent_by-none None queues none = refl
 sent_by-none (Some number) queues none =
     ap (set queues number) (sent-none (queue_at queues number) none)
     ∙ set-get_or queues number (empty_queue 0)
 
 -- What an interface sends arrives: the same header, and the words that it took out.
-pub arrival_of-next_flit : (queue : QueueState) (route : Route) → IsRoute route →
-    arrival_of (Some (next_flit queue route))
+pub arrival_of-next_flit : (queue : QueueState) (route : Route) → IsRoute route
+    → arrival_of (Some (next_flit queue route))
     ≡ Some (record { header = next_header queue route; words = next_words queue })
 arrival_of-next_flit queue route fits =
     rw (header_of-word_of (next_header queue route) (IsPackable-next_header queue route fits))

@@ -24,16 +24,16 @@ length-opening_writes row =
     omega arith
 
 -- Writes of which each channel has its count.
-length-writes : (writes : ChannelRow → List Write) (rows : List ChannelRow) →
-    ((row : ChannelRow) → length (writes row) ≡ write_count row) →
-    length (flat_map writes rows) ≡ sum_by write_count rows
+length-writes : (writes : ChannelRow → List Write) (rows : List ChannelRow)
+    → ((row : ChannelRow) → length (writes row) ≡ write_count row)
+    → length (flat_map writes rows) ≡ sum_by write_count rows
 length-writes writes rows each =
     length-flat_map writes rows
     ∙ ap (λ (count : ChannelRow → ℕ). sum_by count rows) (λ i row. each row i)
 
 -- A program has a write for each slot and one for the route, of each channel.
-pub length-program_of : (closing opening : List ChannelRow) →
-    length (program_of closing opening)
+pub length-program_of : (closing opening : List ChannelRow)
+    → length (program_of closing opening)
     ≡ sum_by write_count closing + sum_by write_count opening
 length-program_of closing opening =
     length-append (flat_map closing_writes closing) (flat_map opening_writes opening)

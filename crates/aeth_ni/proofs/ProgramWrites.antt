@@ -28,8 +28,8 @@ only x y has = elim (Contains-cases x [] y has) [
 ]
 
 -- A write of a channel that closes clears a slot of it, or its route.
-closing-cases : (row : ChannelRow) (write : Write) → Contains (closing_writes row) write →
-    ((slot : ℕ) × (ClearSlot row.ni slot ≡ write) × Contains row.slots.slots slot)
+closing-cases : (row : ChannelRow) (write : Write) → Contains (closing_writes row) write
+    → ((slot : ℕ) × (ClearSlot row.ni slot ≡ write) × Contains row.slots.slots slot)
     ⊎ (ClearRoute row.ni row.queue ≡ write)
 closing-cases row write has =
     elim (Contains-append_cases (map (λ slot. ClearSlot row.ni slot) row.slots.slots)
@@ -40,8 +40,8 @@ closing-cases row write has =
     ]
 
 -- A write of a channel that opens sets its route, or a slot of it.
-opening-cases : (row : ChannelRow) (write : Write) → Contains (opening_writes row) write →
-    (SetRoute row.ni row.queue row.route row.remote row.credits ≡ write)
+opening-cases : (row : ChannelRow) (write : Write) → Contains (opening_writes row) write
+    → (SetRoute row.ni row.queue row.route row.remote row.credits ≡ write)
     ⊎ ((slot : ℕ) × (SetSlot row.ni slot row.queue ≡ write) × Contains row.slots.slots slot)
 opening-cases row write has =
     elim (Contains-cases (SetRoute row.ni row.queue row.route row.remote row.credits)
@@ -52,17 +52,17 @@ opening-cases row write has =
     ]
 
 -- The entry of a slot of a channel.
-pub Contains-entry : (rows : List ChannelRow) (row : ChannelRow) (slot : ℕ) → Contains rows row →
-    Contains row.slots.slots slot →
-    Contains (entries_in rows) (record { ni = row.ni; slot = slot; queue = row.queue })
+pub Contains-entry : (rows : List ChannelRow) (row : ChannelRow) (slot : ℕ) → Contains rows row
+    → Contains row.slots.slots slot
+    → Contains (entries_in rows) (record { ni = row.ni; slot = slot; queue = row.queue })
 Contains-entry rows row slot there here =
     Contains-flat_map entries_of rows row _ there
     (Contains-map (λ slot. record { ni = row.ni; slot = slot; queue = row.queue })
     row.slots.slots slot here)
 
 -- An entry is of a slot of one of the channels.
-pub entry-slot : (rows : List ChannelRow) (entry : Entry) → Contains (entries_in rows) entry →
-    (row : ChannelRow) × Contains rows row × ((slot : ℕ)
+pub entry-slot : (rows : List ChannelRow) (entry : Entry) → Contains (entries_in rows) entry
+    → (row : ChannelRow) × Contains rows row × ((slot : ℕ)
     × (record { ni = row.ni; slot = slot; queue = row.queue } ≡ entry)
     × Contains row.slots.slots slot)
 entry-slot rows entry has =
@@ -84,8 +84,8 @@ module _ (rows : List ChannelRow) where
       ]
 
   -- Each slot of a channel that closes is cleared.
-  pub closing-clears : (entry : Entry) → Contains (entries_in rows) entry →
-      Contains (flat_map closing_writes rows) (clear_of entry)
+  pub closing-clears : (entry : Entry) → Contains (entries_in rows) entry
+      → Contains (flat_map closing_writes rows) (clear_of entry)
   closing-clears entry has =
       let found = entry-slot rows entry has in
       let row = found.0 in
@@ -97,8 +97,8 @@ module _ (rows : List ChannelRow) where
       (Contains-map (λ slot. ClearSlot row.ni slot) row.slots.slots slot found.2.2)))
 
   -- No other slot is.
-  pub closing-cleared : (entry : Entry) → Contains (flat_map closing_writes rows) (clear_of entry) →
-      (other : Entry) × Contains (entries_in rows) other × IsSameSlot entry other
+  pub closing-cleared : (entry : Entry) → Contains (flat_map closing_writes rows) (clear_of entry)
+      → (other : Entry) × Contains (entries_in rows) other × IsSameSlot entry other
   closing-cleared entry has =
       let found = flat_map-Contains closing_writes rows (clear_of entry) has in
       elim (closing-cases found.0 (clear_of entry) found.2) [
@@ -112,7 +112,8 @@ module _ (rows : List ChannelRow) where
       ]
 
   -- No slot is cleared while channels open.
-  pub opening-clears : (entry : Entry) → Contains (flat_map opening_writes rows) (clear_of entry) → ⊥
+  pub opening-clears : (entry : Entry) → Contains (flat_map opening_writes rows) (clear_of entry)
+      → ⊥
   opening-clears entry has =
       let found = flat_map-Contains opening_writes rows (clear_of entry) has in
       elim (opening-cases found.0 (clear_of entry) found.2) [
@@ -121,8 +122,8 @@ module _ (rows : List ChannelRow) where
       ]
 
   -- Each slot of a channel that opens is set.
-  pub opening-sets : (entry : Entry) → Contains (entries_in rows) entry →
-      Contains (flat_map opening_writes rows) (set_of entry)
+  pub opening-sets : (entry : Entry) → Contains (entries_in rows) entry
+      → Contains (flat_map opening_writes rows) (set_of entry)
   opening-sets entry has =
       let found = entry-slot rows entry has in
       let row = found.0 in
@@ -135,8 +136,8 @@ module _ (rows : List ChannelRow) where
       (Contains-map (λ slot. SetSlot row.ni slot row.queue) row.slots.slots slot found.2.2)))
 
   -- No other slot is, and none otherwise.
-  pub opening-set : (entry : Entry) → Contains (flat_map opening_writes rows) (set_of entry) →
-      Contains (entries_in rows) entry
+  pub opening-set : (entry : Entry) → Contains (flat_map opening_writes rows) (set_of entry)
+      → Contains (entries_in rows) entry
   opening-set entry has =
       let found = flat_map-Contains opening_writes rows (set_of entry) has in
       elim (opening-cases found.0 (set_of entry) found.2) [

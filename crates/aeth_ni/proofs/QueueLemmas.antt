@@ -21,14 +21,14 @@ pub words_sent-counter : (queue : QueueState) → words_sent queue ≤ queue.cou
 words_sent-counter queue = omega arith
 
 -- The header of the next flit can be packed.
-pub IsPackable-next_header : (queue : QueueState) (route : Route) → IsRoute route →
-    IsPackable (next_header queue route)
+pub IsPackable-next_header : (queue : QueueState) (route : Route) → IsRoute route
+    → IsPackable (next_header queue route)
 IsPackable-next_header queue route fits =
     record { route = fits.ports; queue = fits.remote; credits = omega arith; count = omega arith }
 
 -- The first two words, of two that are at hand.
-two_words : (count : ℕ) (words : List ℕ) → count ≤ words_per_flit → count ≤ length words →
-    take count (slice_index (take count words) 0 ∷ slice_index (take count words) 1 ∷ [])
+two_words : (count : ℕ) (words : List ℕ) → count ≤ words_per_flit → count ≤ length words
+    → take count (slice_index (take count words) 0 ∷ slice_index (take count words) 1 ∷ [])
     ≡ take count words
 two_words zero words few enough = refl
 two_words (suc count) [] few enough = absurd (omega arith)
@@ -38,22 +38,22 @@ two_words (suc (suc zero)) (first ∷ second ∷ words) few enough = refl
 two_words (suc (suc (suc count))) (first ∷ second ∷ words) few enough = absurd (omega arith)
 
 -- The next flit has the next words.
-pub words_of-next_flit : (queue : QueueState) (route : Route) →
-    words_of (next_header queue route) (next_flit queue route) ≡ next_words queue
+pub words_of-next_flit : (queue : QueueState) (route : Route)
+    → words_of (next_header queue route) (next_flit queue route) ≡ next_words queue
 words_of-next_flit queue route =
     two_words (words_sent queue) queue.waiting (omega arith) (words_sent-waiting queue)
 
 -- Words that there is room for all stay.
-pub landed-whole : (credits : ℕ) (words : List ℕ) (queue : QueueState) →
-    length (queue.received ++ words) ≤ queue.room →
-    (landed credits words queue).received ≡ queue.received ++ words
+pub landed-whole : (credits : ℕ) (words : List ℕ) (queue : QueueState)
+    → length (queue.received ++ words) ≤ queue.room
+    → (landed credits words queue).received ≡ queue.received ++ words
 landed-whole credits words queue room =
     let none : length (queue.received ++ words) - queue.room ≡ 0 = omega arith in
     rw none refl
 
 -- Where no flit is made, no other state is taken.
-no_flit : (route : Option Route) (flit : Route → Flit) (behind queue : QueueState) →
-    option_map flit route ≡ None → cond (is_some route) behind queue ≡ queue
+no_flit : (route : Option Route) (flit : Route → Flit) (behind queue : QueueState)
+    → option_map flit route ≡ None → cond (is_some route) behind queue ≡ queue
 no_flit None flit behind queue none = refl
 no_flit (Some route) flit behind queue none = absurd cc
 

@@ -19,25 +19,25 @@ use Rattle.aeth_ni.proofs.ProgramWrites.{closing-cleared, closing-clears, closin
 use Rattle.aeth_ni.proofs.ProgramWrites.{opening-clears, opening-set, opening-sets}
 
 -- What is in the first of a list is in the list.
-Contains-from_take : (count : ℕ) (writes : List Write) (write : Write) →
-    Contains (take count writes) write → Contains writes write
+Contains-from_take : (count : ℕ) (writes : List Write) (write : Write)
+    → Contains (take count writes) write → Contains writes write
 Contains-from_take count writes write has =
     rw (take-append-drop count writes) at
     (Contains-append_left (take count writes) (drop count writes) write has)
 
 -- Channels of which each is one of others have no other entries.
-entries-among : (some others : List ChannelRow) →
-    ((row : ChannelRow) → Contains some row → Contains others row) → (entry : Entry) →
-    Contains (entries_in some) entry → Contains (entries_in others) entry
+entries-among : (some others : List ChannelRow)
+    → ((row : ChannelRow) → Contains some row → Contains others row) → (entry : Entry)
+    → Contains (entries_in some) entry → Contains (entries_in others) entry
 entries-among some others each entry has =
     let found = flat_map-Contains entries_of some entry has in
     Contains-flat_map entries_of others found.0 entry (each found.0 found.1) found.2
 
 -- Channels of which each is one of these or of those have entries of these or of those.
-entries-either : (rows some others : List ChannelRow) →
-    ((row : ChannelRow) → Contains rows row → Contains some row ⊎ Contains others row) →
-    (entry : Entry) → Contains (entries_in rows) entry →
-    Contains (entries_in some) entry ⊎ Contains (entries_in others) entry
+entries-either : (rows some others : List ChannelRow)
+    → ((row : ChannelRow) → Contains rows row → Contains some row ⊎ Contains others row)
+    → (entry : Entry) → Contains (entries_in rows) entry
+    → Contains (entries_in some) entry ⊎ Contains (entries_in others) entry
 entries-either rows some others each entry has =
     let found = flat_map-Contains entries_of rows entry has in
     elim (each found.0 found.1) [
@@ -57,9 +57,9 @@ module _ (left entered kept closing opening : List ChannelRow)
   after count = entries_after left (program_of closing opening) count
 
   -- What all closing writes leave is of a channel that goes on.
-  kept-from_closing : (entry : Entry) →
-      Contains (fold entries_behind (entries_in left) closes) entry →
-      Contains (entries_in kept) entry
+  kept-from_closing : (entry : Entry)
+      → Contains (fold entries_behind (entries_in left) closes) entry
+      → Contains (entries_in kept) entry
   kept-from_closing entry has =
       elim (fold-cases closes (entries_in left) entry has) [
         | inl sets ↦ absurd (closing-sets closing entry sets)
@@ -72,8 +72,8 @@ module _ (left entered kept closing opening : List ChannelRow)
       ]
 
   -- While channels close, each entry is one of the use case that is left.
-  pub left-while_closing : (count : ℕ) (entry : Entry) → count ≤ length closes →
-      Contains (after count) entry → Contains (entries_in left) entry
+  pub left-while_closing : (count : ℕ) (entry : Entry) → count ≤ length closes
+      → Contains (after count) entry → Contains (entries_in left) entry
   left-while_closing count entry within has =
       elim (fold-cases (take count closes) (entries_in left) entry
       (rw (take-append-le count closes opens within) at has)) [
@@ -84,16 +84,16 @@ module _ (left entered kept closing opening : List ChannelRow)
       ]
 
   -- The entries once all have closed and some have opened.
-  after-opening : (more : ℕ) →
-      after (length closes + more)
+  after-opening : (more : ℕ)
+      → after (length closes + more)
       ≡ fold entries_behind (fold entries_behind (entries_in left) closes) (take more opens)
   after-opening more =
       rw (take-append-add closes opens more)
       (fold-append entries_behind (entries_in left) closes (take more opens))
 
   -- While channels open, each entry is one of the use case that is entered.
-  pub entered-while_opening : (more : ℕ) (entry : Entry) →
-      Contains (after (length closes + more)) entry → Contains (entries_in entered) entry
+  pub entered-while_opening : (more : ℕ) (entry : Entry)
+      → Contains (after (length closes + more)) entry → Contains (entries_in entered) entry
   entered-while_opening more entry has =
       elim (fold-cases (take more opens) (fold entries_behind (entries_in left) closes) entry
       (rw (after-opening more) at has)) [
@@ -130,8 +130,8 @@ module _ (left entered kept closing opening : List ChannelRow)
         }
 
     -- Behind the whole program each entry of the use case that is entered is held.
-    pub entered-held : (entry : Entry) → Contains (entries_in entered) entry →
-        Contains (after (length closes + length opens)) entry
+    pub entered-held : (entry : Entry) → Contains (entries_in entered) entry
+        → Contains (after (length closes + length opens)) entry
     entered-held entry has =
         let leave = Leave-opening entry has in
         let closed = fold entries_behind (entries_in left) closes in

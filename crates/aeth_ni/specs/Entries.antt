@@ -8,8 +8,8 @@ use Rattle.aeth_ni.specs.Writes.{addressee, IsWritable}
 
 -- Of the entries those of this interface are what its slots name.
 abbrev pub Holds : InterfaceState → List Entry → Type 0
-Holds interface entries = (slot queue : ℕ) →
-    (slice_get interface.entries slot ≡ Some (Some queue))
+Holds interface entries = (slot queue : ℕ)
+    → (slice_get interface.entries slot ≡ Some (Some queue))
     ↔ Contains entries (record { ni = interface.number; slot = slot; queue = queue })
 
 -- The interfaces hold just these entries: of each its own, and there is none of another.

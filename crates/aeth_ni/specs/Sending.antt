@@ -7,7 +7,8 @@
 --
 -- Words that a counter lets go, and credits that ride in headers: after Æthereal (2005).
 use Rattle.std.specs.Prelude.{ℕ, ◌-◌, min, ◌==◌, ◌&&◌, ◌||◌, Bool, if◌then◌else◌}
-use Rattle.std.specs.Prelude.{Option, None, option_map, is_some, List, length, take, drop, slice_index}
+use Rattle.std.specs.Prelude.{Option, None, option_map, is_some}
+use Rattle.std.specs.Prelude.{List, length, take, drop, slice_index}
 use Rattle.aeth_base.specs.Limits.{credits_per_flit, words_per_flit}
 use Rattle.aeth_clocked.specs.declared.flit.Flit.{Flit}
 use Rattle.aeth_header.specs.Header.{word_of}

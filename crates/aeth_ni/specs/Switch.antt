@@ -25,7 +25,7 @@ pub record IsSwitch (left entered kept closing opening : List ChannelRow) : Type
 -- No two channels have one slot of one interface, where both are in the use case that is entered,
 -- or one goes on and the other closes.
 pub record AreSlotsApart (entered kept closing : List ChannelRow) : Type 0 where
-  pub within : (some other : Entry) → Contains (entries_in entered) some →
-      Contains (entries_in entered) other → IsSameSlot some other → some.queue ≡ other.queue
-  pub from_closing : (some other : Entry) → Contains (entries_in kept) some →
-      Contains (entries_in closing) other → IsSameSlot some other → ⊥
+  pub within : (some other : Entry) → Contains (entries_in entered) some
+      → Contains (entries_in entered) other → IsSameSlot some other → some.queue ≡ other.queue
+  pub from_closing : (some other : Entry) → Contains (entries_in kept) some
+      → Contains (entries_in closing) other → IsSameSlot some other → ⊥

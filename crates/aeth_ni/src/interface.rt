@@ -1,4 +1,4 @@
-//! A network interface: a slot table and 32 queues between two links.
+// A network interface: a slot table and 32 queues between two links.
 
 ghost use Rattle.std.specs.Prelude.{◌≡◌, ◌<◌, ◌≤◌, ◌↔◌, length, slice_get, IfOk, IfSome, map};
 ghost use Rattle.std.specs.Bool.{IsFalse, OnTrue, OnFalse};
@@ -205,7 +205,7 @@ impl Clocked for Ni {
     ghost absorb_agrees = { interface_absorb-agrees };
 }
 
-/// A queue for each room, all empty.
+// A queue for each room, all empty.
 fn empty_queues(alloc: Global, rooms: &[u32]) -> Result<Vec<Queue>, NoMemory>
     ensures { IfOk result (λ queues. queues.items ≡ map empty_queue rooms.now) }
 {
@@ -216,7 +216,7 @@ fn empty_queues(alloc: Global, rooms: &[u32]) -> Result<Vec<Queue>, NoMemory>
     Ok(queues)
 }
 
-/// Takes out what the queue of an entry sends.
+// Takes out what the queue of an entry sends.
 fn emit_by(queues: &mut [Queue], entry: Option<u8>) -> Option<Flit>
     requires { IfSome entry (λ queue. queue < length queues.old) }
     ensures flit { result ≡ emitted_by entry queues.old }
@@ -226,7 +226,7 @@ fn emit_by(queues: &mut [Queue], entry: Option<u8>) -> Option<Flit>
     queue.emit()
 }
 
-/// Lands what a link brings, and gives the queue and the word count of it.
+// Lands what a link brings, and gives the queue and the word count of it.
 fn land(queues: &mut [Queue], flit: Option<Flit>) -> Option<(u8, u8)>
     requires { length queues.old ≡ queues_of_interface }
     ensures last { result ≡ last_of (arrival_of flit) }

@@ -1,4 +1,4 @@
-//! One queue number of a network interface: its two queues, its route and its credits.
+// One queue number of a network interface: its two queues, its route and its credits.
 
 ghost use Rattle.std.specs.Prelude.{◌≡◌, ◌<◌, ◌≤◌, ◌↔◌, length, slice_get, slice_index, IfOk};
 ghost use Rattle.std.specs.Prelude.{None, take, drop};
@@ -178,7 +178,7 @@ impl Queue {
     }
 }
 
-/// Takes out as many words as a flit has, and gives 0 for each that it hasn't.
+// Takes out as many words as a flit has, and gives 0 for each that it hasn't.
 fn take_words(waiting: &mut HeapCircularBuffer<u32>, count: u32) -> (u32, u32)
     requires flit { count ≤ words_per_flit }
     requires waiting { count ≤ length waiting.old.items }
@@ -191,7 +191,7 @@ fn take_words(waiting: &mut HeapCircularBuffer<u32>, count: u32) -> (u32, u32)
     (first, second)
 }
 
-/// Takes out the oldest word that waits.
+// Takes out the oldest word that waits.
 fn next_word(waiting: &mut HeapCircularBuffer<u32>) -> u32
     requires { 0 < length waiting.old.items }
     ensures word { result ≡ slice_index waiting.old.items 0 }
