@@ -1,13 +1,12 @@
 pub mod AppFileLemmas
 pub mod AppLemmas
-mod FileWalks
-mod KeyLemmas
-mod LimitLemmas
+mod DemandLemmas
 mod NameLemmas
+pub mod NeedLemmas
+pub mod OwnNames
 mod PartLemmas
+pub mod PositionLemmas
 mod RangeLemmas
 mod RepeatLemmas
 mod ToldLemmas
-mod OwnNames
-mod PositionLemmas
-pub mod NeedLemmas
+mod WalkParts

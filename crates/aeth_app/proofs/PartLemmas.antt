@@ -1,11 +1,11 @@
 -- Parts of an application made from tables: marks, places of names, and what holds of the parts.
 --
---   each_at, wish_stands    what holds of tables
+--   wish_stands    what holds of tables
 --   length-named_marks, named_marks-none, named_marks-known, named_marks-unknown    marks
 --   end_of-within, ni_of-within    places of names
 --   IsFixedBelow, cores_fixed, uses_marked    what holds of cores and use cases
 use Rattle.std.proofs.Common.{◌≡◌, ◌+◌, ◌++◌, ◌<◌, ℕ, zero, suc, true, false, List, [], ◌∷◌}
-use Rattle.std.proofs.Common.{length, map, get_or, Option, Some, None, refl, ap, arith, Bool}
+use Rattle.std.proofs.Common.{length, map, Option, Some, None, refl, ap, arith, Bool}
 use Rattle.std.proofs.Common.{◌||◌, ◌==◌, inl, inr, subst}
 use Rattle.std.specs.Prelude.{All, option_map, replicate, unwrap_or, IsSome, codes}
 use Rattle.std.specs.List.{filter_map, list_any, range_with_len, slice_set}
@@ -13,7 +13,7 @@ use Rattle.std.proofs.lemmas.Bool.{cases_Bool, ne_eqb}
 use Rattle.std.proofs.lemmas.Bool.Decides.{Decides-eqb}
 use Rattle.std.proofs.lemmas.List.{append-nil}
 use Rattle.std.proofs.lemmas.List.FromFn.{length-map-range_with_len}
-use Rattle.std.proofs.lemmas.List.Elements.{All-head, All-tail, filter_map-append, All-cons}
+use Rattle.std.proofs.lemmas.List.Elements.{filter_map-append, All-cons}
 use Rattle.std.proofs.lemmas.List.Elements.{All-nil}
 use Rattle.toml.specs.Data.{Members, no_members}
 use Rattle.aeth_document.specs.Values.{integer_at, text_if, texts_at}
@@ -25,15 +25,7 @@ use Rattle.aeth_base.specs.declared.ids.NiId.{NiId}
 use Rattle.aeth_document.proofs.WalkLemmas.{place_of-within}
 use Rattle.aeth_app.specs.declared.connection.Core.{Core}
 use Rattle.aeth_app.specs.App.{IsUse}
-use Rattle.aeth_app.specs.Names.{unknown}
-
--- What holds of all things that are seen, holds of each.
-pub each_at : {X M : Type 0} (view : X → M) (P : M → Type 0) (xs : List X) (i : ℕ) (x : X)
-    → All P (map view xs) → i < length xs → x ≡ get_or xs i x → P (view x)
-each_at view P [] i x each within is = absurd (omega arith)
-each_at view P (y ∷ xs) zero x each within is = rw is (All-head P (view y) (map view xs) each)
-each_at view P (y ∷ xs) (suc i) x each within is =
-    each_at view P xs i x (All-tail P (view y) (map view xs) each) (omega arith) is
+use Rattle.aeth_app.specs.Unknown.{unknown}
 
 -- Whether a place is one of some places.
 abbrev marked : List ℕ → ℕ → Bool

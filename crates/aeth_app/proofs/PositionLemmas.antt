@@ -1,23 +1,16 @@
 -- Positions of a core's connections ascend.
 use Rattle.std.proofs.Common.{◌≡◌, ◌∙◌, ◌<◌, ℕ, zero, suc, true, List, [], ◌∷◌}
-use Rattle.std.proofs.Common.{take, slice_get, refl, ap, inl, inr, arith}
+use Rattle.std.proofs.Common.{take, slice_get, refl, inl, inr, arith}
 use Rattle.std.specs.Prelude.{IsSomeAnd, IsTrue}
 use Rattle.std.proofs.lemmas.Bool.{cases_order}
+use Rattle.std.proofs.lemmas.List.{take-take}
 use Rattle.std.proofs.lemmas.Option.{slice_get_cases}
 use Rattle.aeth_base.proofs.Lists.{count_by-before}
 use Rattle.aeth_base.specs.declared.ids.CoreId.{CoreId}
 use Rattle.aeth_app.specs.App.{is_end, position_of}
 use Rattle.aeth_app.specs.declared.connection.Connection.{Connection}
 
--- What comes before a place comes before it in a longer part of the list.
-take-take : {X : Type 0} (xs : List X) (i j : ℕ) → i < j → take i (take j xs) ≡ take i xs
-take-take [] zero j below = refl
-take-take [] (suc i) zero below = absurd (omega arith)
-take-take [] (suc i) (suc j) below = refl
-take-take (x ∷ xs) zero j below = refl
-take-take (x ∷ xs) (suc i) zero below = absurd (omega arith)
-take-take (x ∷ xs) (suc i) (suc j) below = ap (λ ys. x ∷ ys) (take-take xs i j (omega arith))
-
+-- What stands before an end of a list stands there in the list.
 slice_get-take : {X : Type 0} (xs : List X) (i j : ℕ) → i < j
     → slice_get (take j xs) i ≡ slice_get xs i
 slice_get-take [] i zero below = refl
@@ -34,7 +27,7 @@ position_of-ascends connections core i j ends before =
     elim ((slice_get_cases connections i).1) [
       | inl found ↦
           let here : is_end core found.0 ≡ true = rw found.2 at ends in
-          rw (← take-take connections i j before)
+          rw (← take-take i j connections (omega arith))
           (count_by-before (is_end core) (take j connections) i found.0
           (slice_get-take connections i j before ∙ found.2) here)
       | inr past ↦ absurd (rw past.1 at ends)

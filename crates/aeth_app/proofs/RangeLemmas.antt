@@ -1,92 +1,41 @@
--- The walk over the numbers and names of an application file, in parts, and what holds where it
--- finds nothing.
-use Rattle.std.proofs.Common.{◌≡◌, ◌+◌, ◌++◌, ℕ, List, [], ◌∷◌, None, All, append_assoc, length}
-use Rattle.std.proofs.Common.{map, refl}
-use Rattle.std.specs.Option.{option_or}
+-- What holds where no number and no name of an application file is out of its range.
+use Rattle.std.proofs.Common.{◌≡◌, ◌++◌, ℕ, true, List, [], ◌∷◌, None, All, length, map, inl, inr}
 use Rattle.std.specs.Prelude.{codes, flat_map}
-use Rattle.std.specs.List.{filter_map}
-use Rattle.std.proofs.lemmas.List.{length-map, map-append}
+use Rattle.std.proofs.lemmas.Bool.{cases_Bool}
 use Rattle.std.proofs.lemmas.List.Elements.{All-cons, All-nil}
 use Rattle.toml.specs.Data.{Members}
-use Rattle.aeth_base.specs.Name.{name_of}
-use Rattle.aeth_document.specs.Values.{integer_at}
-use Rattle.aeth_document.specs.Walks.{first_broken, no_name}
-use Rattle.aeth_document.proofs.WalkLemmas.{filter_map-name_of, first_broken-append}
-use Rattle.aeth_document.proofs.WalkLemmas.{first_broken-append_none}
-use Rattle.aeth_document.proofs.WalkLemmas.{first_broken-none, outside-size, outside-within}
-use Rattle.aeth_app.proofs.FileWalks.{first_broken-four}
-use Rattle.aeth_app.specs.declared.app.TheConstants.{MAX_CONNECTIONS, MAX_CORES, MAX_DETOUR}
-use Rattle.aeth_app.specs.declared.app.TheConstants.{MAX_USES}
-use Rattle.aeth_app.specs.declared.connection.TheConstants.{MAX_LATENCY, MAX_PER}
-use Rattle.aeth_app.specs.declared.connection.TheConstants.{MAX_WORDS}
-use Rattle.aeth_base.specs.declared.limits.TheConstants.{MAX_RECEIVER_DELAY}
-use Rattle.aeth_app.specs.Keys.{wish_at}
-use Rattle.aeth_app.specs.Ranges.{IsConnectionInRange, IsInRange, IsWishInRange, names_in, numbers}
-use Rattle.aeth_app.specs.Ranges.{connection_ranges, out_of_range, wish_ranges}
+use Rattle.aeth_base.specs.Limits.{max_receiver_delay}
+use Rattle.aeth_base.specs.Name.{is_name}
+use Rattle.aeth_document.specs.Values.{integer_at, text_at}
+use Rattle.aeth_document.specs.Walks.{first_broken, next_place, no_name}
+use Rattle.aeth_document.proofs.WalkLemmas.{first_broken-after, first_broken-before}
+use Rattle.aeth_document.proofs.WalkLemmas.{first_broken-head, first_broken-none}
+use Rattle.aeth_document.proofs.WalkLemmas.{first_broken-tail, outside-size, outside-within}
+use Rattle.aeth_app.specs.Limits.{max_connections, max_cores, max_detour, max_latency, max_per}
+use Rattle.aeth_app.specs.Limits.{max_uses, max_words, min_uses}
+use Rattle.aeth_app.specs.Ranges.{IsConnectionInRange, IsInRange, IsNamed, IsWishInRange}
+use Rattle.aeth_app.specs.Ranges.{connection_ranges, numbers, out_of_range, range_checks}
+use Rattle.aeth_app.specs.Ranges.{wish_ranges}
+use Rattle.aeth_app.specs.Tables.{connections_in, cores_in, names_in, uses_in, wish_at}
 
--- First the four numbers of `fwd`, then those of `back`.
-pub connection_ranges_split : (place : ℕ) (connection : Members)
-    → first_broken place (connection_ranges connection)
-    ≡ option_or (first_broken place (wish_ranges (wish_at (codes "fwd") connection)))
-    (first_broken (place + 4) (wish_ranges (wish_at (codes "back") connection)))
-unfolding wish_ranges
-connection_ranges_split place connection =
-    first_broken-append place (wish_ranges (wish_at (codes "fwd") connection))
-    (wish_ranges (wish_at (codes "back") connection))
+-- A text that isn't refused is a name.
+is_named : (text : List ℕ) → no_name text ≡ None → is_name text ≡ true
+is_named text none =
+    elim (cases_Bool (is_name text)) [
+      | inl named ↦ named
+      | inr other ↦ absurd (cc (rw other at none))
+    ]
 
--- There is a check for each name.
-length-names : {X : Type 0} (view : X → Members) (tables : List X)
-    → length (map no_name (names_in (map view tables))) ≡ length tables
-length-names view tables = simp length-map
-
--- First the numbers of the file, then the names of the cores, of the connections and of the use
--- cases, then the wishes.
-pub out_of_range_split : {X : Type 0} (view : X → Members) (root : Members)
-    (cores connections uses : List X)
-    → out_of_range root (map view cores) (map view connections) (map view uses)
-    ≡ option_or (first_broken 1 (numbers root (length cores) (length connections) (length uses)))
-    (option_or (option_or (option_or
-    (first_broken 7 (map no_name (names_in (map view cores))))
-    (first_broken (7 + length cores) (map no_name (names_in (map view connections)))))
-    (first_broken ((7 + length cores) + length connections)
-    (map no_name (names_in (map view uses)))))
-    (first_broken (((7 + length cores) + length connections) + length uses)
-    (flat_map connection_ranges (map view connections))))
-unfolding out_of_range numbers
-out_of_range_split view root cores connections uses =
-    let front = numbers root (length cores) (length connections) (length uses) in
-    let of_cores = map no_name (names_in (map view cores)) in
-    let of_connections = map no_name (names_in (map view connections)) in
-    let of_uses = map no_name (names_in (map view uses)) in
-    let wishes = flat_map connection_ranges (map view connections) in
-    rw (
-      length-map cores view,
-      length-map connections view,
-      length-map uses view,
-      map-append no_name (names_in (map view cores) ++ names_in (map view connections))
-          (names_in (map view uses)),
-      map-append no_name (names_in (map view cores)) (names_in (map view connections)),
-      append_assoc front ((of_cores ++ of_connections) ++ of_uses) wishes,
-      first_broken-append 1 front (((of_cores ++ of_connections) ++ of_uses) ++ wishes),
-      first_broken-four 7 of_cores of_connections of_uses wishes,
-      length-names view cores,
-      length-names view connections,
-      length-names view uses,
-    ) refl
-
--- Names of three lists none of which is refused are their own names.
-named : (place : ℕ) (xs ys zs : List (List ℕ))
-    → first_broken place (map no_name (xs ++ ys ++ zs)) ≡ None
-    → (filter_map name_of xs ≡ xs) × (filter_map name_of ys ≡ ys) × (filter_map name_of zs ≡ zs)
-named place xs ys zs none =
-    let last = first_broken-append_none place (map no_name (xs ++ ys)) (map no_name zs)
-    (rw (map-append no_name (xs ++ ys) zs) at none) in
-    let front = first_broken-append_none place (map no_name xs) (map no_name ys)
-    (rw (map-append no_name xs ys) at last.0) in (
-      filter_map-name_of place xs front.0,
-      filter_map-name_of _ ys front.1,
-      filter_map-name_of _ zs last.1,
-    )
+-- Tables none of whose names is refused are named.
+named : (place : ℕ) (tables : List Members) → first_broken place (map no_name (names_in tables)) ≡ None
+    → All IsNamed tables
+named place [] none = All-nil IsNamed
+named place (table ∷ tables) none =
+    let name = text_at (codes "name") table in
+    let rest = map no_name (names_in tables) in
+    All-cons IsNamed table tables
+    (is_named name (first_broken-head place (no_name name) rest none))
+    (named (next_place place) tables (first_broken-tail place (no_name name) rest none))
 
 -- A wish none of whose numbers is refused is in its ranges.
 wish_in_range : (place : ℕ) (wish : Members) → first_broken place (wish_ranges wish) ≡ None
@@ -94,10 +43,10 @@ wish_in_range : (place : ℕ) (wish : Members) → first_broken place (wish_rang
 unfolding wish_ranges
 wish_in_range place wish none =
     let checks = first_broken-none place (wish_ranges wish) none in
-    let words = outside-size 0 MAX_WORDS (integer_at (codes "words") wish) checks.0 in
-    let per = outside-size 1 MAX_PER (integer_at (codes "per") wish) checks.1.0 in
-    let latency = outside-size 1 MAX_LATENCY (integer_at (codes "latency") wish) checks.1.1.0 in
-    let delay = outside-size 0 MAX_RECEIVER_DELAY (integer_at (codes "delay") wish)
+    let words = outside-size 0 max_words (integer_at (codes "words") wish) checks.0 in
+    let per = outside-size 1 max_per (integer_at (codes "per") wish) checks.1.0 in
+    let latency = outside-size 1 max_latency (integer_at (codes "latency") wish) checks.1.1.0 in
+    let delay = outside-size 0 max_receiver_delay (integer_at (codes "delay") wish)
     checks.1.1.1.0 in
     record {
       words = words.1;
@@ -117,39 +66,46 @@ wishes_in_range place (connection ∷ connections) none =
     let fwd = wish_ranges (wish_at (codes "fwd") connection) in
     let back = wish_ranges (wish_at (codes "back") connection) in
     let rest = flat_map connection_ranges connections in
-    let parts = first_broken-append_none place (fwd ++ back) rest none in
-    let sides = first_broken-append_none place fwd back parts.0 in
+    let first = first_broken-before place (fwd ++ back) rest none in
     let here : IsConnectionInRange connection = record {
-      fwd = wish_in_range place _ sides.0;
-      back = wish_in_range (place + length fwd) _ sides.1;
+      fwd = wish_in_range place _ (first_broken-before place fwd back first);
+      back = wish_in_range place _ (first_broken-after place place fwd back first);
     } in
     All-cons IsConnectionInRange connection connections here
-    (wishes_in_range (place + length (fwd ++ back)) connections parts.1)
+    (wishes_in_range place connections (first_broken-after place place (fwd ++ back) rest none))
 
 -- What holds where the walk finds nothing.
-pub in_range : (root : Members) (cores connections uses : List Members)
-    → out_of_range root cores connections uses ≡ None → IsInRange root cores connections uses
-unfolding out_of_range numbers
-in_range root cores connections uses none =
-    let front = numbers root (length cores) (length connections) (length uses) in
-    let names = names_in cores ++ names_in connections ++ names_in uses in
-    let wishes = flat_map connection_ranges connections in
-    let parts = first_broken-append_none 1 (front ++ map no_name names) wishes none in
-    let early = first_broken-append_none 1 front (map no_name names) parts.0 in
-    let checks = first_broken-none 1 front early.0 in
-    let detour = outside-size 0 MAX_DETOUR (integer_at (codes "detour") root) checks.1.0 in
-    let few_cores = outside-within 0 MAX_CORES (length cores) checks.1.1.1.0 in
-    let few_connections = outside-within 0 MAX_CONNECTIONS (length connections) checks.1.1.1.1.0 in
-    let some_uses = outside-within 1 MAX_USES (length uses) checks.1.1.1.1.1.0 in
-    let are_names = named 7 (names_in cores) (names_in connections) (names_in uses) early.1 in
+pub in_range : (root : Members) → out_of_range root ≡ None → IsInRange root
+unfolding range_checks numbers
+in_range root none =
+    let front = numbers root in
+    let of_cores = map no_name (names_in (cores_in root)) in
+    let of_connections = map no_name (names_in (connections_in root)) in
+    let of_uses = map no_name (names_in (uses_in root)) in
+    let wishes = flat_map connection_ranges (connections_in root) in
+    let to_uses = first_broken-before 1 (((front ++ of_cores) ++ of_connections) ++ of_uses) wishes
+    none in
+    let to_connections = first_broken-before 1 ((front ++ of_cores) ++ of_connections) of_uses
+    to_uses in
+    let to_cores = first_broken-before 1 (front ++ of_cores) of_connections to_connections in
+    let checks = first_broken-none 1 front (first_broken-before 1 front of_cores to_cores) in
+    let detour = outside-size 0 max_detour (integer_at (codes "detour") root) checks.1.0 in
+    let few_cores = outside-within 0 max_cores (length (cores_in root)) checks.1.1.1.0 in
+    let few_connections = outside-within 0 max_connections (length (connections_in root))
+    checks.1.1.1.1.0 in
+    let some_uses = outside-within min_uses max_uses (length (uses_in root)) checks.1.1.1.1.1.0 in
     record {
       detour = detour.1;
       few_cores = few_cores.1;
       few_connections = few_connections.1;
       some_uses = some_uses.0;
       few_uses = some_uses.1;
-      core_names = are_names.0;
-      connection_names = are_names.1;
-      use_names = are_names.2;
-      wishes = wishes_in_range _ connections parts.1;
+      named_cores = named 1 (cores_in root)
+          (first_broken-after 1 1 front of_cores to_cores);
+      named_connections = named 1 (connections_in root)
+          (first_broken-after 1 1 (front ++ of_cores) of_connections to_connections);
+      named_uses = named 1 (uses_in root)
+          (first_broken-after 1 1 ((front ++ of_cores) ++ of_connections) of_uses to_uses);
+      wishes = wishes_in_range 1 (connections_in root)
+          (first_broken-after 1 1 (((front ++ of_cores) ++ of_connections) ++ of_uses) wishes none);
     }

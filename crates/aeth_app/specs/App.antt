@@ -9,7 +9,7 @@
 --   AreNames      the names of its parts
 --   is_ni, is_fixed_to, IsAppOf      what holds of an application that was read with a chip
 -- Connections and use cases: after Æthereal (2005) and UMARS (2005). The rest: this project's own.
-use Rattle.std.specs.Prelude.{◌≡◌, ◌≢◌, ◌≤◌, ◌<◌, ℕ, ◌*◌, ◌==◌, ◌||◌, Bool, false, List, length}
+use Rattle.std.specs.Prelude.{◌≡◌, ◌≢◌, ◌≤◌, ◌<◌, ℕ, ◌*◌, ◌==◌, ◌||◌, Bool, true, false, List, length}
 use Rattle.std.specs.Prelude.{map, take, slice_get, count_by, Option, Some, None, All, Contains}
 use Rattle.std.specs.Prelude.{unwrap_or}
 use Rattle.std.specs.List.{IsDistinct}
@@ -18,18 +18,16 @@ use Rattle.aeth_base.specs.declared.ids.CoreId.{CoreId}
 use Rattle.aeth_base.specs.declared.ids.NiId.{NiId}
 use Rattle.aeth_base.specs.declared.ids.Side.{Side}
 use Rattle.aeth_base.specs.declared.ids.Side.TheVariants.{Fwd, Back}
-use Rattle.aeth_base.specs.declared.limits.TheConstants.{MAX_RECEIVER_DELAY, WORDS_PER_FLIT}
+use Rattle.aeth_base.specs.Limits.{max_receiver_delay, max_slots, words_per_flit}
+use Rattle.aeth_base.specs.Name.{is_name}
 use Rattle.aeth_chip.specs.Chip.{ChipData}
-use Rattle.aeth_chip.specs.declared.chip.TheConstants.{MAX_SLOTS}
-use Rattle.aeth_app.specs.declared.app.TheConstants.{MAX_CONNECTIONS, MAX_CORES}
-use Rattle.aeth_app.specs.declared.app.TheConstants.{MAX_CORE_CONNECTIONS, MAX_DETOUR, MAX_USES}
-use Rattle.aeth_app.specs.declared.app.TheConstants.{SEATS}
+use Rattle.aeth_app.specs.Limits.{max_connections, max_core_connections, max_cores, max_detour}
+use Rattle.aeth_app.specs.Limits.{max_latency, max_per, max_uses, max_words, min_uses}
+use Rattle.aeth_app.specs.Limits.{seats_per_ni}
 use Rattle.aeth_app.specs.declared.connection.Connection.{Connection}
 use Rattle.aeth_app.specs.declared.connection.Core.{Core}
 use Rattle.aeth_app.specs.declared.connection.Price.{Price}
 use Rattle.aeth_app.specs.declared.connection.Wish.{Wish}
-use Rattle.aeth_app.specs.declared.connection.TheConstants.{MAX_LATENCY, MAX_PER}
-use Rattle.aeth_app.specs.declared.connection.TheConstants.{MAX_WORDS}
 
 -- A use case: its name, for each connection whether it has it, and for each use case whether it
 -- names that one as smooth.
@@ -85,13 +83,13 @@ wish_of connection Back = connection.back
 
 -- What holds of every wish: it has at most two words a cycle, and is within the limits.
 pub record IsWish (wish : Wish) : Type 0 where
-  pub words : wish.words ≤ MAX_WORDS
-  pub rate : wish.words ≤ WORDS_PER_FLIT * wish.per
+  pub words : wish.words ≤ max_words
+  pub rate : wish.words ≤ words_per_flit * wish.per
   pub some_per : 1 ≤ wish.per
-  pub per : wish.per ≤ MAX_PER
+  pub per : wish.per ≤ max_per
   pub some_latency : 1 ≤ wish.latency
-  pub latency : wish.latency ≤ MAX_LATENCY
-  pub delay : wish.delay ≤ MAX_RECEIVER_DELAY
+  pub latency : wish.latency ≤ max_latency
+  pub delay : wish.delay ≤ max_receiver_delay
 
 -- What holds of every connection of an application with so many cores.
 pub record IsConnection (cores : ℕ) (connection : Connection) : Type 0 where
@@ -109,15 +107,18 @@ pub record IsUse (connections uses : ℕ) (one : UseData) : Type 0 where
 -- What holds of every application.
 pub record IsApp (app : AppData) : Type 0 where
   pub some_slots : 1 ≤ app.slots
-  pub slots : app.slots ≤ MAX_SLOTS
-  pub detour : app.detour ≤ MAX_DETOUR
-  pub cores : length app.cores ≤ MAX_CORES
-  pub connections : length app.connections ≤ MAX_CONNECTIONS
-  pub some_uses : 1 ≤ length app.uses
-  pub uses : length app.uses ≤ MAX_USES
+  pub slots : app.slots ≤ max_slots
+  pub detour : app.detour ≤ max_detour
+  pub cores : length app.cores ≤ max_cores
+  pub connections : length app.connections ≤ max_connections
+  pub some_uses : min_uses ≤ length app.uses
+  pub uses : length app.uses ≤ max_uses
   pub joined : All (IsConnection (length app.cores)) app.connections
-  pub busy : (core : CoreId) → count_by (is_end core) app.connections ≤ MAX_CORE_CONNECTIONS
+  pub busy : (core : CoreId) → count_by (is_end core) app.connections ≤ max_core_connections
   pub marked : All (IsUse (length app.connections) (length app.uses)) app.uses
+  pub named_cores : All (λ core. is_name core.name ≡ true) app.cores
+  pub named_connections : All (λ connection. is_name connection.name ≡ true) app.connections
+  pub named_uses : All (λ one. is_name one.name ≡ true) app.uses
   pub core_names : IsDistinct bytes_eq (map (λ core. core.name) app.cores)
   pub connection_names : IsDistinct bytes_eq (map (λ connection. connection.name) app.connections)
   pub use_names : IsDistinct bytes_eq (map (λ one. one.name) app.uses)
@@ -142,7 +143,7 @@ is_fixed_to ni core = is_ni core.fixed ni
 -- seats for all its cores, and each core is fixed to no interface or to one with seats enough.
 pub record IsAppOf (chip : ChipData) (app : AppData) : Type 0 where
   pub slots : app.slots ≡ chip.slots
-  pub seats : length app.cores ≤ SEATS * length chip.nis
+  pub seats : length app.cores ≤ seats_per_ni * length chip.nis
   pub known : (core : Core) (ni : NiId) → Contains app.cores core → core.fixed ≡ Some ni
       → ni.0 < length chip.nis
-  pub fixed : (ni : ℕ) → count_by (is_fixed_to ni) app.cores ≤ SEATS
+  pub fixed : (ni : ℕ) → count_by (is_fixed_to ni) app.cores ≤ seats_per_ni

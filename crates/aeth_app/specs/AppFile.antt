@@ -1,54 +1,54 @@
 -- The application of a file's bytes, or the first rule that the file breaks.
 -- This project's own.
-use Rattle.std.specs.Prelude.{ℕ, List, length, map, codes, Option, Some, None, Result, Err}
+use Rattle.std.specs.Prelude.{ℕ, List, length, map, codes, Option, Some, None, Result, Ok, Err}
 use Rattle.toml.specs.Data.{Members}
+use Rattle.aeth_base.specs.Faults.{BrokenRule}
 use Rattle.aeth_chip.specs.Chip.{ChipData}
-use Rattle.aeth_document.specs.Chain.{◌>>=◌, refused}
+use Rattle.aeth_document.specs.Chain.{◌>>=◌}
 use Rattle.aeth_document.specs.Document.{document_of}
-use Rattle.aeth_document.specs.Values.{integer_at, tables_at, text_if}
-use Rattle.aeth_document.specs.Walks.{size_of}
-use Rattle.aeth_app.specs.declared.fault.AppFault.{AppFault}
-use Rattle.aeth_app.specs.declared.fault.AppFault.TheVariants.{BadToml, NameTwice, OutOfRange}
-use Rattle.aeth_app.specs.declared.fault.AppFault.TheVariants.{UnknownName, WrongKey}
+use Rattle.aeth_document.specs.Values.{integer_at, text_if}
+use Rattle.aeth_document.specs.Walks.{judged, size_of}
+use Rattle.aeth_base.specs.declared.shown.Shown.TheVariants.{Nothing}
 use Rattle.aeth_app.specs.App.{AppData}
-use Rattle.aeth_app.specs.Keys.{wrong_keys_in}
-use Rattle.aeth_app.specs.Limits.{within_limits}
-use Rattle.aeth_app.specs.Names.{name_twice, unknown_name}
+use Rattle.aeth_app.specs.Demands.{demands}
+use Rattle.aeth_app.specs.Keys.{wrong_keys}
 use Rattle.aeth_app.specs.Parts.{connection_of, core_of, price_of, use_of}
-use Rattle.aeth_app.specs.Ranges.{names_in, out_of_range}
+use Rattle.aeth_app.specs.Ranges.{out_of_range}
+use Rattle.aeth_app.specs.Repeats.{name_twice}
+use Rattle.aeth_app.specs.Tables.{connections_in, cores_in, names_in, uses_in}
+use Rattle.aeth_app.specs.Unknown.{unknown_name}
 
 -- The application of these tables, on a chip, where each name is known.
-abbrev pub told_app : ChipData → Members → List Members → List Members → List Members → AppData
-told_app chip root cores connections uses = record {
+unfoldable pub told_app : ChipData → Members → AppData
+told_app chip root = record {
   slots = chip.slots;
   detour = size_of (integer_at (codes "detour") root);
   price = price_of (text_if (codes "cost") root);
-  cores = map (core_of chip.nis) cores;
-  connections = map (connection_of (names_in cores)) connections;
-  uses = map (use_of (names_in connections) (names_in uses)) uses;
+  cores = map (core_of chip.nis) (cores_in root);
+  connections = map (connection_of (names_in (cores_in root))) (connections_in root);
+  uses = map (use_of (names_in (connections_in root)) (names_in (uses_in root))) (uses_in root);
 }
 
--- The application of these tables, on a chip, or the first rule that they break.
-unfoldable pub judged_app : ChipData → Members → List Members → List Members → List Members
-    → Result AppData AppFault
-judged_app chip root cores connections uses = do
-  keys ← refused WrongKey (wrong_keys_in root cores connections uses)
-  ranges ← refused OutOfRange (out_of_range root cores connections uses)
-  apart ← refused NameTwice (name_twice cores connections uses)
-  known ← refused UnknownName (unknown_name chip.nis cores connections uses)
-  within_limits (length chip.nis) (told_app chip root cores connections uses)
+-- The application, for so many network interfaces, or the first rule on what it asks for that it
+-- breaks.
+abbrev pub demanded : ℕ → AppData → Result AppData BrokenRule
+demanded nis app = demands nis app.cores app.connections >>= (λ _. Ok app)
 
 -- The application of a root table, on a chip, or the first rule that the table breaks.
-unfoldable pub app_in : ChipData → Members → Result AppData AppFault
-app_in chip root =
-    judged_app chip root (tables_at (codes "core") root) (tables_at (codes "connection") root)
-    (tables_at (codes "use") root)
+unfoldable pub app_in : ChipData → Members → Result AppData BrokenRule
+app_in chip root = do
+  keys ← judged 2 (codes "WrongKey") (wrong_keys root)
+  ranges ← judged 3 (codes "OutOfRange") (out_of_range root)
+  apart ← judged 4 (codes "NameTwice") (name_twice root)
+  known ← judged 5 (codes "UnknownName") (unknown_name chip.nis root)
+  demanded (length chip.nis) (told_app chip root)
 
--- The application of a document, on a chip, if the bytes spell one.
-abbrev pub app_of_document : ChipData → Option Members → Result AppData AppFault
-app_of_document chip None = Err BadToml
+-- Rule 1, BadToml: the bytes aren't UTF-8 or aren't TOML. It has the place 0 and no value.
+abbrev pub app_of_document : ChipData → Option Members → Result AppData BrokenRule
+app_of_document chip None =
+    Err (record { rule = 1; name = codes "BadToml"; place = 0; value = Nothing })
 app_of_document chip (Some root) = app_in chip root
 
 -- The application of a file's bytes, on a chip, or the first rule that the file breaks.
-unfoldable pub app_of : ChipData → List ℕ → Result AppData AppFault
+unfoldable pub app_of : ChipData → List ℕ → Result AppData BrokenRule
 app_of chip bytes = app_of_document chip (document_of bytes)

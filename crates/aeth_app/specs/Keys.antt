@@ -1,17 +1,16 @@
 -- The keys of an application file's tables.
 --
 --   root_fields, core_fields, connection_fields, wish_fields, use_fields    what each table has
---   wish_at    the table of a wish
---   wrong_keys_in    the walk over all tables
+--   key_checks, wrong_keys    the walk over all tables
 -- This project's own.
-use Rattle.std.specs.Prelude.{ℕ, List, [], ◌∷◌, ◌++◌, map, flat_map, codes, Option, unwrap_or}
-use Rattle.toml.specs.Data.{Members, no_members}
+use Rattle.std.specs.Prelude.{List, [], ◌∷◌, ◌++◌, map, flat_map, codes, Option}
+use Rattle.toml.specs.Data.{Members}
 use Rattle.aeth_document.specs.declared.keys.Kind.TheVariants as kind
 use Rattle.aeth_base.specs.declared.shown.Broken.{Broken}
 use Rattle.aeth_base.specs.declared.shown.Shown.{Shown}
 use Rattle.aeth_document.specs.Keys.{Fields, wrong_key}
-use Rattle.aeth_document.specs.Values.{table_at}
 use Rattle.aeth_document.specs.Walks.{first_broken}
+use Rattle.aeth_app.specs.Tables.{connections_in, cores_in, uses_in, wish_at}
 
 -- The root table's keys.
 abbrev pub root_fields : Fields
@@ -42,10 +41,6 @@ use_fields =
     (codes "connections", kind.Texts) ∷ (codes "name", kind.Text)
     ∷ (codes "smooth", kind.OptionalTexts) ∷ []
 
--- The table of a connection's wish, empty where none stands there.
-abbrev pub wish_at : List ℕ → Members → Members
-wish_at side connection = unwrap_or (table_at side connection) no_members
-
 -- The wrong keys of a connection's own table, of its `fwd` and of its `back`.
 abbrev pub wrong_connection_keys : Members → List (Option Shown)
 wrong_connection_keys connection =
@@ -53,10 +48,14 @@ wrong_connection_keys connection =
     ∷ wrong_key wish_fields (wish_at (codes "fwd") connection)
     ∷ wrong_key wish_fields (wish_at (codes "back") connection) ∷ []
 
--- The first table with a wrong key: the root, the cores, each connection with its `fwd` and `back`,
--- the use cases.
-unfoldable pub wrong_keys_in : Members → List Members → List Members → List Members
-    → Option Broken
-wrong_keys_in root cores connections uses =
-    first_broken 0 (wrong_key root_fields root ∷ map (wrong_key core_fields) cores
-    ++ flat_map wrong_connection_keys connections ++ map (wrong_key use_fields) uses)
+-- Rule 2, WrongKey: a key is missing, unknown or of another type. The root is judged first, then
+-- each core, each connection with its `fwd` and its `back`, and each use case. The place is that of
+-- the table in this walk, from 0; the value is the least such key of the table in byte order.
+unfoldable pub key_checks : Members → List (Option Shown)
+key_checks root =
+    wrong_key root_fields root ∷ map (wrong_key core_fields) (cores_in root)
+    ++ flat_map wrong_connection_keys (connections_in root)
+    ++ map (wrong_key use_fields) (uses_in root)
+
+abbrev pub wrong_keys : Members → Option Broken
+wrong_keys root = first_broken 0 (key_checks root)

@@ -1,8 +1,13 @@
+pub mod Limits
 pub mod App
 pub mod Rates
+pub mod Tables
 pub mod Keys
 pub mod Ranges
-pub mod Names
+pub mod Repeats
+pub mod Unknown
 pub mod Parts
-pub mod Limits
+pub mod Names
+pub mod Demands
+pub mod Fault
 pub mod AppFile

@@ -19,7 +19,7 @@ use Rattle.aeth_app.specs.declared.connection.Price.{Price}
 use Rattle.aeth_app.specs.declared.connection.Price.TheVariants.{Hops, Pressure}
 use Rattle.aeth_app.specs.declared.connection.Wish.{Wish}
 use Rattle.aeth_app.specs.App.{UseData}
-use Rattle.aeth_app.specs.Keys.{wish_at}
+use Rattle.aeth_app.specs.Tables.{wish_at}
 
 -- The network interface that a text names, if there is a text that names one.
 abbrev pub ni_of : List (List ℕ) → Option (List ℕ) → Option NiId

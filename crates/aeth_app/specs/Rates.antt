@@ -8,17 +8,17 @@ use Rattle.std.specs.Prelude.{ℕ, ◌*◌, max}
 use Rattle.std.specs.Int.{div_ceil}
 use Rattle.aeth_base.specs.declared.ids.Side.{Side}
 use Rattle.aeth_base.specs.declared.ids.Side.TheVariants.{Fwd, Back}
-use Rattle.aeth_base.specs.declared.limits.TheConstants.{CREDITS_PER_FLIT, WORDS_PER_FLIT}
+use Rattle.aeth_base.specs.Limits.{credits_per_flit, words_per_flit}
 use Rattle.aeth_app.specs.declared.connection.Connection.{Connection}
 use Rattle.aeth_app.specs.declared.connection.Wish.{Wish}
 
 -- The least number of slots of a table that carry a wish's words, two words a slot; at least one.
 abbrev pub own_need : ℕ → Wish → ℕ
-own_need slots wish = max 1 (div_ceil (wish.words * slots) (WORDS_PER_FLIT * wish.per))
+own_need slots wish = max 1 (div_ceil (wish.words * slots) (words_per_flit * wish.per))
 
 -- The least number of slots that carry the credits of so many slots' words, 15 credits a slot.
 abbrev pub credit_need : ℕ → ℕ
-credit_need need = div_ceil (WORDS_PER_FLIT * need) CREDITS_PER_FLIT
+credit_need need = div_ceil (words_per_flit * need) credits_per_flit
 
 -- What the channel back needs: its own words, and the credits of the forward words.
 abbrev pub back_need : ℕ → Connection → ℕ

@@ -4,6 +4,8 @@ ghost use Rattle.std.specs.Prelude.{◌^◌, count_by, slice_get, IfSome, IsSome
 ghost use Rattle.std.specs.Str.{bytes_eq};
 ghost use Rattle.aeth_app.specs.App.{AreNames, IsApp, IsConnection, has_connection, is_end};
 ghost use Rattle.aeth_app.specs.App.{is_marked, is_smooth, position_of, wish_of};
+ghost use Rattle.aeth_app.specs.Limits.{max_connections, max_core_connections, max_cores};
+ghost use Rattle.aeth_app.specs.Limits.{max_detour, max_uses, min_uses};
 ghost use Rattle.aeth_app.specs.Rates.{need_of};
 
 use crate::connection::{Connection, Core, Price, Wish};
@@ -22,6 +24,9 @@ pub const MAX_CONNECTIONS: u32 = 512;
 /// The most connections of a core.
 pub const MAX_CORE_CONNECTIONS: u32 = 8;
 
+/// The fewest use cases of an application.
+pub const MIN_USES: u32 = 1;
+
 /// The most use cases of an application.
 pub const MAX_USES: u32 = 16;
 
@@ -29,7 +34,7 @@ pub const MAX_USES: u32 = 16;
 pub const MAX_DETOUR: u32 = 4;
 
 /// The seats of a network interface.
-pub const SEATS: u32 = 4;
+pub const SEATS_PER_NI: u32 = 4;
 
 /// The names of an application's cores, connections and use cases, in file order.
 #[derive(Drop)]
@@ -129,7 +134,7 @@ impl App {
     /// How many links more than the least number a path may have.
     pub fn detour(&self) -> u32
         ensures detour { result ≡ self.now.detour }
-        ensures most { result ≤ MAX_DETOUR }
+        ensures most { result ≤ max_detour }
     {
         self.detour
     }
@@ -144,7 +149,7 @@ impl App {
     /// The number of cores.
     pub fn cores(&self) -> u32
         ensures cores { result ≡ length self.now.cores }
-        ensures most { result ≤ MAX_CORES }
+        ensures most { result ≤ max_cores }
     {
         self.cores.len() as u32
     }
@@ -152,7 +157,7 @@ impl App {
     /// The number of connections.
     pub fn connections(&self) -> u32
         ensures connections { result ≡ length self.now.connections }
-        ensures most { result ≤ MAX_CONNECTIONS }
+        ensures most { result ≤ max_connections }
     {
         self.connections.len() as u32
     }
@@ -160,8 +165,8 @@ impl App {
     /// The number of use cases.
     pub fn uses(&self) -> u32
         ensures uses { result ≡ length self.now.uses }
-        ensures some { 1 ≤ result }
-        ensures most { result ≤ MAX_USES }
+        ensures some { min_uses ≤ result }
+        ensures most { result ≤ max_uses }
     {
         self.uses.len() as u32
     }
@@ -213,7 +218,7 @@ impl App {
         requires { IsSomeAnd (slice_get self.now.connections connection.0) (λ c.
             IsTrue (is_end core c)) }
         ensures position { result ≡ position_of self.now.connections core connection.0 }
-        ensures few { result < MAX_CORE_CONNECTIONS }
+        ensures few { result < max_core_connections }
     {
         count_ends(&self.connections[..connection.0 as usize], core) as u32
     }

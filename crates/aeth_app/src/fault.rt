@@ -1,16 +1,16 @@
 // Why an application file is refused.
 ghost use Rattle.std.specs.Prelude.{◌≡◌};
+ghost use Rattle.aeth_app.specs.Fault.{rule_at, rule_of};
 ghost use Rattle.aeth_app.specs.declared.fault.AppFault.TheVariants.{Memory};
 
-use aeth_base::NoMemory;
-use aeth_document::Broken;
+use aeth_base::{Broken, BrokenRule, Fault, NoMemory, Shown};
 use std::alloc::{AllocError, AllocFailed};
 
 /// The first rule that an application file breaks, with the first place in its walk where it is
 /// broken, and the value there.
 #[derive(Clone, Copy, Debug, PartialEq, Eq)]
 pub enum AppFault {
-    /// The bytes are no UTF-8 or no TOML.
+    /// The bytes are no UTF-8 or no TOML. It has the place 0 and no value.
     BadToml,
     /// A key is missing, unknown or of another type. The root is place 0; the cores follow, then
     /// each connection's own table, its `fwd` and its `back`, then the use cases. In a table it is
@@ -40,8 +40,45 @@ pub enum AppFault {
     /// More cores are fixed to an interface than it has seats. The place is the interface, the
     /// value their number.
     SeatsOverfull(Broken),
-    /// There was no memory, or a place of a walk doesn't fit 32 bits.
+    /// There was no memory.
     Memory,
+}
+
+/// Where a rule without a place and a value is broken.
+const NOWHERE: Broken = Broken {
+    place: 0,
+    value: Shown::Nothing,
+};
+
+impl Fault for AppFault {
+    ghost rule = { rule_of };
+
+    fn broken_rule(&self) -> Option<BrokenRule> {
+        match self {
+            AppFault::BadToml => Some(rule_at(1, "BadToml", NOWHERE)),
+            AppFault::WrongKey(broken) => Some(rule_at(2, "WrongKey", *broken)),
+            AppFault::OutOfRange(broken) => Some(rule_at(3, "OutOfRange", *broken)),
+            AppFault::NameTwice(broken) => Some(rule_at(4, "NameTwice", *broken)),
+            AppFault::UnknownName(broken) => Some(rule_at(5, "UnknownName", *broken)),
+            AppFault::RateTooHigh(broken) => Some(rule_at(6, "RateTooHigh", *broken)),
+            AppFault::CoreToItself(broken) => Some(rule_at(7, "CoreToItself", *broken)),
+            AppFault::CoreTooBusy(broken) => Some(rule_at(8, "CoreTooBusy", *broken)),
+            AppFault::TooFewSeats(broken) => Some(rule_at(9, "TooFewSeats", *broken)),
+            AppFault::SeatsOverfull(broken) => Some(rule_at(10, "SeatsOverfull", *broken)),
+            AppFault::Memory => None,
+        }
+    }
+}
+
+fn rule_at(rule: u32, name: &'static str, broken: Broken) -> BrokenRule
+    ensures { result ≡ rule_at rule name.now broken }
+{
+    BrokenRule {
+        rule,
+        name,
+        place: broken.place,
+        value: broken.value,
+    }
 }
 
 impl From<NoMemory> for AppFault {

@@ -1,15 +1,14 @@
 // The keys of an application file's tables.
-ghost use Rattle.std.specs.Prelude.{◌≡◌, ◌+◌, ◌*◌, flat_map, map, IfOk};
-ghost use Rattle.aeth_app.specs.Keys.{wish_at, wish_fields, wrong_connection_keys, wrong_keys_in};
+ghost use Rattle.std.specs.Prelude.{◌≡◌, flat_map};
+ghost use Rattle.aeth_app.specs.Keys.{wish_fields, wrong_connection_keys, wrong_keys};
+ghost use Rattle.aeth_app.specs.Tables.{wish_at};
+ghost use Rattle.aeth_document.specs.Arrays.{tables_in};
 ghost use Rattle.aeth_document.specs.Keys.{wrong_key};
-ghost use Rattle.aeth_document.specs.Walks.{first_broken};
+ghost use Rattle.aeth_document.specs.Walks.{walked};
 ghost use Rattle.toml.specs.View.{table_view};
 
-use aeth_base::NoMemory;
-use aeth_document::{
-    Broken, Field, Kind, Shown, first_broken, place_after, shown_text, table_at, wrong_key,
-    wrong_keys,
-};
+use aeth_base::{Broken, Shown, shown_text};
+use aeth_document::{Field, Kind, Tables, Walk, table_at, tables_at, wrong_key};
 use toml::Table;
 
 const ROOT: [Field; 6] = [
@@ -107,9 +106,6 @@ const USE: [Field; 3] = [
     },
 ];
 
-/// How many tables a connection has: its own, `fwd` and `back`.
-const TABLES_PER_CONNECTION: usize = 3;
-
 // Where no table stands, the least of its keys is missing.
 #[tactic(auto, unfolding(aeth_document::specs::Keys::least_wrong_key))]
 fn wrong_wish_key(connection: &Table, side: &str) -> Option<Shown>
@@ -121,63 +117,36 @@ fn wrong_wish_key(connection: &Table, side: &str) -> Option<Shown>
     }
 }
 
-fn wrong_connection_keys(place: u32, connection: &Table) -> Result<Option<Broken>, NoMemory>
-    ensures { IfOk result (λ found. found
-        ≡ first_broken place (wrong_connection_keys (table_view connection.now))) }
+// The walk after the checks of a connection's own table, its `fwd` and its `back`.
+fn connection_keys(walk: Walk, connection: &Table) -> Walk
+    ensures { result ≡ walked walk (wrong_connection_keys (table_view connection.now)) }
 {
-    let keys = [
+    walk.checks(&[
         wrong_key(connection, &CONNECTION),
         wrong_wish_key(connection, "fwd"),
         wrong_wish_key(connection, "back"),
-    ];
-    first_broken(place, &keys)
+    ])
 }
 
-fn wrong_keys_of_connections(first: u32, connections: &[&Table]) -> Result<Option<Broken>, NoMemory>
-    ensures { IfOk result (λ found. found ≡ first_broken first
-        (flat_map wrong_connection_keys (map (λ t. table_view t.now) connections.now))) }
+#[tactic(auto, unfolding(aeth_document::specs::Walks::walked))]
+fn keys_of_connections(walk: Walk, connections: Tables<'_>) -> Walk
+    ensures { result ≡ walked walk
+        (flat_map wrong_connection_keys (tables_in connections.entry)) }
 {
-    let mut place = first;
+    let mut walk = walk;
     for connection in connections {
-        if let Some(broken) = wrong_connection_keys(place, connection)? {
-            return Ok(Some(broken));
-        }
-        place = place_after(place, TABLES_PER_CONNECTION)?;
+        walk = connection_keys(walk, connection);
     }
-    Ok(None)
-}
-
-fn place_after_connections(place: u32, connections: usize) -> Result<u32, NoMemory>
-    ensures { IfOk result (λ after. after ≡ place + connections * 3) }
-{
-    match connections.checked_mul(TABLES_PER_CONNECTION) {
-        Some(tables) => place_after(place, tables),
-        None => Err(NoMemory),
-    }
+    walk
 }
 
 /// The first wrong key of the tables.
-#[tactic(auto, using(crate::proofs::KeyLemmas::wrong_keys_in_split))]
-pub(crate) fn wrong_keys_in(
-    root: &Table,
-    cores: &[&Table],
-    connections: &[&Table],
-    uses: &[&Table],
-) -> Result<Option<Broken>, NoMemory>
-    ensures { IfOk result (λ found. found ≡ wrong_keys_in (table_view root.now)
-        (map (λ t. table_view t.now) cores.now) (map (λ t. table_view t.now) connections.now)
-        (map (λ t. table_view t.now) uses.now)) }
+pub(crate) fn wrong_keys(root: &Table) -> Option<Broken>
+    ensures { result ≡ wrong_keys (table_view root.now) }
 {
-    if let Some(value) = wrong_key(root, &ROOT) {
-        return Ok(Some(Broken { place: 0, value }));
-    }
-    if let Some(broken) = wrong_keys(1, cores, &CORE)? {
-        return Ok(Some(broken));
-    }
-    let after_cores = place_after(1, cores.len())?;
-    if let Some(broken) = wrong_keys_of_connections(after_cores, connections)? {
-        return Ok(Some(broken));
-    }
-    let after_connections = place_after_connections(after_cores, connections.len())?;
-    wrong_keys(after_connections, uses, &USE)
+    let walk = Walk::from(0)
+        .check(wrong_key(root, &ROOT))
+        .keys(tables_at(root, "core"), &CORE);
+    let walk = keys_of_connections(walk, tables_at(root, "connection"));
+    walk.keys(tables_at(root, "use"), &USE).found()
 }

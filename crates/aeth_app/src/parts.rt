@@ -1,12 +1,11 @@
 // The cores, connections and use cases that the tables of an application file tell.
 ghost use Rattle.std.specs.Prelude.{◌≡◌, ◌<◌, ◌^◌, ◌++◌, ◌∷◌, [], ℕ, codes, length, map};
-ghost use Rattle.std.specs.Prelude.{option_map, true, All, IfOk, List};
-ghost use Rattle.std.specs.List.{filter_map};
-ghost use Rattle.aeth_base.specs.Name.{is_name, name_of};
-ghost use Rattle.aeth_app.specs.Keys.{wish_at};
+ghost use Rattle.std.specs.Prelude.{option_map, All, IfOk, List};
+ghost use Rattle.aeth_app.specs.Tables.{wish_at};
 ghost use Rattle.aeth_app.specs.Parts.{connection_of, core_of, end_of, named_marks, price_of};
 ghost use Rattle.aeth_app.specs.Parts.{use_of, wish_in};
-ghost use Rattle.aeth_app.specs.Ranges.{IsConnectionInRange, IsWishInRange, names_in};
+ghost use Rattle.aeth_app.specs.Ranges.{IsConnectionInRange, IsNamed, IsWishInRange};
+ghost use Rattle.aeth_document.specs.Arrays.{tables_in, texts_in};
 ghost use Rattle.aeth_document.specs.Values.{text_at};
 ghost use Rattle.toml.specs.View.{table_view};
 
@@ -16,13 +15,15 @@ use crate::names::{name_at, ni_of};
 use crate::use_case::UseCase;
 use aeth_base::{CoreId, Name, NoMemory};
 use aeth_chip::Chip;
-use aeth_document::{integer_at, place_of, size, table_at, text_at, text_if, texts_at};
+use aeth_document::{
+    Tables, Texts, integer_at, place_of, size, table_at, text_at, text_if, texts_at,
+};
 use indexmap::IndexSet;
 use std::alloc::Global;
 use toml::Table;
 
 fn core_of(chip: &Chip, table: &Table) -> Core
-    requires { is_name (text_at (codes "name") (table_view table.now)) ≡ true }
+    requires { IsNamed (table_view table.now) }
     ensures { result ≡ core_of chip.now.nis (table_view table.now) }
 {
     Core {
@@ -32,11 +33,14 @@ fn core_of(chip: &Chip, table: &Table) -> Core
 }
 
 /// The cores of the tables.
-pub(crate) fn cores_of(alloc: Global, chip: &Chip, tables: &[&Table]) -> Result<Vec<Core>, NoMemory>
-    requires { filter_map name_of (names_in (map (λ t. table_view t.now) tables.now))
-        ≡ names_in (map (λ t. table_view t.now) tables.now) }
+pub(crate) fn cores_of(
+    alloc: Global,
+    chip: &Chip,
+    tables: Tables<'_>,
+) -> Result<Vec<Core>, NoMemory>
+    requires { All IsNamed (tables_in tables) }
     ensures { IfOk result (λ cores. cores.items
-        ≡ map (core_of chip.now.nis) (map (λ t. table_view t.now) tables.now)) }
+        ≡ map (core_of chip.now.nis) (tables_in tables.entry)) }
 {
     let mut cores = Vec::new(alloc);
     for table in tables {
@@ -76,7 +80,7 @@ fn end_of(cores: &IndexSet<Name>, text: &str) -> CoreId
 
 fn connection_of(cores: &IndexSet<Name>, table: &Table) -> Connection
     requires cores { length cores.now.keys < 2 ^ 32 }
-    requires name { is_name (text_at (codes "name") (table_view table.now)) ≡ true }
+    requires name { IsNamed (table_view table.now) }
     requires wishes { IsConnectionInRange (table_view table.now) }
     ensures { result ≡ connection_of cores.now.keys (table_view table.now) }
 {
@@ -93,14 +97,13 @@ fn connection_of(cores: &IndexSet<Name>, table: &Table) -> Connection
 pub(crate) fn connections_of(
     alloc: Global,
     cores: &IndexSet<Name>,
-    tables: &[&Table],
+    tables: Tables<'_>,
 ) -> Result<Vec<Connection>, NoMemory>
     requires cores { length cores.now.keys < 2 ^ 32 }
-    requires names { filter_map name_of (names_in (map (λ t. table_view t.now) tables.now))
-        ≡ names_in (map (λ t. table_view t.now) tables.now) }
-    requires wishes { All IsConnectionInRange (map (λ t. table_view t.now) tables.now) }
+    requires named { All IsNamed (tables_in tables) }
+    requires wishes { All IsConnectionInRange (tables_in tables) }
     ensures { IfOk result (λ connections. connections.items
-        ≡ map (connection_of cores.now.keys) (map (λ t. table_view t.now) tables.now)) }
+        ≡ map (connection_of cores.now.keys) (tables_in tables.entry)) }
 {
     let mut connections = Vec::new(alloc);
     for table in tables {
@@ -122,10 +125,14 @@ fn mark(marks: &mut Vec<bool>, names: &IndexSet<Name>, text: &str)
 }
 
 // For each of the names whether it is among the texts.
-fn named_marks(alloc: Global, names: &IndexSet<Name>, texts: &[&str]) -> Result<Vec<bool>, NoMemory>
+fn named_marks(
+    alloc: Global,
+    names: &IndexSet<Name>,
+    texts: Texts<'_>,
+) -> Result<Vec<bool>, NoMemory>
     requires { length names.now.keys < 2 ^ 32 }
     ensures { IfOk result (λ marks. marks.items
-        ≡ named_marks names.now.keys (map (λ t. t.now) texts.now)) }
+        ≡ named_marks names.now.keys (texts_in texts.entry)) }
 {
     let mut marks = vec![in alloc; false; names.len()]?;
     for text in texts {
@@ -137,16 +144,14 @@ fn named_marks(alloc: Global, names: &IndexSet<Name>, texts: &[&str]) -> Result<
 fn use_of(alloc: Global, names: &Names, table: &Table) -> Result<UseCase, NoMemory>
     requires connections { length names.now.connections.keys < 2 ^ 32 }
     requires uses { length names.now.uses.keys < 2 ^ 32 }
-    requires name { is_name (text_at (codes "name") (table_view table.now)) ≡ true }
+    requires name { IsNamed (table_view table.now) }
     ensures { IfOk result (λ one. one
         ≡ use_of names.now.connections.keys names.now.uses.keys (table_view table.now)) }
 {
-    let connections = texts_at(alloc, table, "connections")?;
-    let smooth = texts_at(alloc, table, "smooth")?;
     Ok(UseCase {
         name: name_at(table),
-        has: named_marks(alloc, &names.connections, &connections)?,
-        smooth: named_marks(alloc, &names.uses, &smooth)?,
+        has: named_marks(alloc, &names.connections, texts_at(table, "connections"))?,
+        smooth: named_marks(alloc, &names.uses, texts_at(table, "smooth"))?,
     })
 }
 
@@ -154,14 +159,13 @@ fn use_of(alloc: Global, names: &Names, table: &Table) -> Result<UseCase, NoMemo
 pub(crate) fn uses_of(
     alloc: Global,
     names: &Names,
-    tables: &[&Table],
+    tables: Tables<'_>,
 ) -> Result<Vec<UseCase>, NoMemory>
     requires connections { length names.now.connections.keys < 2 ^ 32 }
     requires uses { length names.now.uses.keys < 2 ^ 32 }
-    requires names { filter_map name_of (names_in (map (λ t. table_view t.now) tables.now))
-        ≡ names_in (map (λ t. table_view t.now) tables.now) }
-    ensures { IfOk result (λ uses. uses.items ≡ map (use_of names.now.connections.keys
-        names.now.uses.keys) (map (λ t. table_view t.now) tables.now)) }
+    requires named { All IsNamed (tables_in tables) }
+    ensures { IfOk result (λ uses. uses.items
+        ≡ map (use_of names.now.connections.keys names.now.uses.keys) (tables_in tables.entry)) }
 {
     let mut uses = Vec::new(alloc);
     for table in tables {

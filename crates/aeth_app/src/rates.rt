@@ -2,14 +2,14 @@
 ghost use Rattle.std.specs.Prelude.{◌≡◌, ◌≤◌};
 ghost use Rattle.aeth_app.specs.App.{IsWish};
 ghost use Rattle.aeth_app.specs.Rates.{back_need, credit_need, fwd_need, need_of, own_need};
-ghost use Rattle.aeth_chip.specs.declared.chip.TheConstants.{MAX_SLOTS};
+ghost use Rattle.aeth_base.specs.Limits.{max_slots};
 
 use crate::connection::{Connection, Wish};
 use aeth_base::{CREDITS_PER_FLIT, Side, WORDS_PER_FLIT};
 
 fn own_need(slots: u32, wish: &Wish) -> u32
     requires some { 1 ≤ slots }
-    requires slots { slots ≤ MAX_SLOTS }
+    requires slots { slots ≤ max_slots }
     requires wish { IsWish wish.now }
     ensures need { result ≡ own_need slots wish.now }
     ensures within { result ≤ slots }
@@ -20,7 +20,7 @@ fn own_need(slots: u32, wish: &Wish) -> u32
 }
 
 fn credit_need(need: u32) -> u32
-    requires { need ≤ MAX_SLOTS }
+    requires { need ≤ max_slots }
     ensures { result ≡ credit_need need }
 {
     (WORDS_PER_FLIT * need).div_ceil(CREDITS_PER_FLIT)
@@ -28,7 +28,7 @@ fn credit_need(need: u32) -> u32
 
 fn back_need(slots: u32, connection: &Connection) -> u32
     requires some { 1 ≤ slots }
-    requires slots { slots ≤ MAX_SLOTS }
+    requires slots { slots ≤ max_slots }
     requires fwd { IsWish connection.now.fwd }
     requires back { IsWish connection.now.back }
     ensures need { result ≡ back_need slots connection.now }
@@ -40,7 +40,7 @@ fn back_need(slots: u32, connection: &Connection) -> u32
 
 fn fwd_need(slots: u32, connection: &Connection) -> u32
     requires some { 1 ≤ slots }
-    requires slots { slots ≤ MAX_SLOTS }
+    requires slots { slots ≤ max_slots }
     requires fwd { IsWish connection.now.fwd }
     requires back { IsWish connection.now.back }
     ensures need { result ≡ fwd_need slots connection.now }
@@ -54,7 +54,7 @@ fn fwd_need(slots: u32, connection: &Connection) -> u32
 #[tactic(auto, unfolding(crate::specs::Rates::need_of))]
 pub(crate) fn need_of(slots: u32, connection: &Connection, side: Side) -> u32
     requires some { 1 ≤ slots }
-    requires slots { slots ≤ MAX_SLOTS }
+    requires slots { slots ≤ max_slots }
     requires fwd { IsWish connection.now.fwd }
     requires back { IsWish connection.now.back }
     ensures need { result ≡ need_of slots connection.now side }

@@ -1,115 +1,53 @@
 // Names that stand twice in an application file.
-ghost use Rattle.std.specs.Prelude.{◌≡◌, [], flat_map, map, not, codes, IfOk, OnOk, None};
-ghost use Rattle.std.specs.List.{list_any};
-ghost use Rattle.std.specs.Str.{bytes_eq};
-ghost use Rattle.indexmap.specs.IndexSet.{insert_key};
-ghost use Rattle.aeth_app.specs.Names.{HasDistinctNames, name_twice};
-ghost use Rattle.aeth_app.specs.Ranges.{names_in};
-ghost use Rattle.aeth_document.specs.Values.{texts_at};
-ghost use Rattle.aeth_document.specs.Walks.{first_broken, repeats};
+ghost use Rattle.std.specs.Prelude.{◌≡◌, [], flat_map, IfOk, None};
+ghost use Rattle.aeth_app.specs.Repeats.{HasDistinctNames, name_twice, repeated_connections};
+ghost use Rattle.aeth_app.specs.Tables.{names_in};
+ghost use Rattle.aeth_document.specs.Arrays.{tables_in};
+ghost use Rattle.aeth_document.specs.Walks.{repeats, walked};
 ghost use Rattle.toml.specs.View.{table_view};
 
-use aeth_base::NoMemory;
-use aeth_document::{Broken, next_place, place_after, shown_text, text_at, texts_at};
+use aeth_base::{Broken, NoMemory};
+use aeth_document::{Tables, Walk, repeated, repeats, tables_at, text_at, texts_at};
 use indexmap::IndexSet;
 use std::alloc::Global;
 use toml::Table;
 
-fn names_in<'a>(alloc: Global, tables: &[&'a Table]) -> Result<Vec<&'a str>, NoMemory>
-    ensures { IfOk result (λ names. map (λ t. t.now) names.items
-        ≡ names_in (map (λ t. table_view t.now) tables.now)) }
-{
-    let mut names = Vec::new(alloc);
-    for table in tables {
-        names.push(text_at(table, "name"))?;
-    }
-    Ok(names)
-}
-
-// Adds a text at the end where it is new, and says whether it is.
-fn add<'a>(seen: &mut IndexSet<&'a str>, text: &'a str) -> Result<bool, NoMemory>
-    ensures new { IfOk result (λ new. new
-        ≡ not (list_any (bytes_eq text.now) (map (λ t. t.now) seen.old.keys))) }
-    ensures keys { OnOk result (map (λ t. t.now) seen.new.keys
-        ≡ insert_key bytes_eq (map (λ t. t.now) seen.old.keys) text.now) }
-{
-    let (_, is_new) = seen.insert_full(text)?;
-    Ok(is_new)
-}
-
-// The first of the texts, counted from a place on, that equals an earlier one.
-fn repeated(alloc: Global, first: u32, texts: &[&str]) -> Result<Option<Broken>, NoMemory>
-    ensures { IfOk result (λ found. found
-        ≡ first_broken first (repeats [] (map (λ t. t.now) texts.now))) }
+#[tactic(auto, unfolding(aeth_document::specs::Walks::walked))]
+fn repeated_names(alloc: Global, walk: Walk, tables: Tables<'_>) -> Result<Walk, NoMemory>
+    ensures { IfOk result (λ after. after ≡ walked walk
+        (repeats [] (names_in (tables_in tables.entry)))) }
 {
     let mut seen = IndexSet::new(alloc);
-    let mut place = first;
-    for text in texts {
-        if !add(&mut seen, *text)? {
-            return Ok(Some(Broken {
-                place,
-                value: shown_text(text),
-            }));
+    let mut walk = walk;
+    for table in tables {
+        walk = walk.check(repeated(&mut seen, text_at(table, "name"))?);
+        if !walk.goes_on() {
+            return Ok(walk);
         }
-        place = next_place(place)?;
     }
-    Ok(None)
+    Ok(walk)
 }
 
-fn repeated_name(alloc: Global, first: u32, tables: &[&Table]) -> Result<Option<Broken>, NoMemory>
-    ensures { IfOk result (λ found. found
-        ≡ first_broken first (repeats [] (names_in (map (λ t. table_view t.now) tables.now)))) }
+#[tactic(auto, unfolding(aeth_document::specs::Walks::walked))]
+fn repeated_connections(alloc: Global, walk: Walk, uses: Tables<'_>) -> Result<Walk, NoMemory>
+    ensures { IfOk result (λ after. after ≡ walked walk
+        (flat_map repeated_connections (tables_in uses.entry))) }
 {
-    let names = names_in(alloc, tables)?;
-    repeated(alloc, first, &names)
-}
-
-fn repeated_connection(
-    alloc: Global,
-    first: u32,
-    uses: &[&Table],
-) -> Result<Option<Broken>, NoMemory>
-    ensures { IfOk result (λ found. found ≡ first_broken first
-        (flat_map (λ one. repeats [] (texts_at (codes "connections") one))
-        (map (λ t. table_view t.now) uses.now))) }
-{
-    let mut place = first;
+    let mut walk = walk;
     for one in uses {
-        let texts = texts_at(alloc, one, "connections")?;
-        if let Some(broken) = repeated(alloc, place, &texts)? {
-            return Ok(Some(broken));
-        }
-        place = place_after(place, texts.len())?;
+        let mut seen = IndexSet::new(alloc);
+        walk = repeats(walk, &mut seen, texts_at(one, "connections"))?;
     }
-    Ok(None)
+    Ok(walk)
 }
 
 /// The first name that stands twice in its list.
-#[tactic(auto, using(crate::proofs::RepeatLemmas::name_twice_split))]
-pub(crate) fn name_twice(
-    alloc: Global,
-    cores: &[&Table],
-    connections: &[&Table],
-    uses: &[&Table],
-) -> Result<Option<Broken>, NoMemory>
-    ensures found { IfOk result (λ found. found ≡ name_twice
-        (map (λ t. table_view t.now) cores.now) (map (λ t. table_view t.now) connections.now)
-        (map (λ t. table_view t.now) uses.now)) }
-    ensures none { IfOk result (λ found. found ≡ None → HasDistinctNames
-        (map (λ t. table_view t.now) cores.now) (map (λ t. table_view t.now) connections.now)
-        (map (λ t. table_view t.now) uses.now)) }
+pub(crate) fn name_twice(alloc: Global, root: &Table) -> Result<Option<Broken>, NoMemory>
+    ensures found { IfOk result (λ found. found ≡ name_twice (table_view root.now)) }
+    ensures none { IfOk result (λ found. found ≡ None → HasDistinctNames (table_view root.now)) }
 {
-    if let Some(broken) = repeated_name(alloc, 0, cores)? {
-        return Ok(Some(broken));
-    }
-    let after_cores = place_after(0, cores.len())?;
-    if let Some(broken) = repeated_name(alloc, after_cores, connections)? {
-        return Ok(Some(broken));
-    }
-    let after_connections = place_after(after_cores, connections.len())?;
-    if let Some(broken) = repeated_name(alloc, after_connections, uses)? {
-        return Ok(Some(broken));
-    }
-    let after_uses = place_after(after_connections, uses.len())?;
-    repeated_connection(alloc, after_uses, uses)
+    let after_cores = repeated_names(alloc, Walk::from(0), tables_at(root, "core"))?;
+    let after_connections = repeated_names(alloc, after_cores, tables_at(root, "connection"))?;
+    let after_uses = repeated_names(alloc, after_connections, tables_at(root, "use"))?;
+    Ok(repeated_connections(alloc, after_uses, tables_at(root, "use"))?.found())
 }

@@ -1,20 +1,33 @@
+use Rattle.std.proofs.Common.{◌∷◌, [], append_assoc}
 use Rattle.std.specs.Prelude.{codes}
+use Rattle.std.proofs.lemmas.List.Elements.{All-tail}
 use Rattle.toml.specs.View.{table_view}
+use Rattle.aeth_document.specs.Arrays.{tables_in}
 use Rattle.aeth_document.specs.Values.{text_at}
-use Rattle.aeth_app.proofs.NameLemmas.{named_at, next_is_new}
+use Rattle.aeth_app.specs.Ranges.{IsNamed}
+use Rattle.aeth_app.specs.Tables.{names_in}
+use Rattle.aeth_app.proofs.NameLemmas.{new_name}
 use Rattle.aeth_app.proofs.names.names_in.Goals as goal
-
--- Each text is a name.
-pub name_at-requires : goal.name_at-requires
-name_at-requires c =
-    named_at (λ t. table_view t.now) (text_at (codes "name")) c.args.tables.now
-    c.loop-table.table-index c.table-item.result c.requires.names c.loop-table-test.true
-    c.table-item.is
 
 -- It isn't among those before it.
 pub add-requires : goal.add-requires
 add-requires c =
-    rw c.name_at.ensures
-    (next_is_new (λ t. table_view t.now) (text_at (codes "name")) c.args.tables.now
-    c.loop-table.table-index c.table-item.result c.loop-table.names.keys c.loop-table-test.true
-    c.table-item.is c.loop-table.invariant c.requires.apart)
+    let all = rw c.in-Some.ensures.steps at c.loop-table.invariant.all in
+    rw c.name_at.ensures (new_name c.loop-table.names.keys
+    (text_at (codes "name") (table_view c.in-Some.table.now)) (names_in (tables_in c.next.new.self))
+    (rw all c.requires.apart))
+
+-- One more name.
+pub loop-table-preserved : goal.loop-table-preserved
+loop-table-preserved c =
+    let left = rw c.in-Some.ensures.steps at c.loop-table.invariant in
+    let name = text_at (codes "name") (table_view c.in-Some.table.now) in
+    record {
+      all = rw (
+        c.in_ok-add.ensures,
+        c.name_at.ensures,
+        append_assoc c.loop-table.names.keys (name ∷ []) (names_in (tables_in c.next.new.self)),
+      ) left.all;
+      named = All-tail IsNamed (table_view c.in-Some.table.now) (tables_in c.next.new.self)
+          left.named;
+    }

@@ -1,21 +1,24 @@
-use Rattle.std.specs.Prelude.{codes}
+use Rattle.std.proofs.Common.{◌∷◌, [], append_assoc, map}
+use Rattle.std.proofs.lemmas.List.Elements.{All-tail}
 use Rattle.toml.specs.View.{table_view}
-use Rattle.aeth_document.specs.Values.{text_at}
-use Rattle.aeth_app.specs.Ranges.{IsConnectionInRange}
-use Rattle.aeth_app.proofs.NameLemmas.{named_at}
-use Rattle.aeth_app.proofs.PartLemmas.{each_at}
+use Rattle.aeth_document.specs.Arrays.{tables_in}
+use Rattle.aeth_app.specs.Parts.{connection_of}
+use Rattle.aeth_app.specs.Ranges.{IsConnectionInRange, IsNamed}
 use Rattle.aeth_app.proofs.parts.connections_of.Goals as goal
 
--- Each text is a name.
-pub connection_of-requires-clause-name : goal.connection_of-requires-clause-name
-connection_of-requires-clause-name c =
-    named_at (λ t. table_view t.now) (text_at (codes "name")) c.args.tables.now
-    c.loop-table.table-index c.table-item.result c.requires.names c.loop-table-test.true
-    c.table-item.is
-
--- The wishes of each are in their ranges.
-pub connection_of-requires-clause-wishes : goal.connection_of-requires-clause-wishes
-connection_of-requires-clause-wishes c =
-    each_at (λ t. table_view t.now) IsConnectionInRange c.args.tables.now
-    c.loop-table.table-index c.table-item.result c.requires.wishes c.loop-table-test.true
-    c.table-item.is
+-- One more of them.
+pub loop-table-preserved : goal.loop-table-preserved
+loop-table-preserved c =
+    let left = rw c.in-Some.ensures.steps at c.loop-table.invariant in
+    let table = table_view c.in-Some.table.now in
+    let rest = tables_in c.next.new.self in
+    record {
+      all = rw (
+        c.in_ok-push.ensures.items,
+        c.connection_of.ensures,
+        append_assoc c.loop-table.connections.items (connection_of c.args.cores.now.keys table ∷ [])
+            (map (connection_of c.args.cores.now.keys) rest),
+      ) left.all;
+      named = All-tail IsNamed table rest left.named;
+      wishes = All-tail IsConnectionInRange table rest left.wishes;
+    }

@@ -1,10 +1,13 @@
-use Rattle.std.proofs.Common.{◌≡◌, ◌++◌, drop, map}
-use Rattle.toml.specs.View.{table_view}
+use Rattle.std.proofs.Common.{◌≡◌, ◌++◌, All, map}
+use Rattle.aeth_document.specs.Arrays.{tables_in}
 use Rattle.aeth_app.specs.Parts.{connection_of}
+use Rattle.aeth_app.specs.Ranges.{IsConnectionInRange, IsNamed}
 use Rattle.aeth_app.proofs.parts.connections_of.Given as goal
 
 abbrev pub invariant-loop-table : goal.invariant-loop-table
-invariant-loop-table l =
-    l.connections.items
-    ++ map (connection_of l.cores.keys) (map (λ t. table_view t.now) (drop l.table-index l.tables))
-    ≡ map (connection_of l.cores.keys) (map (λ t. table_view t.now) l.tables)
+invariant-loop-table l = record {
+  all : l.connections.items ++ map (connection_of l.cores.keys) (tables_in l.table-iterator)
+      ≡ map (connection_of l.cores.keys) (tables_in l.fn.tables);
+  named : All IsNamed (tables_in l.table-iterator);
+  wishes : All IsConnectionInRange (tables_in l.table-iterator);
+}

@@ -1,10 +1,12 @@
-use Rattle.std.proofs.Common.{◌≡◌, ◌++◌, drop, map}
-use Rattle.toml.specs.View.{table_view}
+use Rattle.std.proofs.Common.{◌≡◌, ◌++◌, All, map}
+use Rattle.aeth_document.specs.Arrays.{tables_in}
 use Rattle.aeth_app.specs.Parts.{core_of}
+use Rattle.aeth_app.specs.Ranges.{IsNamed}
 use Rattle.aeth_app.proofs.parts.cores_of.Given as goal
 
 abbrev pub invariant-loop-table : goal.invariant-loop-table
-invariant-loop-table l =
-    l.cores.items
-    ++ map (core_of l.chip.nis) (map (λ t. table_view t.now) (drop l.table-index l.tables))
-    ≡ map (core_of l.chip.nis) (map (λ t. table_view t.now) l.tables)
+invariant-loop-table l = record {
+  all : l.cores.items ++ map (core_of l.chip.nis) (tables_in l.table-iterator)
+      ≡ map (core_of l.chip.nis) (tables_in l.fn.tables);
+  named : All IsNamed (tables_in l.table-iterator);
+}

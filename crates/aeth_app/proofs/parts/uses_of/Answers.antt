@@ -1,12 +1,23 @@
-use Rattle.std.specs.Prelude.{codes}
+use Rattle.std.proofs.Common.{◌∷◌, [], append_assoc, map}
+use Rattle.std.proofs.lemmas.List.Elements.{All-tail}
 use Rattle.toml.specs.View.{table_view}
-use Rattle.aeth_document.specs.Values.{text_at}
-use Rattle.aeth_app.proofs.NameLemmas.{named_at}
+use Rattle.aeth_document.specs.Arrays.{tables_in}
+use Rattle.aeth_app.specs.Parts.{use_of}
+use Rattle.aeth_app.specs.Ranges.{IsNamed}
 use Rattle.aeth_app.proofs.parts.uses_of.Goals as goal
 
--- Each text is a name.
-pub use_of-requires-clause-name : goal.use_of-requires-clause-name
-use_of-requires-clause-name c =
-    named_at (λ t. table_view t.now) (text_at (codes "name")) c.args.tables.now
-    c.loop-table.table-index c.table-item.result c.requires.names c.loop-table-test.true
-    c.table-item.is
+-- One more of them.
+pub loop-table-preserved : goal.loop-table-preserved
+loop-table-preserved c =
+    let left = rw c.in-Some.ensures.steps at c.loop-table.invariant in
+    let table = table_view c.in-Some.table.now in
+    let rest = tables_in c.next.new.self in
+    record {
+      all = rw (
+        c.in_ok-push.ensures.items,
+        c.in_ok-use_of.ensures,
+        append_assoc c.loop-table.uses.items (use_of c.args.names.now.connections.keys c.args.names.now.uses.keys table ∷ [])
+            (map (use_of c.args.names.now.connections.keys c.args.names.now.uses.keys) rest),
+      ) left.all;
+      named = All-tail IsNamed table rest left.named;
+    }

@@ -1,0 +1,15 @@
+use Rattle.std.proofs.Common.{◌≡◌, map}
+use Rattle.std.specs.Prelude.{codes}
+use Rattle.std.specs.List.{filter_map}
+use Rattle.aeth_document.specs.Arrays.{tables_in}
+use Rattle.aeth_document.specs.Values.{text_if}
+use Rattle.aeth_document.specs.Walks.{walked}
+use Rattle.aeth_app.specs.Unknown.{unknown}
+use Rattle.aeth_app.proofs.unknown.interfaces.Given as goal
+
+abbrev pub invariant-loop-core : goal.invariant-loop-core
+invariant-loop-core l =
+    walked l.walk
+    (map (unknown l.chip.nis) (filter_map (text_if (codes "ni")) (tables_in l.core-iterator)))
+    ≡ walked l.fn.walk
+    (map (unknown l.chip.nis) (filter_map (text_if (codes "ni")) (tables_in l.fn.cores)))

@@ -1,0 +1,14 @@
+use Rattle.std.proofs.Common.{◌≡◌, map}
+use Rattle.std.specs.Prelude.{flat_map}
+use Rattle.aeth_document.specs.Arrays.{tables_in}
+use Rattle.aeth_document.specs.Values.{texts_at}
+use Rattle.aeth_document.specs.Walks.{walked}
+use Rattle.aeth_app.specs.Unknown.{unknown}
+use Rattle.aeth_app.proofs.unknown.texts_of.Given as goal
+
+abbrev pub invariant-loop-table : goal.invariant-loop-table
+invariant-loop-table l =
+    walked l.walk
+    (map (unknown l.names.keys) (flat_map (texts_at l.key) (tables_in l.table-iterator)))
+    ≡ walked l.fn.walk
+    (map (unknown l.names.keys) (flat_map (texts_at l.key) (tables_in l.fn.tables)))
