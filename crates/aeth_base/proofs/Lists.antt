@@ -1,12 +1,39 @@
--- Laws of lists read by `slice_get`, where an element may be of any type and so has no default, and
--- of how many elements pass a test.
+-- Laws of lists read by `slice_get`, where an element may be of any type and so has no default; of
+-- whether some element passes a test, and of how many do.
 use Rattle.std.proofs.Common.{◌≡◌, ◌≢◌, ◌<◌, ◌+◌, ◌∙◌, ℕ, zero, suc, Bool, true, false, List, []}
 use Rattle.std.proofs.Common.{◌∷◌, length, take, Some, None, slice_get, cond, refl, ap, inl, inr}
-use Rattle.std.proofs.Common.{arith}
-use Rattle.std.specs.List.{count_by, slice_set}
+use Rattle.std.proofs.Common.{◌⊎◌, ◌||◌, ◌++◌, drop, map, arith}
+use Rattle.std.specs.List.{count_by, list_any, slice_set}
 use Rattle.std.proofs.lemmas.Bool.{cases_Bool}
 use Rattle.std.proofs.lemmas.List.Sums.{sum_by-cons}
-use Rattle.std.proofs.lemmas.Option.{same_Some}
+use Rattle.std.proofs.lemmas.List.{drop_more}
+use Rattle.std.proofs.lemmas.Option.{get_or_from_slice_get, none-some, same_Some}
+use Rattle.std.proofs.lemmas.Option.{slice_get_within}
+
+-- A test of what is shown of some element is a test of what is shown of all.
+pub list_any-map : {X Y : Type 0} (test : Y → Bool) (f : X → Y) (xs : List X)
+    → list_any test (map f xs) ≡ list_any (λ x. test (f x)) xs
+list_any-map test f [] = refl
+list_any-map test f (x ∷ xs) = ap (λ rest. test (f x) || rest) (list_any-map test f xs)
+
+-- An element was put behind the others.
+pub slice_get-push : {X : Type 0} (xs : List X) (y x : X) (i : ℕ)
+    → slice_get (xs ++ y ∷ []) i ≡ Some x
+    → (slice_get xs i ≡ Some x) ⊎ ((i ≡ length xs) × (y ≡ x))
+slice_get-push [] y x zero is = inr (refl, same_Some y x is)
+slice_get-push [] y x (suc i) is = absurd (none-some x is)
+slice_get-push (z ∷ xs) y x zero is = inl is
+slice_get-push (z ∷ xs) y x (suc i) is = elim (slice_get-push xs y x i is) [
+  | inl early ↦ inl early
+  | inr (last, same) ↦ inr (ap suc last, same)
+]
+
+-- From a place on, the element there comes first.
+pub drop-slice_get : {X : Type 0} (xs : List X) (i : ℕ) (x : X) → slice_get xs i ≡ Some x
+    → drop i xs ≡ x ∷ drop (i + 1) xs
+drop-slice_get xs i x at =
+    drop_more xs i x (slice_get_within xs i x at)
+    ∙ ap (λ y. y ∷ drop (i + 1) xs) (get_or_from_slice_get xs i x x at)
 
 -- Lists with the same element at each place are equal.
 pub same_list : {X : Type 0} (xs ys : List X)

@@ -1,6 +1,8 @@
 -- Laws of the numbers from a first one on.
-use Rattle.std.proofs.Common.{◌≡◌, ◌<◌, ◌+◌, ◌-◌, ◌++◌, ℕ, zero, suc, [], ◌∷◌, refl, ap, arith}
-use Rattle.std.specs.List.{range_with_len}
+use Rattle.std.proofs.Common.{◌≡◌, ◌<◌, ◌≤◌, ◌+◌, ◌-◌, ◌++◌, ◌∙◌, ℕ, zero, suc, [], ◌∷◌, refl, ap}
+use Rattle.std.proofs.Common.{arith}
+use Rattle.std.specs.List.{range_with_len, All, Contains}
+use Rattle.std.proofs.lemmas.List.FromFn.{length-range_with_len, get_or-range_with_len}
 
 -- One more number is the next one behind those before.
 pub range_with_len-more : (start size last : ℕ) → start + size ≡ last
@@ -16,3 +18,20 @@ pub range_more : (i n : ℕ) → i < n
 range_more i n within =
     let more : n - i ≡ suc (n - (i + 1)) = omega arith in
     rw more refl
+
+-- Each number from the first one on and below the end is one of them.
+pub Contains-range : (low size x : ℕ) → low ≤ x → x < low + size
+    → Contains (range_with_len low size) x
+Contains-range low size x least most =
+    let there : low + (x - low) ≡ x = omega arith in (
+      x - low,
+      rw (length-range_with_len low size) (omega arith),
+      get_or-range_with_len low size (x - low) x (omega arith) ∙ there,
+    )
+
+-- Each of the numbers from 0 on is below the count.
+pub All-range : (n : ℕ) → All (λ i. i < n) (range_with_len 0 n)
+All-range n place default within =
+    let size = length-range_with_len 0 n in
+    let at = get_or-range_with_len 0 n place default in
+    omega (arith, at (omega arith))

@@ -10,8 +10,8 @@ use Rattle.std.proofs.lemmas.List.Elements.{Contains-append_right}
 use Rattle.std.proofs.lemmas.List.FromFn.{get_or-range_with_len, length-range_with_len}
 use Rattle.std.proofs.lemmas.List.Sums.{length-filter}
 use Rattle.aeth_base.specs.declared.ids.Unit.{Unit as GroupUnit}
-use Rattle.aeth_slots.proofs.Lists.{Contains-cases, Contains-filter, Contains-here, Contains-map}
-use Rattle.aeth_slots.proofs.Lists.{Contains-nil, Contains-there, filter-Contains, map-Contains}
+use Rattle.aeth_base.proofs.Members.{Contains-cases, Contains-filter, Contains-here, Contains-map}
+use Rattle.aeth_base.proofs.Members.{Contains-nil, Contains-there, filter-Contains, map-Contains}
 use Rattle.aeth_app.specs.declared.app.TheConstants.{MAX_USES}
 use Rattle.aeth_group.specs.Members.{GroupsData, is_member, units_of, units_with}
 use Rattle.aeth_base.proofs.Ranges.{range_with_len-more}

@@ -7,8 +7,7 @@ use Rattle.std.proofs.lemmas.Bool.{cases_eq, eq-eqb, ne_eqb}
 use Rattle.std.proofs.lemmas.Bool.Decides.{nat_tests}
 use Rattle.std.proofs.lemmas.Option.{same_Some}
 use Rattle.aeth_base.proofs.Lists.{slice_get-slice_set_same, slice_get-slice_set_other}
-use Rattle.aeth_slots.proofs.Lists.{Contains-there, Contains-cases}
-use Rattle.aeth_slots.proofs.Lists.{Contains-filter, filter-Contains}
+use Rattle.aeth_base.proofs.Members.{Contains-there, Contains-cases, Contains-filter, filter-Contains}
 use Rattle.aeth_base.specs.declared.ids.NiId.{NiId}
 use Rattle.aeth_ni.specs.declared.write.Write.{Write}
 use Rattle.aeth_ni.specs.declared.write.Write.TheVariants.{ClearSlot, ClearRoute, SetRoute, SetSlot}

@@ -3,8 +3,8 @@ use Rattle.std.proofs.Common.{◌≡◌, ◌⊎◌, ◌&&◌, ℕ, true, eqb, re
 use Rattle.std.proofs.Common.{List, [], ◌∷◌, Contains}
 use Rattle.std.specs.Prelude.{fold}
 use Rattle.std.proofs.lemmas.Bool.{cases_Bool, and_parts, eqb-true}
-use Rattle.aeth_slots.proofs.Lists.{Contains-nil, Contains-here, Contains-there, Contains-cases}
-use Rattle.aeth_slots.proofs.Lists.{Contains-filter, filter-Contains}
+use Rattle.aeth_base.proofs.Members.{Contains-nil, Contains-here, Contains-there, Contains-cases}
+use Rattle.aeth_base.proofs.Members.{Contains-filter, filter-Contains}
 use Rattle.aeth_base.specs.declared.ids.NiId.{NiId}
 use Rattle.aeth_ni.specs.declared.write.Write.{Write}
 use Rattle.aeth_ni.specs.declared.write.Write.TheVariants.{ClearSlot, ClearRoute, SetRoute, SetSlot}

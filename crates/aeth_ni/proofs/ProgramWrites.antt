@@ -3,8 +3,8 @@ use Rattle.std.proofs.Common.{◌≡◌, ◌⊎◌, ℕ, sym, ap, subst, inl, in
 use Rattle.std.proofs.Common.{List, [], ◌∷◌, Contains, map}
 use Rattle.std.specs.List.{flat_map}
 use Rattle.std.proofs.lemmas.List.Elements.{Contains-append_left, Contains-append_cases}
-use Rattle.aeth_slots.proofs.Lists.{Contains-nil, Contains-there, Contains-cases}
-use Rattle.aeth_slots.proofs.Lists.{Contains-map, map-Contains}
+use Rattle.aeth_base.proofs.Members.{Contains-nil, Contains-there, Contains-cases}
+use Rattle.aeth_base.proofs.Members.{Contains-map, map-Contains}
 use Rattle.aeth_ni.specs.declared.row.ChannelRow.{ChannelRow}
 use Rattle.aeth_ni.specs.declared.write.Write.{Write}
 use Rattle.aeth_ni.specs.declared.write.Write.TheVariants.{ClearSlot, ClearRoute, SetRoute, SetSlot}

@@ -6,7 +6,7 @@ use Rattle.std.proofs.lemmas.Bool.{cases_eq, cases_lt, cond-false, cond-true, le
 use Rattle.std.proofs.lemmas.Option.{slice_get-map}
 use Rattle.aeth_slots.specs.SlotSet.{Ascends}
 use Rattle.aeth_slots.proofs.Ascending.{Ascends-bounds}
-use Rattle.aeth_slots.proofs.Lists.{Contains-cases, Contains-here, Contains-nil, Contains-there}
+use Rattle.aeth_base.proofs.Members.{Contains-cases, Contains-here, Contains-nil, Contains-there}
 use Rattle.aeth_plan.specs.Plan.{name_at}
 
 -- ---- The slots from a slot on

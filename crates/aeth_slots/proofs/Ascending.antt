@@ -5,7 +5,7 @@ use Rattle.std.proofs.Common.{subst, inl, inr, arith}
 use Rattle.std.proofs.lemmas.Bool.{cases_eq, cases_lt, eqb-true, eq-eqb, ne_eqb, lt-ltb, le-ltb}
 use Rattle.std.proofs.lemmas.Bool.{cond-false}
 use Rattle.aeth_slots.specs.SlotSet.{Ascends, with_slot, ascending}
-use Rattle.aeth_slots.proofs.Lists.{Contains-nil, Contains-here, Contains-there, Contains-cases}
+use Rattle.aeth_base.proofs.Members.{Contains-nil, Contains-here, Contains-there, Contains-cases}
 
 -- A number of an ascending list lies within its bounds.
 pub Ascends-bounds : (low high : ℕ) (xs : List ℕ) → Ascends low high xs → (x : ℕ) → Contains xs x

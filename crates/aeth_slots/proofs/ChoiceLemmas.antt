@@ -19,7 +19,7 @@ use Rattle.std.proofs.lemmas.List.Elements.{Contains-get_or}
 use Rattle.aeth_slots.specs.SlotSet.{Slots, IsSlotSet, gap_of}
 use Rattle.aeth_slots.specs.Choice.{IsSuitable, is_suitable, sublists, subsets, choice_order}
 use Rattle.aeth_slots.specs.Choice.{first_by, chosen, IsChosen}
-use Rattle.aeth_slots.proofs.Lists.{Contains-nil, Contains-map, Contains-filter, filter-Contains}
+use Rattle.aeth_base.proofs.Members.{Contains-nil, Contains-map, Contains-filter, filter-Contains}
 use Rattle.std.proofs.lemmas.List.{get_or_default}
 use Rattle.aeth_slots.proofs.Sublists.{sublists-itself}
 use Rattle.aeth_slots.proofs.Rounds.{subset-size, subset-round, round-length, round-suitable}

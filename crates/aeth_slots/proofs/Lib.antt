@@ -1,4 +1,3 @@
-pub mod Lists
 pub mod Ascending
 pub mod SlotSetLemmas
 pub mod TestLemmas

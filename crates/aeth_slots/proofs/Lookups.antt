@@ -11,7 +11,7 @@ use Rattle.std.proofs.lemmas.Nat.Bits.{bit_at_clear_other, bit_at-trailing_zeros
 use Rattle.std.proofs.lemmas.Bool.{cases_eq, cases_lt}
 use Rattle.aeth_slots.specs.Bits.{ones_from}
 use Rattle.aeth_slots.specs.SlotSet.{Slots, IsNextSlot}
-use Rattle.aeth_slots.proofs.Lists.{Contains-there, Contains-cases}
+use Rattle.aeth_base.proofs.Members.{Contains-there, Contains-cases}
 use Rattle.aeth_slots.proofs.Ascending.{Ascends-from, same_members}
 use Rattle.aeth_slots.proofs.Masks.{Ascends-mask, Contains-ones, IsView, member-view, ones-Contains}
 use Rattle.aeth_slots.proofs.Masks.{view-ascends, view-empty, view-member}

@@ -13,10 +13,11 @@ use Rattle.std.proofs.lemmas.Bool.{false_from_ne_true}
 use Rattle.aeth_slots.specs.Bits.{IsMask}
 use Rattle.aeth_base.specs.Limits.{max_slots}
 use Rattle.aeth_slots.specs.SlotSet.{Slots, all_slots, has_slot, joined, without}
-use Rattle.aeth_slots.proofs.Lists.{Contains-filter, filter-Contains}
+use Rattle.aeth_base.proofs.Members.{Contains-filter, filter-Contains}
 use Rattle.aeth_slots.proofs.Ascending.{Ascends-bounds, Ascends-filter}
 use Rattle.aeth_slots.proofs.Masks.{IsView, view-is, view-member, member-view, view-ascends}
-use Rattle.aeth_slots.proofs.TestLemmas.{Ascends-slots, Contains-range, has_slot-Decides}
+use Rattle.aeth_base.proofs.Ranges.{Contains-range}
+use Rattle.aeth_slots.proofs.TestLemmas.{Ascends-slots, has_slot-Decides}
 use Rattle.aeth_slots.proofs.TestLemmas.{Ascends-where, Contains-where}
 
 -- Views of sets of one size are of one size.

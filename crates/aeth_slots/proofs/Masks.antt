@@ -13,7 +13,7 @@ use Rattle.aeth_base.specs.Limits.{max_slots}
 use Rattle.aeth_slots.specs.Bits.{IsMask, ones_from, mask_of}
 use Rattle.aeth_slots.specs.BitLemmas.{mask_of-ones}
 use Rattle.aeth_slots.specs.SlotSet.{Slots, IsSlotSet, Ascends, same_set, with_slot, common}
-use Rattle.aeth_slots.proofs.Lists.{Contains-nil, Contains-there, Contains-cases}
+use Rattle.aeth_base.proofs.Members.{Contains-nil, Contains-there, Contains-cases}
 use Rattle.aeth_slots.proofs.Ascending.{Ascends-bounds, Ascends-wider, Ascends-with_slot}
 use Rattle.aeth_slots.proofs.Ascending.{Ascends-filter, with_slot-new, with_slot-old}
 use Rattle.aeth_slots.proofs.Ascending.{with_slot-cases, same_members}

@@ -12,7 +12,7 @@ use Rattle.aeth_slots.specs.Bits.{IsMask}
 use Rattle.aeth_slots.specs.SlotSet.{Slots, rotated}
 use Rattle.aeth_slots.proofs.SlotSetLemmas.{Contains-rotated}
 use Rattle.aeth_slots.proofs.Ascending.{Ascends-ascending}
-use Rattle.aeth_slots.proofs.Lists.{map-Contains}
+use Rattle.aeth_base.proofs.Members.{map-Contains}
 use Rattle.aeth_slots.proofs.Masks.{IsView, view-is, view-member, member-view}
 
 -- The place of a slot after a rotation, as the sum of the places or one table less.

@@ -4,8 +4,8 @@ use Rattle.std.proofs.Common.{Contains, sym, refl, ap, subst, inl, inr, arith}
 use Rattle.aeth_slots.specs.SlotSet.{Slots, IsSlotSet}
 use Rattle.aeth_slots.specs.Choice.{IsSuitable, sublists, subsets}
 use Rattle.aeth_slots.specs.Ways.{IsWay, IsRound, HasRound}
-use Rattle.aeth_slots.proofs.Lists.{Contains-nil, Contains-here, Contains-there, Contains-cases}
-use Rattle.aeth_slots.proofs.Lists.{Contains-map, map-Contains}
+use Rattle.aeth_base.proofs.Members.{Contains-nil, Contains-here, Contains-there, Contains-cases}
+use Rattle.aeth_base.proofs.Members.{Contains-map, map-Contains}
 use Rattle.aeth_slots.proofs.Ascending.{Ascends-bounds}
 use Rattle.aeth_slots.proofs.Sublists.{above_head, sublist-member, sublist-ascends}
 use Rattle.aeth_slots.proofs.Sublists.{sublist-from_members, sublist-length, sublist-whole}

@@ -1,14 +1,13 @@
 -- Laws of slot sets: the slots of a set that was rotated or met, and equal sets.
-use Rattle.std.proofs.Common.{ℕ, ◌+◌, ◌%◌, ◌≡◌, ◌↔◌, true, eqb, List, [], ◌∷◌, map, Contains, sym}
-use Rattle.std.proofs.Common.{ap, subst, inl, inr, arith}
+use Rattle.std.proofs.Common.{ℕ, ◌+◌, ◌%◌, ◌≡◌, ◌↔◌, eqb, map, Contains, sym}
+use Rattle.std.proofs.Common.{ap, subst}
 use Rattle.std.specs.List.{list_any}
-use Rattle.std.proofs.lemmas.Bool.{eqb-true, eq-eqb, and_from, and_parts, or_cases, or_left}
-use Rattle.std.proofs.lemmas.Bool.{or_right}
+use Rattle.std.proofs.lemmas.Bool.{eqb-true, eq-eqb, and_from, and_parts}
 use Rattle.std.proofs.lemmas.Slice.Eq.{bytes_eq-Decides}
 use Rattle.std.specs.Bool.{Decides}
 use Rattle.aeth_slots.specs.SlotSet.{Slots, same_set, rotated, common}
-use Rattle.aeth_slots.proofs.Lists.{Contains-nil, Contains-there, Contains-cases, Contains-map}
-use Rattle.aeth_slots.proofs.Lists.{map-Contains, Contains-filter, filter-Contains}
+use Rattle.aeth_base.proofs.Members.{Contains-map, Contains-list_any, list_any-Contains}
+use Rattle.aeth_base.proofs.Members.{map-Contains, Contains-filter, filter-Contains}
 use Rattle.aeth_slots.proofs.Ascending.{Contains-ascending, ascending-Contains}
 
 -- The slots of a rotated set are those that are so many on from a slot of the set.
@@ -24,22 +23,6 @@ Contains-rotated by set t = (
       (Contains-ascending (map (λ u. (u + by) % set.size) set.slots) ((s + by) % set.size)
       (Contains-map (λ u. (u + by) % set.size) set.slots s has))),
 )
-
--- The test by which two sets meet says that a slot is in the other set.
-pub list_any-Contains : (xs : List ℕ) (s : ℕ) → list_any (λ t. eqb t s) xs ≡ true → Contains xs s
-list_any-Contains [] s test = cc
-list_any-Contains (x ∷ xs) s test = elim (or_cases (eqb x s) _ test) [
-  | inl here ↦ (0, omega arith, eqb-true x s here)
-  | inr later ↦ Contains-there x xs s (list_any-Contains xs s later)
-]
-
--- The test passes at each slot of the other set.
-pub Contains-list_any : (xs : List ℕ) (s : ℕ) → Contains xs s → list_any (λ t. eqb t s) xs ≡ true
-Contains-list_any [] s has = Contains-nil has
-Contains-list_any (x ∷ xs) s has = elim (Contains-cases x xs s has) [
-  | inl same ↦ or_left (eqb x s) _ (eq-eqb x s same)
-  | inr later ↦ or_right (eqb x s) _ (Contains-list_any xs s later)
-]
 
 -- The slots that two sets have in common are those that are in both.
 pub Contains-common : (set other : Slots) (s : ℕ)

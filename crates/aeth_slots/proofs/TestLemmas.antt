@@ -1,14 +1,13 @@
 -- Laws of the slots of a table that pass a test, and of sets that are joined or cut by others.
-use Rattle.std.proofs.Common.{ℕ, ◌+◌, ◌<◌, ◌≤◌, ◌≡◌, ◌↔◌, ◌∙◌, zero, suc, Bool, true, false}
-use Rattle.std.proofs.Common.{Contains, inl, inr, arith, subst, refl, sym, zero-add}
+use Rattle.std.proofs.Common.{ℕ, ◌+◌, ◌<◌, ◌≡◌, ◌↔◌, ◌∙◌, zero, suc, Bool, true, false}
+use Rattle.std.proofs.Common.{Contains, arith, subst, refl, sym, zero-add}
 use Rattle.std.specs.List.{range_with_len}
-use Rattle.std.proofs.lemmas.Bool.{cases_eq}
 use Rattle.std.specs.Bool.{Decides}
 use Rattle.aeth_slots.specs.SlotSet.{Slots, Ascends, slots_where, has_slot}
-use Rattle.aeth_slots.proofs.Lists.{Contains-there}
-use Rattle.aeth_slots.proofs.Lists.{Contains-filter, filter-Contains}
+use Rattle.aeth_base.proofs.Ranges.{Contains-range}
+use Rattle.aeth_base.proofs.Members.{Contains-filter, filter-Contains}
 use Rattle.aeth_slots.proofs.Ascending.{Ascends-bounds, Ascends-filter, same_members}
-use Rattle.aeth_slots.proofs.SlotSetLemmas.{list_any-Contains, Contains-list_any}
+use Rattle.aeth_base.proofs.Members.{list_any-Contains, Contains-list_any}
 
 -- The numbers from a first one on ascend.
 pub Ascends-range : (low size : ℕ) → Ascends low (low + size) (range_with_len low size)
@@ -24,16 +23,6 @@ Ascends-range low (suc size) =
 -- All slots of a table do.
 pub Ascends-slots : (size : ℕ) → Ascends 0 size (range_with_len 0 size)
 Ascends-slots size = rw zero-add at (Ascends-range 0 size)
-
--- Each number below the end is among them.
-pub Contains-range : (low size x : ℕ) → low ≤ x → x < low + size
-    → Contains (range_with_len low size) x
-Contains-range low zero x least most = absurd (omega arith)
-Contains-range low (suc size) x least most = elim (cases_eq low x) [
-  | inl here ↦ (0, omega arith, here)
-  | inr later ↦ Contains-there low _ x
-      (Contains-range (low + 1) size x (omega arith) (omega arith))
-]
 
 -- Whether a set has a slot.
 pub has_slot-Decides : (set : Slots) (s : ℕ) → Decides (has_slot set s) (Contains set.slots s)

@@ -4,7 +4,7 @@ use Rattle.std.proofs.Common.{Contains, sym, refl, ap, subst, inl, inr, arith}
 use Rattle.std.proofs.lemmas.Bool.{cases_lt}
 use Rattle.aeth_slots.specs.SlotSet.{IsNextSlot, Ascends, distances, greatest}
 use Rattle.aeth_slots.specs.Ways.{IsWay, Reaches, ReachesWithin, IsEarliest}
-use Rattle.aeth_slots.proofs.Lists.{Contains-nil, Contains-here, Contains-there, Contains-cases}
+use Rattle.aeth_base.proofs.Members.{Contains-nil, Contains-here, Contains-there, Contains-cases}
 use Rattle.aeth_slots.proofs.Sublists.{above_head}
 use Rattle.aeth_slots.proofs.Ascending.{Ascends-bounds}
 

@@ -1,7 +1,13 @@
--- Laws of lists of any element: `Contains` at a head and a rest, under `map` and under `filter`.
-use Rattle.std.proofs.Common.{◌≡◌, ◌<◌, ◌⊎◌, ◌∙◌, zero, suc, Bool, true, false, cond, List, [], ◌∷◌}
-use Rattle.std.proofs.Common.{length, map, filter, Contains, refl, sym, ap, inl, inr, arith}
-use Rattle.std.proofs.lemmas.Bool.{both_ways}
+-- What is in a list, as `Contains` has it: at a head and a rest, under `map`, `filter` and `flat_map`,
+-- and by a test.
+use Rattle.std.proofs.Common.{◌≡◌, ◌≢◌, ◌<◌, ◌⊎◌, ◌∙◌, ℕ, zero, suc, Bool, true, false, cond, eqb}
+use Rattle.std.proofs.Common.{List, [], ◌∷◌, length, map, filter, Contains, refl, sym, ap, inl, inr}
+use Rattle.std.proofs.Common.{arith}
+use Rattle.std.specs.List.{flat_map, list_any}
+use Rattle.std.proofs.lemmas.Bool.{both_ways, eq-eqb, eqb-true, or_cases, or_left, or_right}
+use Rattle.std.proofs.lemmas.List.Concat.{flat_map-cons}
+use Rattle.std.proofs.lemmas.List.Elements.{Contains-append_cases, Contains-append_left}
+use Rattle.std.proofs.lemmas.List.Elements.{Contains-append_right}
 
 -- Nothing is in an empty list.
 pub Contains-nil : {X P : Type 0} {x : X} → Contains [] x → P
@@ -81,3 +87,47 @@ filter-Contains {X} test (y ∷ ys) x has =
           (Contains-there y ys x found.0, found.1)
     ]
     in cases (test y) refl has
+
+-- An element of a list that isn't its first is one of the others.
+pub Contains-others : {X : Type 0} (x : X) (xs : List X) (y : X) → y ≢ x → Contains (x ∷ xs) y
+    → Contains xs y
+Contains-others x xs y other (zero, within, same) = absurd (other (sym same))
+Contains-others x xs y other (suc k, within, same) = (k, omega arith, same)
+
+-- What is in the list that comes from an element is in the lists from all.
+pub Contains-flat_map : {X Y : Type 0} (f : X → List Y) (xs : List X) (x : X) (y : Y)
+    → Contains xs x → Contains (f x) y → Contains (flat_map f xs) y
+Contains-flat_map f [] x y has inside = Contains-nil has
+Contains-flat_map f (first ∷ xs) x y has inside =
+    rw (flat_map-cons f first xs) (elim (Contains-cases first xs x has) [
+      | inl same ↦ Contains-append_left (f first) (flat_map f xs) y (rw same inside)
+      | inr later ↦ Contains-append_right (f first) (flat_map f xs) y
+          (Contains-flat_map f xs x y later inside)
+    ])
+
+-- What is in the lists from all elements is in the one from some element.
+pub flat_map-Contains : {X Y : Type 0} (f : X → List Y) (xs : List X) (y : Y)
+    → Contains (flat_map f xs) y → (x : X) × Contains xs x × Contains (f x) y
+flat_map-Contains f [] y has = Contains-nil has
+flat_map-Contains f (x ∷ xs) y has =
+    elim (Contains-append_cases (f x) (flat_map f xs) y (rw (flat_map-cons f x xs) at has)) [
+      | inl here ↦ (x, Contains-here x xs, here)
+      | inr later ↦ let found = flat_map-Contains f xs y later in
+          (found.0, Contains-there x xs found.0 found.1, found.2)
+    ]
+
+-- A number that a test finds in a list is in it.
+pub list_any-Contains : (xs : List ℕ) (s : ℕ) → list_any (λ t. eqb t s) xs ≡ true → Contains xs s
+list_any-Contains [] s test = cc
+list_any-Contains (x ∷ xs) s test = elim (or_cases (eqb x s) _ test) [
+  | inl here ↦ (0, omega arith, eqb-true x s here)
+  | inr later ↦ Contains-there x xs s (list_any-Contains xs s later)
+]
+
+-- A number that is in a list is found by the test.
+pub Contains-list_any : (xs : List ℕ) (s : ℕ) → Contains xs s → list_any (λ t. eqb t s) xs ≡ true
+Contains-list_any [] s has = Contains-nil has
+Contains-list_any (x ∷ xs) s has = elim (Contains-cases x xs s has) [
+  | inl same ↦ or_left (eqb x s) _ (eq-eqb x s same)
+  | inr later ↦ or_right (eqb x s) _ (Contains-list_any xs s later)
+]
