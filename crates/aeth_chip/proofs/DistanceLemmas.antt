@@ -11,7 +11,7 @@ use Rattle.aeth_base.specs.declared.ids.RouterId.{RouterId}
 use Rattle.aeth_chip.specs.declared.node.Link.{Link}
 use Rattle.aeth_chip.specs.declared.node.Node.{Node}
 use Rattle.aeth_chip.specs.declared.node.Node.TheVariants.{Router, Ni}
-use Rattle.aeth_chip.specs.Paths.{Joins, AreDistinct, IsRoute, IsOnward, IsLeast, IsDistance}
+use Rattle.aeth_chip.specs.Paths.{Joins, AreDistinct, IsPath, IsOnward, IsLeast, IsDistance}
 use Rattle.aeth_chip.specs.Paths.{IsOnwardDistance}
 use Rattle.aeth_chip.specs.Levels.{At, Within, Passes, Reaches, AreLevels, AreOrigins, HasPlace}
 use Rattle.aeth_chip.specs.Levels.{HasPlaces, IsOrigin, Leads, place_of}
@@ -117,7 +117,7 @@ module _ (links : List Link) (routers places : ℕ) (placed : HasPlaces links ro
   -- The entry of an interface.
   row_between : (a : NiId) → IsDistance links a b (entry_in (slice_get levels (routers + a.0)))
   row_between a =
-      row_least (IsRoute links a b) levels (routers + a.0)
+      row_least (IsPath links a b) levels (routers + a.0)
       (λ path has. walk_bound (Ni a) has.routers path has.joins (inr has.some))
       (λ k at.
       let within = slice_get_within levels (routers + a.0) (Some k) at in

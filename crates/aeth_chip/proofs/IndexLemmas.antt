@@ -1,20 +1,22 @@
 -- What is read in an index of a chip's links is what stands among the links.
-use Rattle.std.proofs.Common.{◌≡◌, ◌<◌, ◌≤◌, ◌∙◌, ℕ, false, List, [], length}
-use Rattle.std.proofs.Common.{slice_get, take, refl, sym, ap, inl, inr}
+use Rattle.std.proofs.Common.{◌≡◌, ◌<◌, ◌≤◌, ℕ, false, List, [], length}
+use Rattle.std.proofs.Common.{map, take, refl, sym, inl, inr}
 use Rattle.std.proofs.Common.{arith, get_or}
-use Rattle.std.specs.Prelude.{count_by, option_and_then, option_map}
+use Rattle.std.specs.Prelude.{count_by}
 use Rattle.std.specs.declared.vec.Vec.{Vec}
 use Rattle.std.specs.declared.alloc.Global.{Global}
 use Rattle.std.proofs.lemmas.Bool.{ne_eqb}
-use Rattle.std.proofs.lemmas.Option.{get_or_from_slice_get, slice_get_cases, slice_get-map}
+use Rattle.std.proofs.lemmas.Option.{get_or_from_slice_get, slice_get_cases}
 use Rattle.aeth_base.specs.declared.ids.LinkId.{LinkId}
 use Rattle.aeth_base.specs.declared.ids.RouterId.{RouterId}
+use Rattle.aeth_chip.specs.declared.node.End.{End}
+use Rattle.aeth_chip.specs.declared.node.End.TheVariants.{From, To}
 use Rattle.aeth_chip.specs.declared.node.Link.{Link}
 use Rattle.aeth_chip.specs.declared.node.Node.{Node}
 use Rattle.aeth_chip.specs.declared.node.Node.TheVariants.{Router, Ni}
 use Rattle.aeth_chip.specs.Chip.{ChipData, IsChip, IsNode}
-use Rattle.aeth_chip.specs.Index.{IsExits, IsPort, IsTable}
-use Rattle.aeth_chip.specs.Nodes.{begins_at, same_node, sends_on}
+use Rattle.aeth_chip.specs.Index.{AreLinksAt, IsPort, IsTable, list_at}
+use Rattle.aeth_chip.specs.Nodes.{begins_at, has_end, numbers_from, same_node}
 use Rattle.aeth_chip.proofs.NodeLemmas.{numbers_from-none}
 
 -- What was counted before a link is its port.
@@ -31,27 +33,26 @@ past_last routers nis (Router q) r is past =
     ne_eqb q.0 r (λ same. let low : q.0 < length routers = is in omega arith)
 past_last routers nis (Ni n) r is past = refl
 
--- A router past the last sends on no link.
-sends_on-past_last : (chip : ChipData) → IsChip chip → (r : ℕ) → length chip.routers ≤ r
-    → sends_on (Router (record { 0 = r })) chip.links ≡ []
-sends_on-past_last chip is_chip r past =
-    numbers_from-none (begins_at (Router (record { 0 = r }))) 0 chip.links
+-- No link has a router past the last at an end.
+nothing_past_last : (chip : ChipData) (end : End) → IsChip chip → (r : ℕ)
+    → length chip.routers ≤ r
+    → numbers_from 0 (has_end end (Router (record { 0 = r }))) chip.links ≡ []
+nothing_past_last chip From is_chip r past =
+    numbers_from-none (has_end From (Router (record { 0 = r }))) 0 chip.links
     (λ l link at. past_last chip.routers chip.nis link.from r (is_chip.links l link at).from past)
+nothing_past_last chip To is_chip r past =
+    numbers_from-none (has_end To (Router (record { 0 = r }))) 0 chip.links
+    (λ l link at. past_last chip.routers chip.nis link.to r (is_chip.links l link at).to past)
 
--- The link behind a router's port is found, where there is one.
-pub exit_at : (chip : ChipData) (exits : List (Vec LinkId Global)) → IsChip chip
-    → IsTable (IsExits chip.links) (length chip.routers) exits → (router : RouterId) (port : ℕ)
-    → option_map (λ (link : LinkId). link.0)
-    (option_and_then (λ (its : Vec LinkId Global). slice_get its.items port)
-    (slice_get exits router.0))
-    ≡ slice_get (sends_on (Router router) chip.links) port
-exit_at chip exits is_chip table router port =
-    elim ((slice_get_cases exits router.0).1) [
-      | inl (its, within, at, same) ↦
-          rw at (sym (slice_get-map (λ (link : LinkId). link.0) its.items port)
-          ∙ ap (λ numbers. slice_get numbers port) (table.each router.0 its at))
+-- The list of a router has its links, and that of a router past the last none.
+pub links_listed : (chip : ChipData) (end : End) (lists : List (Vec LinkId Global)) → IsChip chip
+    → IsTable (AreLinksAt end chip.links) (length chip.routers) lists → (router : RouterId)
+    → map (λ (link : LinkId). link.0) (list_at lists router.0)
+    ≡ numbers_from 0 (has_end end (Router router)) chip.links
+links_listed chip end lists is_chip table router =
+    elim ((slice_get_cases lists router.0).1) [
+      | inl (its, within, at, same) ↦ rw at (table.each router.0 its at)
       | inr (past, none) ↦
           let size = table.size in
-          let nothing = sends_on-past_last chip is_chip router.0 (omega arith) in
-          rw (none, nothing) refl
+          rw none (sym (nothing_past_last chip end is_chip router.0 (omega arith)))
     ]

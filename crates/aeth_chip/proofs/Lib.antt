@@ -1,4 +1,3 @@
-mod Fronts
 mod Pushes
 mod RangeLemmas
 mod PortLemmas
@@ -6,6 +5,7 @@ mod LinkLemmas
 pub mod NodeLemmas
 mod IndexLemmas
 pub mod OffsetLemmas
+pub mod WireLemmas
 pub mod PathLemmas
 mod SpreadLemmas
 mod LevelLemmas

@@ -1,22 +1,26 @@
--- The links of a file: as many as its tables, and each of them a link of the chip.
-use Rattle.std.proofs.Common.{subst, ◌≡◌, ◌≤◌, ◌+◌, ◌∙◌, ℕ, zero, suc, false, List, [], ◌∷◌}
-use Rattle.std.proofs.Common.{length, map, Option, Some, None, refl, sym, ap, inl, inr, arith}
+-- The chip that a file tells, where its rules are kept.
+use Rattle.std.proofs.Common.{subst, ◌≡◌, ◌≤◌, ℕ, zero, suc, false, List, [], ◌∷◌}
+use Rattle.std.proofs.Common.{length, map, Option, Some, None, refl, inl, inr}
+use Rattle.std.specs.List.{AllByRecursion}
 use Rattle.std.specs.Prelude.{codes, slice_get, is_none, Ok}
 use Rattle.std.proofs.lemmas.Bool.{cases_Bool}
 use Rattle.std.proofs.lemmas.List.{length-map}
 use Rattle.std.proofs.lemmas.Option.{same_Some}
 use Rattle.toml.specs.Data.{Members}
-use Rattle.aeth_chip.specs.declared.fault.ChipFault.TheVariants.{UnknownName}
 use Rattle.aeth_chip.specs.declared.node.Link.{Link}
 use Rattle.aeth_chip.specs.declared.node.Node.{Node}
 use Rattle.aeth_chip.specs.declared.node.Node.TheVariants.{Router, Ni}
 use Rattle.aeth_chip.specs.Chip.{ChipData, IsChip, IsLinkOf, IsNode}
-use Rattle.aeth_chip.specs.ChipFile.{known, known_links, link_of, node_at, node_of, not_single}
-use Rattle.aeth_chip.specs.ChipFile.{too_many_ports, unknown_end}
+use Rattle.aeth_chip.specs.ChipFile.{ends_are_known, is_in_range, keys_fit, names_differ}
+use Rattle.aeth_chip.specs.ChipFile.{nis_are_single, ports_are_few, unknown_end}
+use Rattle.aeth_chip.specs.Limits.{max_links}
+use Rattle.aeth_chip.specs.Told.{known, link_of, link_tables, nis_of, node_at, node_of, routers_of}
+use Rattle.aeth_chip.specs.Told.{HasDelay, told_chip, told_links}
 use Rattle.aeth_chip.proofs.PortLemmas.{each_has_few_ports, each_is_single}
+use Rattle.aeth_chip.proofs.RangeLemmas.{delays_are, in_range, names_apart, names_are}
 use Rattle.aeth_document.specs.Values.{text_at}
-use Rattle.aeth_document.specs.Walks.{first_broken, place_of}
-use Rattle.aeth_document.proofs.ChainLemmas.{refused-kept}
+use Rattle.aeth_document.specs.Walks.{first_broken, next_place, place_of}
+use Rattle.aeth_document.proofs.ChainLemmas.{judged-none}
 use Rattle.aeth_document.proofs.WalkLemmas.{first_broken-head, first_broken-tail}
 use Rattle.aeth_document.proofs.WalkLemmas.{place_of-within}
 
@@ -61,72 +65,68 @@ ends_known routers nis table none =
       | inr named ↦ named
     ]
 
--- The link of a table that shows no unknown end is a link of the chip.
+-- The link of a table that shows no unknown end, with a delay in its range, is one of the chip.
 is_link : (chip : ChipData) (table : Members) → unknown_end chip.routers chip.nis table ≡ None
-    → IsLinkOf chip (link_of chip.routers chip.nis table)
-is_link chip table none = record {
+    → HasDelay table → IsLinkOf chip (link_of chip.routers chip.nis table)
+is_link chip table none delay = record {
   from = known-IsNode chip.routers chip.nis (text_at (codes "from") table) _ refl
       (begins_known chip.routers chip.nis table none);
   to = known-IsNode chip.routers chip.nis (text_at (codes "to") table) _ refl
       (ends_known chip.routers chip.nis table none);
-  takes_time = omega arith;
-  within = omega arith;
+  takes_time = delay.0;
+  within = delay.1;
 }
 
 -- So is each link of tables none of which shows an unknown end.
 each_is_link : (chip : ChipData) (place : ℕ) (tables : List Members)
     → first_broken place (map (unknown_end chip.routers chip.nis) tables) ≡ None
-    → (l : ℕ) (link : Link)
+    → AllByRecursion HasDelay tables → (l : ℕ) (link : Link)
     → slice_get (map (link_of chip.routers chip.nis) tables) l ≡ Some link → IsLinkOf chip link
-each_is_link chip place [] none l link at = absurd (cc at)
-each_is_link chip place (table ∷ tables) none zero link at =
+each_is_link chip place [] none delays l link at = absurd (cc at)
+each_is_link chip place (table ∷ tables) none delays zero link at =
     let here = first_broken-head place (unknown_end chip.routers chip.nis table)
     (map (unknown_end chip.routers chip.nis) tables) none in
     let same : link_of chip.routers chip.nis table ≡ link = same_Some _ _ at in
-    subst (λ (k : Link). IsLinkOf chip k) same (is_link chip table here)
-each_is_link chip place (table ∷ tables) none (suc l) link at =
+    subst (λ (k : Link). IsLinkOf chip k) same (is_link chip table here delays.0)
+each_is_link chip place (table ∷ tables) none delays (suc l) link at =
     let rest = first_broken-tail place (unknown_end chip.routers chip.nis table)
     (map (unknown_end chip.routers chip.nis) tables) none in
-    each_is_link chip (place + 1) tables rest l link at
+    each_is_link chip (next_place place) tables rest delays.1 l link at
 
--- Where the links of some tables are known, no end is unknown, and there is a link for each table.
-known_links-parts : (routers nis : List (List ℕ)) (place : ℕ) (tables : List Members)
-    (links : List Link) → known_links routers nis place tables ≡ Ok links
-    → (first_broken place (map (unknown_end routers nis) tables) ≡ None)
-    × (map (link_of routers nis) tables ≡ links)
-unfolding known_links
-known_links-parts routers nis place tables links known_are =
-    let made = map (link_of routers nis) tables in
-    let kept = refused-kept UnknownName (first_broken place (map (unknown_end routers nis) tables))
-    (Ok made) links known_are in
-    (kept.0, cc kept.1)
+-- There are as many links as tables, so few.
+pub few_links : (root : Members) → is_in_range root ≡ Ok tt
+    → length (told_links root) ≤ max_links
+few_links root kept =
+    rw (length-map (link_tables root) (link_of (routers_of root) (nis_of root)))
+    (in_range root kept).few_links
 
--- There are as many links as tables.
-pub length-known_links : (routers nis : List (List ℕ)) (tables : List Members) (links : List Link)
-    → known_links routers nis 0 tables ≡ Ok links → length links ≡ length tables
-length-known_links routers nis tables links known_are =
-    let parts = known_links-parts routers nis 0 tables links known_are in
-    ap length (sym parts.1) ∙ length-map tables (link_of routers nis)
+-- The rules of chip files.
+pub record KeepsRules (root : Members) : Type 0 where
+  pub keys : keys_fit root ≡ Ok tt
+  pub range : is_in_range root ≡ Ok tt
+  pub names : names_differ root ≡ Ok tt
+  pub ends : ends_are_known root ≡ Ok tt
+  pub ports : ports_are_few (length (routers_of root)) (told_links root) ≡ Ok tt
+  pub single : nis_are_single (nis_of root) (told_links root) ≡ Ok tt
 
--- What every rule keeps is a chip.
-pub is_chip : (chip : ChipData) (tables : List Members) → 1 ≤ chip.slots → chip.slots ≤ 64
-    → 1 ≤ length chip.routers → length chip.routers ≤ 64 → 1 ≤ length chip.nis
-    → length chip.nis ≤ 64 → length tables ≤ 1024
-    → known_links chip.routers chip.nis 0 tables ≡ Ok chip.links
-    → too_many_ports (length chip.routers) chip.links ≡ None
-    → not_single chip.nis chip.links ≡ None → IsChip chip
-is_chip chip tables some_slots slots some_routers routers some_nis nis few known_are ports single =
-    let parts = known_links-parts chip.routers chip.nis 0 tables chip.links known_are in
-    let size = length-known_links chip.routers chip.nis tables chip.links known_are in
+-- What keeps every rule tells a chip.
+pub told_is_chip : (root : Members) → KeepsRules root → IsChip (told_chip root)
+unfolding ends_are_known
+told_is_chip root keeps =
+    let range = in_range root keeps.range in
+    let known_ends = judged-none 5 (codes "UnknownName") _ tt keeps.ends in
     record {
-      some_slots = some_slots;
-      slots = slots;
-      some_routers = some_routers;
-      routers = routers;
-      some_nis = some_nis;
-      nis = nis;
-      few_links = omega arith;
-      links = λ l link at. each_is_link chip 0 tables parts.0 l link (rw (parts.1) at);
-      ports = each_has_few_ports (length chip.routers) chip.links ports;
-      single = each_is_single chip.nis chip.links single;
+      some_slots = range.some_slots;
+      slots = range.few_slots;
+      some_routers = range.some_routers;
+      routers = range.few_routers;
+      some_nis = range.some_nis;
+      nis = range.few_nis;
+      named = names_are root keeps.range;
+      apart = names_apart root keeps.names;
+      few_links = few_links root keeps.range;
+      links = λ l link at. each_is_link (told_chip root) 0 (link_tables root) known_ends
+          (delays_are root keeps.keys keeps.range) l link at;
+      ports = each_has_few_ports (length (routers_of root)) (told_links root) keeps.ports;
+      single = each_is_single (nis_of root) (told_links root) keeps.single;
     }

@@ -1,9 +1,9 @@
 -- Laws of nodes and of the numbers of links.
-use Rattle.std.proofs.Common.{◌≡◌, ◌<◌, ◌+◌, ◌∙◌, ◌++◌, ℕ, zero, suc, true, false, List, [], ◌∷◌}
+use Rattle.std.proofs.Common.{◌≡◌, ◌<◌, ◌≤◌, ◌+◌, ◌-◌, ◌∙◌, ◌++◌, ℕ, zero, suc, true, false, List, [], ◌∷◌}
 use Rattle.std.proofs.Common.{Bool, Some, None, length, map, take, drop, append_assoc, refl}
 use Rattle.std.proofs.Common.{ap, inl, inr, arith}
 use Rattle.std.specs.Prelude.{count_by, slice_get, IsSome, IfSome}
-use Rattle.std.proofs.lemmas.Bool.{cases_Bool, eq-eqb}
+use Rattle.std.proofs.lemmas.Bool.{cases_Bool, eq-eqb, eqb-true}
 use Rattle.std.proofs.lemmas.List.{drop_more, map-append}
 use Rattle.std.proofs.lemmas.Option.{get_or_from_slice_get, same_Some, slice_get_within}
 use Rattle.aeth_base.proofs.Lists.{count_by-before, count_by-no, count_by-yes}
@@ -14,7 +14,8 @@ use Rattle.aeth_chip.specs.declared.node.Node.{Node}
 use Rattle.aeth_chip.specs.declared.node.Node.TheVariants.{Router, Ni}
 use Rattle.aeth_chip.specs.Chip.{ChipData, IsChip}
 use Rattle.aeth_chip.specs.Index.{IsPort}
-use Rattle.aeth_chip.specs.Nodes.{begins_at, numbers_from, router_of, same_node, sender_of}
+use Rattle.aeth_chip.specs.Limits.{max_ports}
+use Rattle.aeth_chip.specs.Nodes.{begins_at, ends_at, numbers_from, receives_on, router_of, same_node, sender_of}
 use Rattle.aeth_chip.specs.Nodes.{sends_on}
 
 -- A node is the same as itself.
@@ -39,6 +40,75 @@ numbers_from-at test number (first ∷ links) (suc i) link at passes =
       | inl here ↦ rw (count_by-yes test first (take i links) here, here, more) rest
       | inr other ↦ rw (count_by-no test first (take i links) other, other, more) rest
     ]
+
+-- What stands in the list of numbers is a link that passes the test.
+pub record IsFound (test : Link → Bool) (links : List Link) (i : ℕ) : Type 0 where
+  pub link : Link
+  pub at : slice_get links i ≡ Some link
+  pub passes : test link ≡ true
+
+found_behind : (test : Link → Bool) (first : Link) (links : List Link) (number found : ℕ)
+    → (number + 1 ≤ found) × IsFound test links (found - (number + 1))
+    → (number ≤ found) × IsFound test (first ∷ links) (found - number)
+found_behind test first links number found (after, is_found) =
+    let more : found - number ≡ suc (found - (number + 1)) = omega arith in (
+      omega arith,
+      record { link = is_found.link; at = rw more (is_found.at); passes = is_found.passes },
+    )
+
+found_first : (test : Link → Bool) (number : ℕ) (first : Link) (links : List Link) (numbers : List ℕ)
+    (place found : ℕ) → test first ≡ true
+    → ((p f : ℕ) → slice_get numbers p ≡ Some f
+    → (number + 1 ≤ f) × IsFound test links (f - (number + 1)))
+    → slice_get (number ∷ numbers) place ≡ Some found
+    → (number ≤ found) × IsFound test (first ∷ links) (found - number)
+found_first test number first links numbers zero found here later at =
+    let same : number ≡ found = same_Some number found at in
+    let start : found - number ≡ 0 = omega arith in
+    (omega arith, record { link = first; at = rw start refl; passes = here })
+found_first test number first links numbers (suc place) found here later at =
+    found_behind test first links number found (later place found at)
+
+pub numbers_from-found : (test : Link → Bool) (number : ℕ) (links : List Link) (place found : ℕ)
+    → slice_get (numbers_from number test links) place ≡ Some found
+    → (number ≤ found) × IsFound test links (found - number)
+numbers_from-found test number [] place found at = absurd (cc at)
+numbers_from-found test number (first ∷ links) place found at =
+    let later = numbers_from-found test (number + 1) links in
+    elim (cases_Bool (test first)) [
+      | inl here ↦ found_first test number first links (numbers_from (number + 1) test links) place
+          found here later (rw here at at)
+      | inr other ↦ found_behind test first links number found
+          (later place found (rw other at at))
+    ]
+
+-- A router sends on each link that stands in its list.
+pub sends_on-found : (links : List Link) (node : Node) (place link : ℕ)
+    → slice_get (sends_on node links) place ≡ Some link → IsFound (begins_at node) links link
+sends_on-found links node place link at =
+    let same : link - 0 ≡ link = omega arith in
+    rw same at ((numbers_from-found (begins_at node) 0 links place link at).1)
+
+-- A node receives on each link that stands in its list.
+pub receives_on-found : (links : List Link) (node : Node) (place link : ℕ)
+    → slice_get (receives_on node links) place ≡ Some link → IsFound (ends_at node) links link
+receives_on-found links node place link at =
+    let same : link - 0 ≡ link = omega arith in
+    rw same at ((numbers_from-found (ends_at node) 0 links place link at).1)
+
+-- The router that sends on a link of its list.
+sender_is : (from : Node) (router : RouterId) → same_node from (Router router) ≡ true
+    → router_of from ≡ Some router
+sender_is (Router r) router same =
+    ap (λ n. Some (record { 0 = n })) (eqb-true r.0 router.0 same)
+sender_is (Ni n) router same = absurd (cc same)
+
+pub sender_of-found : (links : List Link) (router : RouterId) (place link : ℕ)
+    → slice_get (sends_on (Router router) links) place ≡ Some link
+    → sender_of links link ≡ Some router
+sender_of-found links router place link at =
+    let found = sends_on-found links (Router router) place link at in
+    rw found.at (sender_is found.link.from router found.passes)
 
 -- There are as many numbers as links that pass.
 pub length-numbers_from : (test : Link → Bool) (number : ℕ) (links : List Link)
@@ -92,7 +162,7 @@ no_sender some = absurd (cc some)
 port_from : (chip : ChipData) (l : ℕ) (link : Link) (port : ℕ) (from : Node) → IsChip chip
     → slice_get chip.links l ≡ Some link → link.from ≡ from → IsSome (router_of from)
     → port ≡ count_by (begins_at from) (take l chip.links)
-    → (port < 8) × IfSome (router_of from) (λ router.
+    → (port < max_ports) × IfSome (router_of from) (λ router.
     slice_get (sends_on (Router router) chip.links) port ≡ Some l)
 port_from chip l link port (Ni n) is_chip at begins some counts = absurd (no_sender some)
 port_from chip l link port (Router r) is_chip at begins some counts =
@@ -117,7 +187,7 @@ sender_link (link ∷ links) (suc l) some = sender_link links l some
 -- The port of a link on which a router sends.
 pub port_at : (chip : ChipData) (l port : ℕ) → IsChip chip → IsSome (sender_of chip.links l)
     → IsPort chip.links l port
-    → (port < 8) × IfSome (sender_of chip.links l) (λ router.
+    → (port < max_ports) × IfSome (sender_of chip.links l) (λ router.
     slice_get (sends_on (Router router) chip.links) port ≡ Some l)
 port_at chip l port is_chip some is_port =
     let (link, at) = sender_link chip.links l some in

@@ -5,7 +5,7 @@ use Rattle.aeth_base.specs.declared.ids.RouterId.{RouterId}
 use Rattle.aeth_chip.specs.declared.node.Link.{Link}
 use Rattle.aeth_chip.specs.declared.node.Node.{Node}
 use Rattle.aeth_chip.specs.declared.node.Node.TheVariants.{Router}
-use Rattle.aeth_chip.specs.Paths.{Goes, Joins, AreDistinct}
+use Rattle.aeth_chip.specs.Paths.{IsLinkFrom, Joins, AreDistinct}
 
 -- A joined list of links from a router.
 pub record JoinsFrom (links : List Link) (r : RouterId) (b : Node) (most : ℕ) : Type 0 where
@@ -43,7 +43,7 @@ IsShortest links r b path = (routers : List RouterId) (other : List LinkId)
 
 -- What follows the first link of a shortest list is a shortest list.
 pub shortest-rest : (links : List Link) (r s : RouterId) (b : Node) (l : LinkId)
-    (path : List LinkId) → Goes links l (Router r) (Router s) → IsShortest links r b (l ∷ path)
+    (path : List LinkId) → IsLinkFrom links l (Router r) (Router s) → IsShortest links r b (l ∷ path)
     → IsShortest links s b path
 shortest-rest links r s b l path goes shortest routers other joins =
     let longer : suc (length path) ≤ suc (length other) =

@@ -1,7 +1,7 @@
 -- The walks over routers and network interfaces.
 use Rattle.std.proofs.Common.{◌≡◌, ◌≤◌, ◌<◌, ◌+◌, ℕ, zero, suc, true, List, [], ◌∷◌, length}
 use Rattle.std.proofs.Common.{Option, Some, None, refl, sym, ap, inl, inr, arith}
-use Rattle.std.specs.Prelude.{slice_get, max, count_by, option_and_then, if◌then◌else◌}
+use Rattle.std.specs.Prelude.{codes, slice_get, max, count_by, option_and_then, Ok}
 use Rattle.std.proofs.lemmas.Bool.{cases_Bool, eqb-true}
 use Rattle.std.proofs.lemmas.Bool.Decides.{nat_tests}
 use Rattle.std.proofs.lemmas.Option.{same_Some}
@@ -12,12 +12,13 @@ use Rattle.aeth_chip.specs.declared.node.Link.{Link}
 use Rattle.aeth_chip.specs.declared.node.Node.{Node}
 use Rattle.aeth_chip.specs.declared.node.Node.TheVariants.{Router, Ni}
 use Rattle.aeth_chip.specs.Chip.{HasFewPorts, IsSingle}
-use Rattle.aeth_chip.specs.ChipFile.{crowded, is_single, loose, not_single, router_at, same_router}
-use Rattle.aeth_chip.specs.ChipFile.{too_many_ports}
+use Rattle.aeth_chip.specs.ChipFile.{crowded, is_single, nis_are_single, not_single, ports_are_few}
+use Rattle.aeth_chip.specs.ChipFile.{router_at, same_router, unjoined}
+use Rattle.aeth_chip.specs.Limits.{max_ports}
 use Rattle.aeth_chip.specs.Nodes.{begins_at, ends_at, receives_on, router_of, sends_on}
 use Rattle.aeth_base.specs.declared.shown.Shown.{Shown}
-use Rattle.aeth_base.specs.declared.shown.Shown.TheVariants.{Word}
-use Rattle.aeth_document.specs.Walks.{first_broken}
+use Rattle.aeth_document.specs.Walks.{first_broken, next_place}
+use Rattle.aeth_document.proofs.ChainLemmas.{judged-none}
 use Rattle.aeth_document.proofs.WalkLemmas.{first_broken-range, first_broken-tail}
 
 -- A router that isn't crowded has few ports.
@@ -27,32 +28,34 @@ few_ports links router none =
     let node : Node = Router (record { 0 = router }) in
     let sends = count_by (begins_at node) links in
     let receives = count_by (ends_at node) links in
-    let few : max sends receives ≤ 8 = grind (arith, nat_tests) in
+    let few : max sends receives ≤ max_ports = grind (arith, nat_tests) in
     record {
       sends = omega (arith, le-max_left sends receives);
       receives = omega (arith, le-max_right sends receives);
     }
 
 -- Where no router is crowded, each has few ports.
-pub each_has_few_ports : (routers : ℕ) (links : List Link) → too_many_ports routers links ≡ None
+pub each_has_few_ports : (routers : ℕ) (links : List Link) → ports_are_few routers links ≡ Ok tt
     → (router : RouterId) → router.0 < routers → HasFewPorts links router
-each_has_few_ports routers links none router within =
+unfolding ports_are_few
+each_has_few_ports routers links kept router within =
+    let none = judged-none 6 (codes "TooManyPorts") _ tt kept in
     let same : 0 + router.0 ≡ router.0 = omega arith in
     few_ports links router.0
     (rw same at (first_broken-range (crowded links) 0 0 routers router.0 none within))
 
 -- A network interface that shows no name is single.
 single_here : (links : List Link) (ni place : ℕ) (name : List ℕ) (names : List (List ℕ))
-    → first_broken place (loose links ni (name ∷ names)) ≡ None → is_single links ni ≡ true
+    → first_broken place (not_single links ni (name ∷ names)) ≡ None → is_single links ni ≡ true
 single_here links ni place name names none =
     elim (cases_Bool (is_single links ni)) [
       | inl single ↦ single
       | inr other ↦ absurd (cc (rw other at none))
     ]
 
--- Where no network interface is loose, each is single.
+-- Where each network interface passes, each is single.
 single_at : (links : List Link) (place ni i : ℕ) (names : List (List ℕ))
-    → first_broken place (loose links ni names) ≡ None → i < length names
+    → first_broken place (not_single links ni names) ≡ None → i < length names
     → is_single links (ni + i) ≡ true
 single_at links place ni i [] none within = absurd (omega arith)
 single_at links place ni zero (name ∷ names) none within =
@@ -60,9 +63,9 @@ single_at links place ni zero (name ∷ names) none within =
     rw same (single_here links ni place name names none)
 single_at links place ni (suc i) (name ∷ names) none within =
     let same : ni + suc i ≡ (ni + 1) + i = omega arith in
-    let first : Option Shown = if is_single links ni then None else Some (Word name) in
-    let rest = first_broken-tail place first (loose links (ni + 1) names) none in
-    rw same (single_at links (place + 1) (ni + 1) i names rest (omega arith))
+    let first : Option Shown = unjoined links ni name in
+    let rest = first_broken-tail place first (not_single links (ni + 1) names) none in
+    rw same (single_at links (next_place place) (ni + 1) i names rest (omega arith))
 
 -- The link of a list of one number, and the router at its end.
 record HasRouter (end : Link → Node) (links : List Link) (numbers : List ℕ)
@@ -135,10 +138,11 @@ is_single-parts links ni single =
       from = back.ends;
     }
 
--- Where no network interface is loose, each is joined to one router.
-pub each_is_single : (nis : List (List ℕ)) (links : List Link) → not_single nis links ≡ None
+-- Where the rule of network interfaces is kept, each is joined to one router.
+pub each_is_single : (nis : List (List ℕ)) (links : List Link) → nis_are_single nis links ≡ Ok tt
     → (ni : NiId) → ni.0 < length nis → IsSingle links ni
-unfolding not_single
-each_is_single nis links none ni within =
+unfolding nis_are_single
+each_is_single nis links kept ni within =
+    let none = judged-none 7 (codes "NiNotSingle") _ tt kept in
     let same : 0 + ni.0 ≡ ni.0 = omega arith in
     is_single-parts links ni.0 (rw same at (single_at links 0 0 ni.0 nis none within))

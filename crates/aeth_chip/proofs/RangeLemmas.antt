@@ -1,59 +1,174 @@
--- The walk over numbers and names, in parts.
-use Rattle.std.proofs.Common.{◌≡◌, ◌+◌, ◌++◌, ◌∙◌, ℕ, ℤ, List, [], length, map, None, sym, ap}
-use Rattle.std.specs.Option.{option_or}
-use Rattle.std.proofs.lemmas.List.{map-append, length-map}
-use Rattle.aeth_chip.specs.ChipFile.{IsInRange, name_twice, numbers, out_of_range, wrong_name}
-use Rattle.aeth_document.specs.Walks.{first_broken, no_name, repeats}
-use Rattle.aeth_document.proofs.WalkLemmas.{first_broken-append, first_broken-none}
-use Rattle.aeth_document.proofs.WalkLemmas.{first_broken-repeats, filter_map-name_of}
-use Rattle.aeth_document.proofs.WalkLemmas.{option_or-none, outside-size, outside-within}
+-- What holds of a chip file's numbers and names where its first rules are kept.
+use Rattle.std.proofs.Common.{◌≡◌, ◌≤◌, ◌++◌, ℕ, ℤ, pos, true, false, List, [], ◌∷◌, length}
+use Rattle.std.proofs.Common.{map, All, None, refl, inl, inr, arith}
+use Rattle.std.specs.Prelude.{codes, fold, Ok}
+use Rattle.std.specs.List.{AllByRecursion, IsDistinct, filter_map}
+use Rattle.std.specs.Str.{bytes_eq}
+use Rattle.std.proofs.lemmas.Bool.{cases_Bool}
+use Rattle.std.proofs.lemmas.List.{append-nil}
+use Rattle.std.proofs.lemmas.List.Elements.{All-append, All-from_recursion}
+use Rattle.toml.specs.Data.{Members}
+use Rattle.indexmap.specs.IndexSet.{insert_key}
+use Rattle.aeth_base.specs.Limits.{max_link_delay, max_slots}
+use Rattle.aeth_base.specs.Name.{is_name, name_of}
+use Rattle.aeth_chip.specs.ChipFile.{delays, end_fields, is_in_range, keys_fit, link_fields}
+use Rattle.aeth_chip.specs.ChipFile.{most_slots, names_differ, numbers, root_fields, wrong_keys}
+use Rattle.aeth_chip.specs.Limits.{max_links, max_nis, max_routers}
+use Rattle.aeth_chip.specs.Told.{allows_delays, delay_at, link_tables, nis_of, routers_of, slots_of}
+use Rattle.aeth_chip.specs.Told.{HasDelay, version_of}
+use Rattle.aeth_document.specs.Keys.{wrong_key}
+use Rattle.aeth_document.specs.Values.{integer_if}
+use Rattle.aeth_document.specs.Walks.{first_broken, next_place, no_name, outside, repeats, size_of}
+use Rattle.aeth_document.proofs.ChainLemmas.{judged-none}
+use Rattle.aeth_document.proofs.KeyLemmas.{absent}
+use Rattle.aeth_document.proofs.WalkLemmas.{distinct-from_walk, distinct_set, filter_map-name_of}
+use Rattle.aeth_document.proofs.WalkLemmas.{fewer_repeats, repeats-append}
+use Rattle.aeth_document.proofs.WalkLemmas.{first_broken-after, first_broken-before}
+use Rattle.aeth_document.proofs.WalkLemmas.{first_broken-none, first_broken-tail, names-from_walk}
+use Rattle.aeth_document.proofs.WalkLemmas.{outside-size, outside-within}
 
--- First the numbers, then the routers' names, then the interfaces'.
-pub out_of_range_split : (version slots : ℤ) (routers nis : List (List ℕ)) (links : ℕ)
-    → out_of_range version slots routers nis links
-    ≡ option_or (first_broken 1 (numbers version slots (length routers) (length nis) links))
-    (wrong_name routers nis)
-unfolding out_of_range numbers wrong_name
-out_of_range_split version slots routers nis links =
-    let front = numbers version slots (length routers) (length nis) links in
-    let names : map no_name (routers ++ nis) ≡ map no_name routers ++ map no_name nis =
-    map-append no_name routers nis in
-    let size : length (map no_name routers) ≡ length routers = length-map routers no_name in
-    first_broken-append 1 front (map no_name (routers ++ nis))
-    ∙ ap (option_or (first_broken 1 front)) (ap (first_broken 6) names
-    ∙ first_broken-append 6 (map no_name routers) (map no_name nis)
-    ∙ ap (λ n. option_or (first_broken 6 (map no_name routers))
-    (first_broken (6 + n) (map no_name nis))) size)
+-- No version has more slots than slot tables may have.
+most_slots-within : (version : ℤ) → most_slots version ≤ max_slots
+most_slots-within version =
+    elim (cases_Bool (allows_delays version)) [
+      | inl allowed ↦ rw allowed (omega arith)
+      | inr not_allowed ↦ rw not_allowed (omega arith)
+    ]
 
--- First the routers, then the interfaces, with the routers before them.
-pub name_twice_split : (routers nis : List (List ℕ)) → name_twice routers nis
-    ≡ option_or (first_broken 0 (repeats [] routers))
-    (first_broken (0 + length routers) (repeats routers nis))
-unfolding name_twice
-name_twice_split routers nis = first_broken-repeats 0 [] routers nis
+-- What holds where every number and every name is in its range.
+pub record IsInRange (root : Members) : Type 0 where
+  pub some_slots : 1 ≤ size_of (slots_of root)
+  pub few_slots : size_of (slots_of root) ≤ max_slots
+  pub some_routers : 1 ≤ length (routers_of root)
+  pub few_routers : length (routers_of root) ≤ max_routers
+  pub some_nis : 1 ≤ length (nis_of root)
+  pub few_nis : length (nis_of root) ≤ max_nis
+  pub few_links : length (link_tables root) ≤ max_links
+  pub routers : first_broken 1 (map no_name (routers_of root)) ≡ None
+  pub nis : first_broken 1 (map no_name (nis_of root)) ≡ None
+  pub delays : first_broken 1 (delays root) ≡ None
 
--- What holds where the walk finds nothing.
-pub in_range : (version slots : ℤ) (routers nis : List (List ℕ)) (links : ℕ)
-    → out_of_range version slots routers nis links ≡ None → IsInRange slots routers nis links
-unfolding numbers wrong_name
-in_range version slots routers nis links none =
-    let parts = option_or-none _ _ (sym (out_of_range_split version slots routers nis links)
-    ∙ none) in
-    let names = option_or-none _ _ parts.1 in
-    let checks = first_broken-none 1 (numbers version slots (length routers) (length nis) links)
-    parts.0 in
-    let slots_are = outside-size 1 64 slots checks.1.0 in
-    let routers_are = outside-within 1 64 (length routers) checks.1.1.0 in
-    let nis_are = outside-within 1 64 (length nis) checks.1.1.1.0 in
-    let links_are = outside-within 0 1024 links checks.1.1.1.1.0 in
+pub in_range : (root : Members) → is_in_range root ≡ Ok tt → IsInRange root
+unfolding is_in_range numbers
+in_range root kept =
+    let ns = numbers root in
+    let rs = map no_name (routers_of root) in
+    let is = map no_name (nis_of root) in
+    let ds = delays root in
+    let none = judged-none 3 (codes "OutOfRange") (first_broken 1 (ns ++ rs ++ is ++ ds)) tt kept in
+    let names = first_broken-before 1 (ns ++ rs ++ is) ds none in
+    let front = first_broken-before 1 (ns ++ rs) is names in
+    let checks = first_broken-none 1 ns (first_broken-before 1 ns rs front) in
+    let most = most_slots (version_of root) in
+    let slots = outside-size 1 most (slots_of root) checks.1.0 in
+    let few = most_slots-within (version_of root) in
+    let few_slots = slots.1 in
+    let routers = outside-within 1 max_routers (length (routers_of root)) checks.1.1.0 in
+    let nis = outside-within 1 max_nis (length (nis_of root)) checks.1.1.1.0 in
+    let links = outside-within 0 max_links (length (link_tables root)) checks.1.1.1.1.0 in
     record {
-      some_slots = slots_are.0;
-      few_slots = slots_are.1;
-      some_routers = routers_are.0;
-      few_routers = routers_are.1;
-      some_nis = nis_are.0;
-      few_nis = nis_are.1;
-      few_links = links_are.1;
-      router_names = filter_map-name_of 6 routers names.0;
-      ni_names = filter_map-name_of (6 + length routers) nis names.1;
+      some_slots = slots.0;
+      few_slots = omega arith;
+      some_routers = routers.0;
+      few_routers = routers.1;
+      some_nis = nis.0;
+      few_nis = nis.1;
+      few_links = links.1;
+      routers = first_broken-after 1 1 ns rs front;
+      nis = first_broken-after 1 1 (ns ++ rs) is names;
+      delays = first_broken-after 1 1 (ns ++ rs ++ is) ds none;
     }
+
+-- The set of the names is the list of the texts, where the rules of numbers and of names are kept.
+pub routers_set : (root : Members) → is_in_range root ≡ Ok tt → names_differ root ≡ Ok tt
+    → fold (insert_key bytes_eq) [] (filter_map name_of (routers_of root)) ≡ routers_of root
+unfolding names_differ
+routers_set root kept differ =
+    let none = judged-none 4 (codes "NameTwice") _ tt differ in
+    let apart = first_broken-before 0 (repeats [] (routers_of root))
+    (repeats ([] ++ routers_of root) (nis_of root))
+    (rw (repeats-append [] (routers_of root) (nis_of root)) at none) in
+    rw (filter_map-name_of 1 (routers_of root) (in_range root kept).routers)
+    (distinct_set 0 [] (routers_of root) apart)
+
+pub nis_set : (root : Members) → is_in_range root ≡ Ok tt → names_differ root ≡ Ok tt
+    → fold (insert_key bytes_eq) [] (filter_map name_of (nis_of root)) ≡ nis_of root
+unfolding names_differ
+nis_set root kept differ =
+    let none = judged-none 4 (codes "NameTwice") _ tt differ in
+    let behind = first_broken-after 0 0 (repeats [] (routers_of root))
+    (repeats ([] ++ routers_of root) (nis_of root))
+    (rw (repeats-append [] (routers_of root) (nis_of root)) at none) in
+    rw (filter_map-name_of 1 (nis_of root) (in_range root kept).nis)
+    (distinct_set 0 [] (nis_of root) (fewer_repeats 0 (routers_of root) [] (nis_of root)
+    (rw (append-nil (routers_of root)) behind)))
+
+-- The names of routers and interfaces, where the rules of numbers and of names are kept.
+pub names_are : (root : Members) → is_in_range root ≡ Ok tt
+    → All (λ name. is_name name ≡ true) (routers_of root ++ nis_of root)
+names_are root kept =
+    let range = in_range root kept in
+    All-append (λ name. is_name name ≡ true) (routers_of root) (nis_of root)
+    (All-from_recursion _ (routers_of root) (names-from_walk 1 (routers_of root) range.routers))
+    (All-from_recursion _ (nis_of root) (names-from_walk 1 (nis_of root) range.nis))
+
+pub names_apart : (root : Members) → names_differ root ≡ Ok tt
+    → IsDistinct bytes_eq (routers_of root ++ nis_of root)
+unfolding names_differ
+names_apart root kept =
+    distinct-from_walk 0 (routers_of root ++ nis_of root)
+    (judged-none 4 (codes "NameTwice") _ tt kept)
+
+delays_given : (place : ℕ) (links : List Members)
+    → first_broken place (map (λ link. outside 1 max_link_delay (delay_at link)) links) ≡ None
+    → AllByRecursion HasDelay links
+delays_given place [] none = tt
+delays_given place (link ∷ links) none =
+    let checks = first_broken-none place
+    (map (λ table. outside 1 max_link_delay (delay_at table)) (link ∷ links)) none in
+    let rest = first_broken-tail place (outside 1 max_link_delay (delay_at link))
+    (map (λ table. outside 1 max_link_delay (delay_at table)) links) none in
+    (outside-size 1 max_link_delay (delay_at link) checks.0, delays_given (next_place place) links rest)
+
+-- A link's table without the key has delay 1.
+delay_absent : (link : Members) → wrong_key end_fields link ≡ None → delay_at link ≡ pos 1
+unfolding integer_if
+delay_absent link none = rw (absent end_fields (codes "delay") (λ value. refl) link none) refl
+
+delays_absent : (place : ℕ) (links : List Members)
+    → first_broken place (map (wrong_key end_fields) links) ≡ None
+    → AllByRecursion (λ link. delay_at link ≡ pos 1) links
+delays_absent place [] none = tt
+delays_absent place (link ∷ links) none =
+    let checks = first_broken-none place (map (wrong_key end_fields) (link ∷ links)) none in
+    let rest = first_broken-tail place (wrong_key end_fields link) (map (wrong_key end_fields) links)
+    none in
+    (delay_absent link checks.0, delays_absent (next_place place) links rest)
+
+has_delay_1 : (links : List Members) → AllByRecursion (λ link. delay_at link ≡ pos 1) links
+    → AllByRecursion HasDelay links
+has_delay_1 [] all = tt
+has_delay_1 (link ∷ links) all = (rw (all.0) (omega arith, omega arith), has_delay_1 links all.1)
+
+-- In a version without delays each is 1.
+pub delays_are_1 : (root : Members) → keys_fit root ≡ Ok tt
+    → allows_delays (version_of root) ≡ false
+    → AllByRecursion (λ link. delay_at link ≡ pos 1) (link_tables root)
+unfolding keys_fit wrong_keys
+delays_are_1 root kept not_allowed =
+    let none = judged-none 2 (codes "WrongKey") _ tt kept in
+    let keys = first_broken-tail 0 (wrong_key root_fields root)
+    (map (wrong_key (link_fields (version_of root))) (link_tables root)) none in
+    delays_absent 1 (link_tables root) (rw not_allowed at keys)
+
+-- Where the rules of keys and of numbers are kept, every delay is in its range.
+pub delays_are : (root : Members) → keys_fit root ≡ Ok tt → is_in_range root ≡ Ok tt
+    → AllByRecursion HasDelay (link_tables root)
+unfolding delays
+delays_are root fit kept =
+    elim (cases_Bool (allows_delays (version_of root))) [
+      | inl allowed ↦
+          delays_given 1 (link_tables root) (rw allowed at (in_range root kept).delays)
+      | inr not_allowed ↦
+          has_delay_1 (link_tables root) (delays_are_1 root fit not_allowed)
+    ]

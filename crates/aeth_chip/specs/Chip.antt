@@ -1,15 +1,18 @@
 -- What a chip is seen as, and what holds of every chip.
 -- This project's own.
-use Rattle.std.specs.Prelude.{◌≡◌, ◌≤◌, ◌<◌, ℕ, ◌∷◌, [], List, length, slice_get, count_by, Some}
+use Rattle.std.specs.Prelude.{◌≡◌, ◌≤◌, ◌<◌, ℕ, ◌∷◌, ◌++◌, [], List, length, slice_get, count_by}
+use Rattle.std.specs.Prelude.{All, Some, true}
+use Rattle.std.specs.List.{IsDistinct}
+use Rattle.std.specs.Str.{bytes_eq}
+use Rattle.aeth_base.specs.Limits.{max_link_delay, max_slots}
+use Rattle.aeth_base.specs.Name.{is_name}
 use Rattle.aeth_base.specs.declared.ids.LinkId.{LinkId}
 use Rattle.aeth_base.specs.declared.ids.NiId.{NiId}
 use Rattle.aeth_base.specs.declared.ids.RouterId.{RouterId}
-use Rattle.aeth_chip.specs.declared.chip.TheConstants.{MAX_CHIP_LINKS, MAX_NIS, MAX_PORTS}
-use Rattle.aeth_chip.specs.declared.chip.TheConstants.{MAX_ROUTERS, MAX_SLOTS}
 use Rattle.aeth_chip.specs.declared.node.Link.{Link}
 use Rattle.aeth_chip.specs.declared.node.Node.{Node}
 use Rattle.aeth_chip.specs.declared.node.Node.TheVariants.{Router, Ni}
-use Rattle.aeth_chip.specs.declared.node.TheConstants.{MAX_DELAY}
+use Rattle.aeth_chip.specs.Limits.{max_links, max_nis, max_ports, max_routers}
 use Rattle.aeth_chip.specs.Nodes.{begins_at, ends_at, sends_on, receives_on}
 
 -- A chip: the size of its slot table, the names of its routers and of its network interfaces, and
@@ -30,12 +33,12 @@ pub record IsLinkOf (chip : ChipData) (link : Link) : Type 0 where
   pub from : IsNode chip.routers chip.nis link.from
   pub to : IsNode chip.routers chip.nis link.to
   pub takes_time : 1 ≤ link.delay
-  pub within : link.delay ≤ MAX_DELAY
+  pub within : link.delay ≤ max_link_delay
 
 -- A router has so few ports each way.
 pub record HasFewPorts (links : List Link) (router : RouterId) : Type 0 where
-  pub sends : count_by (begins_at (Router router)) links ≤ MAX_PORTS
-  pub receives : count_by (ends_at (Router router)) links ≤ MAX_PORTS
+  pub sends : count_by (begins_at (Router router)) links ≤ max_ports
+  pub receives : count_by (ends_at (Router router)) links ≤ max_ports
 
 -- A network interface has one link each way, and one router at the other end of both.
 pub record IsSingle (links : List Link) (ni : NiId) : Type 0 where
@@ -54,12 +57,14 @@ pub record IsSingle (links : List Link) (ni : NiId) : Type 0 where
 -- What holds of every chip.
 pub record IsChip (chip : ChipData) : Type 0 where
   pub some_slots : 1 ≤ chip.slots
-  pub slots : chip.slots ≤ MAX_SLOTS
+  pub slots : chip.slots ≤ max_slots
   pub some_routers : 1 ≤ length chip.routers
-  pub routers : length chip.routers ≤ MAX_ROUTERS
+  pub routers : length chip.routers ≤ max_routers
   pub some_nis : 1 ≤ length chip.nis
-  pub nis : length chip.nis ≤ MAX_NIS
-  pub few_links : length chip.links ≤ MAX_CHIP_LINKS
+  pub nis : length chip.nis ≤ max_nis
+  pub named : All (λ name. is_name name ≡ true) (chip.routers ++ chip.nis)
+  pub apart : IsDistinct bytes_eq (chip.routers ++ chip.nis)
+  pub few_links : length chip.links ≤ max_links
   pub links : (l : ℕ) (link : Link) → slice_get chip.links l ≡ Some link → IsLinkOf chip link
   pub ports : (router : RouterId) → router.0 < length chip.routers
       → HasFewPorts chip.links router

@@ -1,39 +1,50 @@
--- The chip of a file's bytes, or the first rule that the file breaks.
+-- The rules of chip files, in the order in which they are judged, and the chip of a file.
 --
---   wrong_keys_in, out_of_range, name_twice, known_links, too_many_ports, not_single
---       the walk of each rule
---   chip_in, chip_of    the chip of a TOML table, and of bytes
+-- A rule is a walk over checks. It is broken at the first check that shows a value: then its number,
+-- its name, the place of the check in the walk and the value are told.
+--   toml_of    rule 1
+--   keys_fit, is_in_range, names_differ, ends_are_known, ports_are_few, nis_are_single    rules 2 to 7
+--   chip_in, chip_of    the chip of a root table, and of a file's bytes
 -- This project's own.
-use Rattle.std.specs.Prelude.{◌≡◌, ◌≤◌, ℕ, ◌+◌, ℤ, pos, codes, Bool, false, List, [], ◌∷◌, ◌++◌}
-use Rattle.std.specs.Prelude.{map, length, max, nat_le, ◌==◌, count_by, slice_get, Option, Some}
-use Rattle.std.specs.Prelude.{None, option_and_then, is_none, Result, Ok, Err, unwrap_or}
-use Rattle.std.specs.Prelude.{if◌then◌else◌}
-use Rattle.std.specs.List.{filter_map, range_with_len}
-use Rattle.std.specs.Option.{option_or}
+use Rattle.std.specs.Prelude.{ℕ, ◌+◌, ℤ, pos, codes, Bool, false, List, [], ◌∷◌, ◌++◌, map, length}
+use Rattle.std.specs.Prelude.{max, nat_le, ◌==◌, count_by, slice_get, Option, Some, None}
+use Rattle.std.specs.Prelude.{option_and_then, is_none, Result, Ok, Err, if◌then◌else◌}
+use Rattle.std.specs.List.{range_with_len}
 use Rattle.toml.specs.Data.{Members}
-use Rattle.aeth_base.specs.Name.{name_of}
+use Rattle.aeth_base.specs.Faults.{BrokenRule}
+use Rattle.aeth_base.specs.Limits.{max_link_delay, max_slots}
+use Rattle.aeth_base.specs.Shown.{shown_text}
 use Rattle.aeth_base.specs.declared.ids.RouterId.{RouterId}
-use Rattle.aeth_chip.specs.declared.chip.TheConstants.{MAX_CHIP_LINKS, MAX_NIS, MAX_PORTS}
-use Rattle.aeth_chip.specs.declared.chip.TheConstants.{MAX_ROUTERS, MAX_SLOTS}
-use Rattle.aeth_chip.specs.declared.fault.ChipFault.{ChipFault}
-use Rattle.aeth_chip.specs.declared.fault.ChipFault.TheVariants.{BadToml, WrongKey, OutOfRange}
-use Rattle.aeth_chip.specs.declared.fault.ChipFault.TheVariants.{NameTwice, UnknownName}
-use Rattle.aeth_chip.specs.declared.fault.ChipFault.TheVariants.{TooManyPorts, NiNotSingle}
+use Rattle.aeth_base.specs.declared.shown.Shown.{Shown}
+use Rattle.aeth_base.specs.declared.shown.Shown.TheVariants.{Nothing, Number}
+use Rattle.aeth_chip.specs.Chip.{ChipData}
+use Rattle.aeth_chip.specs.Limits.{max_links, max_nis, max_ports, max_routers}
+use Rattle.aeth_chip.specs.Limits.{max_slots_of_version_1}
+use Rattle.aeth_chip.specs.Nodes.{begins_at, ends_at, sends_on, receives_on, router_of}
+use Rattle.aeth_chip.specs.Told.{allows_delays, delay_at, link_tables, nis_of, node_of, routers_of}
+use Rattle.aeth_chip.specs.Told.{slots_of, told_chip, version_of}
 use Rattle.aeth_chip.specs.declared.node.Link.{Link}
 use Rattle.aeth_chip.specs.declared.node.Node.{Node}
 use Rattle.aeth_chip.specs.declared.node.Node.TheVariants.{Router, Ni}
-use Rattle.aeth_chip.specs.Chip.{ChipData}
-use Rattle.aeth_chip.specs.Nodes.{begins_at, ends_at, sends_on, receives_on, router_of}
-use Rattle.aeth_document.specs.declared.keys.Kind.TheVariants as kind
-use Rattle.aeth_base.specs.declared.shown.Broken.{Broken}
-use Rattle.aeth_base.specs.declared.shown.Shown.{Shown}
-use Rattle.aeth_base.specs.declared.shown.Shown.TheVariants.{Number, Word}
-use Rattle.aeth_document.specs.Chain.{◌>>=◌, refused}
+use Rattle.aeth_document.specs.Chain.{◌>>=◌}
 use Rattle.aeth_document.specs.Document.{document_of}
 use Rattle.aeth_document.specs.Keys.{Fields, wrong_key}
-use Rattle.aeth_base.specs.Shown.{shown_text}
-use Rattle.aeth_document.specs.Values.{integer_at, tables_at, text_at, texts_at}
-use Rattle.aeth_document.specs.Walks.{first_broken, no_name, outside, place_of, repeats, size_of}
+use Rattle.aeth_document.specs.Values.{text_at}
+use Rattle.aeth_document.specs.Walks.{broken_as, first_broken, judged, no_name, outside, repeats}
+use Rattle.aeth_document.specs.declared.keys.Kind.TheVariants as kind
+
+-- ---- rule 1
+
+-- What bytes without a document are refused with.
+abbrev pub bad_toml : BrokenRule
+bad_toml = broken_as 1 (codes "BadToml") (record { place = 0; value = Nothing })
+
+-- Rule 1, BadToml: the bytes are UTF-8 and TOML. The place is 0, and there is no value.
+abbrev pub toml_of : Option Members → Result Members BrokenRule
+toml_of None = Err bad_toml
+toml_of (Some root) = Ok root
+
+-- ---- rule 2
 
 -- The root table's keys.
 abbrev pub root_fields : Fields
@@ -42,45 +53,61 @@ root_fields =
     ∷ (codes "slots", kind.Integer) ∷ (codes "version", kind.Integer) ∷ []
 
 -- A link table's keys.
-abbrev pub link_fields : Fields
-link_fields = (codes "from", kind.Text) ∷ (codes "to", kind.Text) ∷ []
+abbrev pub end_fields : Fields
+end_fields = (codes "from", kind.Text) ∷ (codes "to", kind.Text) ∷ []
 
--- Wrong keys: the root, then the link tables.
-abbrev pub wrong_keys_in : Members → List Members → Option Broken
-wrong_keys_in root links =
-    first_broken 0 (wrong_key root_fields root ∷ map (wrong_key link_fields) links)
+-- A link table's keys in a version: where it allows delays, a delay beside the ends.
+abbrev pub link_fields : ℤ → Fields
+link_fields version =
+    if allows_delays version then (codes "delay", kind.OptionalInteger) ∷ end_fields else end_fields
 
--- The version, the slots, and the numbers of routers, interfaces and links, where out of range.
-unfoldable pub numbers : ℤ → ℤ → ℕ → ℕ → ℕ → List (Option Shown)
-numbers version slots routers nis links =
-    outside 1 1 version ∷ outside 1 MAX_SLOTS slots ∷ outside 1 MAX_ROUTERS (pos routers)
-    ∷ outside 1 MAX_NIS (pos nis) ∷ outside 0 MAX_CHIP_LINKS (pos links) ∷ []
+-- The keys of the root, then those of each link.
+unfoldable pub wrong_keys : Members → List (Option Shown)
+wrong_keys root =
+    wrong_key root_fields root
+    ∷ map (wrong_key (link_fields (version_of root))) (link_tables root)
 
--- Ranges: these numbers, then the names of routers and of interfaces.
-unfoldable pub out_of_range : ℤ → ℤ → List (List ℕ) → List (List ℕ) → ℕ → Option Broken
-out_of_range version slots routers nis links =
-    first_broken 1 (numbers version slots (length routers) (length nis) links
-    ++ map no_name (routers ++ nis))
+-- Rule 2, WrongKey: each table has the keys that it should have, and values of their types. The root
+-- is place 0, and the links follow; the value is the least such key.
+unfoldable pub keys_fit : Members → Result (Unit {0}) BrokenRule
+keys_fit root = judged 2 (codes "WrongKey") (first_broken 0 (wrong_keys root))
 
--- The names after the numbers: the routers', then the interfaces'.
-unfoldable pub wrong_name : List (List ℕ) → List (List ℕ) → Option Broken
-wrong_name routers nis =
-    option_or (first_broken 6 (map no_name routers))
-    (first_broken (6 + length routers) (map no_name nis))
+-- ---- rule 3
 
--- Repeated names: the routers, then the interfaces.
-unfoldable pub name_twice : List (List ℕ) → List (List ℕ) → Option Broken
-name_twice routers nis = first_broken 0 (repeats [] (routers ++ nis))
+-- The greatest slot table of a version.
+abbrev pub most_slots : ℤ → ℕ
+most_slots version = if allows_delays version then max_slots else max_slots_of_version_1
 
--- The node at the place of a router, or else at that of a network interface.
-abbrev pub node_at : Option ℕ → Option ℕ → Option Node
-node_at (Some r) ni = Some (Router (record { 0 = r }))
-node_at None (Some n) = Some (Ni (record { 0 = n }))
-node_at None None = None
+-- The version, the slots, and the numbers of routers, interfaces and links.
+unfoldable pub numbers : Members → List (Option Shown)
+numbers root =
+    outside 1 2 (version_of root) ∷ outside 1 (most_slots (version_of root)) (slots_of root)
+    ∷ outside 1 max_routers (pos (length (routers_of root)))
+    ∷ outside 1 max_nis (pos (length (nis_of root)))
+    ∷ outside 0 max_links (pos (length (link_tables root))) ∷ []
 
--- The node that a text names.
-unfoldable pub node_of : List (List ℕ) → List (List ℕ) → List ℕ → Option Node
-node_of routers nis text = node_at (place_of routers text) (place_of nis text)
+-- The delays of the links, where the version allows them.
+unfoldable pub delays : Members → List (Option Shown)
+delays root =
+    if allows_delays (version_of root)
+    then map (λ link. outside 1 max_link_delay (delay_at link)) (link_tables root) else []
+
+-- Rule 3, OutOfRange: each number is in its range, and each text is a name. Places count from 1: the
+-- five numbers, the routers, the interfaces, then the delays; the value is the number, or an odd one
+-- for a text.
+unfoldable pub is_in_range : Members → Result (Unit {0}) BrokenRule
+is_in_range root = judged 3 (codes "OutOfRange") (first_broken 1
+    (numbers root ++ map no_name (routers_of root) ++ map no_name (nis_of root) ++ delays root))
+
+-- ---- rule 4
+
+-- Rule 4, NameTwice: no text stands twice in the list of the routers and then the interfaces. The
+-- place is that in this list, the value the name.
+unfoldable pub names_differ : Members → Result (Unit {0}) BrokenRule
+names_differ root =
+    judged 4 (codes "NameTwice") (first_broken 0 (repeats [] (routers_of root ++ nis_of root)))
+
+-- ---- rule 5
 
 -- The first end of a link that names no node.
 abbrev pub unknown_end : List (List ℕ) → List (List ℕ) → Members → Option Shown
@@ -91,53 +118,40 @@ unknown_end routers nis link =
     then Some (shown_text (text_at (codes "to") link))
     else None
 
--- A node that may be unknown; router 0 stands for an unknown one.
-abbrev pub known : Option Node → Node
-known node = unwrap_or node (Router (record { 0 = 0 }))
+-- Rule 5, UnknownName: each link begins and ends at a router or an interface of the file. The place
+-- is the link, the value the text.
+unfoldable pub ends_are_known : Members → Result (Unit {0}) BrokenRule
+ends_are_known root = judged 5 (codes "UnknownName") (first_broken 0
+    (map (unknown_end (routers_of root) (nis_of root)) (link_tables root)))
 
--- The link of a table. In a file of version 1 a link's delay is 1.
-abbrev pub link_of : List (List ℕ) → List (List ℕ) → Members → Link
-link_of routers nis link = record {
-  from = known (node_of routers nis (text_at (codes "from") link));
-  to = known (node_of routers nis (text_at (codes "to") link));
-  delay = 1;
-}
-
--- The link of the table at this place, where each end is known.
-abbrev pub known_link : List (List ℕ) → List (List ℕ) → ℕ → Members → Result Link ChipFault
-known_link routers nis place table =
-    refused UnknownName (first_broken place (unknown_end routers nis table ∷ []))
-    >>= (λ _. Ok (link_of routers nis table))
-
--- The links of the tables from this place on, where each end of each is known.
-unfoldable pub known_links : List (List ℕ) → List (List ℕ) → ℕ → List Members
-    → Result (List Link) ChipFault
-known_links routers nis place tables =
-    refused UnknownName (first_broken place (map (unknown_end routers nis) tables))
-    >>= (λ _. Ok (map (link_of routers nis) tables))
+-- ---- rule 6
 
 -- The greater of a router's two numbers of links, where it is too great.
 abbrev pub crowded : List Link → ℕ → Option Shown
 crowded links router =
     let node : Node = Router (record { 0 = router }) in
     let ports = max (count_by (begins_at node) links) (count_by (ends_at node) links) in
-    if nat_le ports MAX_PORTS then None else Some (Number ports)
+    if nat_le ports max_ports then None else Some (Number ports)
 
--- Too many ports: the routers.
-abbrev pub too_many_ports : ℕ → List Link → Option Broken
-too_many_ports routers links = first_broken 0 (map (crowded links) (range_with_len 0 routers))
+-- Rule 6, TooManyPorts: each router sends on at most 8 links, and receives on at most 8. The place
+-- is the router, the value the greater number.
+unfoldable pub ports_are_few : ℕ → List Link → Result (Unit {0}) BrokenRule
+ports_are_few routers links = judged 6 (codes "TooManyPorts")
+    (first_broken 0 (map (crowded links) (range_with_len 0 routers)))
 
--- The only number of a list.
-abbrev pub only : List ℕ → Option ℕ
-only [] = None
-only (number ∷ []) = Some number
-only (number ∷ next ∷ numbers) = None
+-- ---- rule 7
 
--- The router at an end of the only link of a list of numbers of links.
+-- The number of a list that has just one.
+abbrev pub lone : List ℕ → Option ℕ
+lone [] = None
+lone (number ∷ []) = Some number
+lone (number ∷ next ∷ numbers) = None
+
+-- The router at an end of the one link of a list of numbers of links.
 abbrev pub router_at : (Link → Node) → List Link → List ℕ → Option RouterId
 router_at end links numbers =
     option_and_then (λ link. router_of (end link))
-    (option_and_then (λ number. slice_get links number) (only numbers))
+    (option_and_then (λ number. slice_get links number) (lone numbers))
 
 -- Two routers are there and are one.
 abbrev pub same_router : Option RouterId → Option RouterId → Bool
@@ -152,59 +166,33 @@ is_single links ni =
     same_router (router_at (λ link. link.to) links (sends_on node links))
     (router_at (λ link. link.from) links (receives_on node links))
 
+-- The name of a network interface that isn't joined to one router.
+abbrev pub unjoined : List Link → ℕ → List ℕ → Option Shown
+unjoined links ni name = if is_single links ni then None else Some (shown_text name)
+
 -- For each network interface from this number on, its name where it isn't joined to one router.
-abbrev pub loose : List Link → ℕ → List (List ℕ) → List (Option Shown)
-loose links ni [] = []
-loose links ni (name ∷ names) =
-    (if is_single links ni then None else Some (Word name)) ∷ loose links (ni + 1) names
+abbrev pub not_single : List Link → ℕ → List (List ℕ) → List (Option Shown)
+not_single links ni [] = []
+not_single links ni (name ∷ names) = unjoined links ni name ∷ not_single links (ni + 1) names
 
--- Not single: the network interfaces.
-unfoldable pub not_single : List (List ℕ) → List Link → Option Broken
-not_single nis links = first_broken 0 (loose links 0 nis)
+-- Rule 7, NiNotSingle: each network interface sends on one link and receives on one, and one router
+-- is at the other end of both. The place is the interface, the value its name.
+unfoldable pub nis_are_single : List (List ℕ) → List Link → Result (Unit {0}) BrokenRule
+nis_are_single nis links = judged 7 (codes "NiNotSingle") (first_broken 0 (not_single links 0 nis))
 
--- The chip of these names and tables of links, or the first rule from unknown names on that they
--- break.
-unfoldable pub joined_chip : ℕ → List (List ℕ) → List (List ℕ) → List Members
-    → Result ChipData ChipFault
-joined_chip slots routers nis tables = do
-  links ← known_links routers nis 0 tables
-  ports ← refused TooManyPorts (too_many_ports (length routers) links)
-  single ← refused NiNotSingle (not_single nis links)
-  Ok (record { slots = slots; routers = routers; nis = nis; links = links })
-
--- The chip of a root table with these texts and tables of links, or the first rule that is broken.
-unfoldable pub judged_chip : Members → List (List ℕ) → List (List ℕ) → List Members
-    → Result ChipData ChipFault
-judged_chip root routers nis tables = do
-  keys ← refused WrongKey (wrong_keys_in root tables)
-  ranges ← refused OutOfRange (out_of_range (integer_at (codes "version") root)
-      (integer_at (codes "slots") root) routers nis (length tables))
-  names ← refused NameTwice (name_twice routers nis)
-  joined_chip (size_of (integer_at (codes "slots") root)) routers nis tables
+-- ---- the chip of a file
 
 -- The chip of a root table, or the first rule that the table breaks.
-unfoldable pub chip_in : Members → Result ChipData ChipFault
-chip_in root =
-    judged_chip root (texts_at (codes "routers") root) (texts_at (codes "nis") root)
-    (tables_at (codes "link") root)
-
--- The chip of a document, if the bytes spell one.
-abbrev pub chip_of_document : Option Members → Result ChipData ChipFault
-chip_of_document None = Err BadToml
-chip_of_document (Some root) = chip_in root
+unfoldable pub chip_in : Members → Result ChipData BrokenRule
+chip_in root = do
+  keys ← keys_fit root
+  range ← is_in_range root
+  names ← names_differ root
+  ends ← ends_are_known root
+  ports ← ports_are_few (length (routers_of root)) (told_chip root).links
+  single ← nis_are_single (nis_of root) (told_chip root).links
+  Ok (told_chip root)
 
 -- The chip of a file's bytes, or the first rule that the file breaks.
-unfoldable pub chip_of : List ℕ → Result ChipData ChipFault
-chip_of bytes = chip_of_document (document_of bytes)
-
--- What holds where no number and no name is out of its range.
-pub record IsInRange (slots : ℤ) (routers nis : List (List ℕ)) (links : ℕ) : Type 0 where
-  pub some_slots : 1 ≤ size_of slots
-  pub few_slots : size_of slots ≤ MAX_SLOTS
-  pub some_routers : 1 ≤ length routers
-  pub few_routers : length routers ≤ MAX_ROUTERS
-  pub some_nis : 1 ≤ length nis
-  pub few_nis : length nis ≤ MAX_NIS
-  pub few_links : links ≤ MAX_CHIP_LINKS
-  pub router_names : filter_map name_of routers ≡ routers
-  pub ni_names : filter_map name_of nis ≡ nis
+unfoldable pub chip_of : List ℕ → Result ChipData BrokenRule
+chip_of bytes = toml_of (document_of bytes) >>= chip_in

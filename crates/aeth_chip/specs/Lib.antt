@@ -1,9 +1,13 @@
 pub mod Chip
 pub mod ChipFile
 pub mod Distances
+pub mod Faults
 pub mod Index
 pub mod LeastDistance
 pub mod Levels
+pub mod Limits
 pub mod Nodes
 pub mod Paths
 pub mod Summary
+pub mod Told
+pub mod Wires

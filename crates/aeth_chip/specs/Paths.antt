@@ -1,9 +1,9 @@
 -- Paths over the links of a chip: joined lists of links, least numbers of links, admissible paths,
 -- offsets and delays. The links are those of the chip in file order; a path is a list of their
 -- numbers.
---   Goes, Joins      the link leads from a node to a node; the links of a list do so one by one
+--   IsLinkFrom, Joins      the link leads from a node to a node; the links of a list do so one by one
 --   AreDistinct      no router stands twice in a list
---   IsRoute, IsOnward      a path from an interface, from a router, without limits
+--   IsPath, IsOnward      a path from an interface, from a router, without limits
 --   IsLeast      the least number of links of the lists with some property
 --   IsDistance, IsOnwardDistance      that of the paths from an interface, from a router
 --   IsAdmissible      a path that a flit may take
@@ -20,7 +20,7 @@ use Rattle.aeth_chip.specs.declared.node.Node.{Node}
 use Rattle.aeth_chip.specs.declared.node.Node.TheVariants.{Router, Ni}
 
 -- The link with this number leads from one node to another.
-pub record Goes (links : List Link) (l : LinkId) (from to : Node) : Type 0 where
+pub record IsLinkFrom (links : List Link) (l : LinkId) (from to : Node) : Type 0 where
   pub link : Link
   pub is : slice_get links l.0 ≡ Some link
   pub begins : link.from ≡ from
@@ -30,11 +30,11 @@ pub record Goes (links : List Link) (l : LinkId) (from to : Node) : Type 0 where
 -- one, each link ends at the router where the next begins, and the last ends at the other.
 abbrev pub Joins : List Link → Node → List RouterId → Node → List LinkId → Type 0
 Joins links a [] b [] = ⊥
-Joins links a [] b (l ∷ []) = Goes links l a b
+Joins links a [] b (l ∷ []) = IsLinkFrom links l a b
 Joins links a [] b (l ∷ k ∷ path) = ⊥
 Joins links a (r ∷ routers) b [] = ⊥
 Joins links a (r ∷ routers) b (l ∷ path) =
-    Goes links l a (Router r) × Joins links (Router r) routers b path
+    IsLinkFrom links l a (Router r) × Joins links (Router r) routers b path
 
 -- No router stands twice in the list.
 abbrev pub AreDistinct : List RouterId → Type 0
@@ -43,7 +43,7 @@ AreDistinct (r ∷ routers) = (Contains routers r → ⊥) × AreDistinct router
 
 -- A path from an interface to an interface: joined links, whose inner nodes are distinct routers,
 -- at least one. From an interface to itself, such a path leads to a router and back.
-pub record IsRoute (links : List Link) (a b : NiId) (path : List LinkId) : Type 0 where
+pub record IsPath (links : List Link) (a b : NiId) (path : List LinkId) : Type 0 where
   pub routers : List RouterId
   pub joins : Joins links (Ni a) routers (Ni b) path
   pub distinct : AreDistinct routers
@@ -72,7 +72,7 @@ IsLeast P None = (path : List LinkId) → P path → ⊥
 -- The least number of links from an interface to an interface. With two cores on one interface,
 -- that from the interface to itself: 2, where its router leads back.
 abbrev pub IsDistance : List Link → NiId → NiId → Option ℕ → Type 0
-IsDistance links a b least = IsLeast (IsRoute links a b) least
+IsDistance links a b least = IsLeast (IsPath links a b) least
 
 -- The least number of links from a router to an interface.
 abbrev pub IsOnwardDistance : List Link → RouterId → NiId → Option ℕ → Type 0
@@ -82,7 +82,7 @@ IsOnwardDistance links r b least = IsLeast (IsOnward links r b) least
 -- so many links more than the least number.
 pub record IsAdmissible (links : List Link) (detour : ℕ) (a b : NiId) (path : List LinkId)
     : Type 0 where
-  pub route : IsRoute links a b path
+  pub is_path : IsPath links a b path
   pub fits : length path ≤ max_path_links
   pub least : ℕ
   pub distance : IsDistance links a b (Some least)

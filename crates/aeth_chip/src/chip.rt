@@ -1,20 +1,24 @@
 // A chip as its file tells it.
-ghost use Rattle.std.specs.Prelude.{◌≡◌, ◌<◌, ◌≤◌, ◌∷◌, [], Some, length, slice_get, position};
+ghost use Rattle.std.specs.Prelude.{◌≡◌, ◌<◌, ◌≤◌, ◌∷◌, [], Some, length, map, slice_get};
+ghost use Rattle.std.specs.Prelude.{position, take};
 ghost use Rattle.std.specs.Prelude.{option_map, IsSome, IfSome};
 ghost use Rattle.std.specs.Str.{bytes_eq};
+ghost use Rattle.aeth_base.specs.Limits.{max_link_delay};
+ghost use Rattle.aeth_chip.specs.Limits.{max_links, max_nis, max_ports, max_routers};
 ghost use Rattle.aeth_chip.specs.declared.node.Node.TheVariants.{Router, Ni};
 ghost use Rattle.aeth_chip.specs.Chip.{IsChip, IsNode};
 ghost use Rattle.aeth_chip.specs.Index.{IsIndex};
 ghost use Rattle.aeth_chip.specs.Nodes.{receives_on, sender_of, sends_on};
+ghost use Rattle.aeth_chip.specs.Wires.{further_wires, wires_of};
 
 use crate::index::Index;
-use crate::node::{Link, MAX_DELAY};
+use crate::node::Link;
 use aeth_base::{LinkId, Name, NiId, RouterId};
 use indexmap::IndexSet;
 use std::marker::Model;
 
-/// The most slots of a slot table.
-pub const MAX_SLOTS: u32 = 64;
+/// The most slots of a slot table in a file of version 1.
+pub const MAX_SLOTS_OF_VERSION_1: u32 = 64;
 
 /// The most routers of a chip.
 pub const MAX_ROUTERS: u32 = 64;
@@ -23,7 +27,7 @@ pub const MAX_ROUTERS: u32 = 64;
 pub const MAX_NIS: u32 = 64;
 
 /// The most links of a chip.
-pub const MAX_CHIP_LINKS: u32 = 1024;
+pub const MAX_LINKS: u32 = 1024;
 
 /// The most links on which a router sends, and on which it receives.
 pub const MAX_PORTS: u32 = 8;
@@ -106,7 +110,7 @@ impl Chip {
     /// The number of routers.
     pub fn routers(&self) -> u32
         ensures routers { result ≡ length self.now.routers }
-        ensures most { result ≤ MAX_ROUTERS }
+        ensures most { result ≤ max_routers }
     {
         self.routers.len() as u32
     }
@@ -114,14 +118,15 @@ impl Chip {
     /// The number of network interfaces.
     pub fn nis(&self) -> u32
         ensures nis { result ≡ length self.now.nis }
-        ensures most { result ≤ MAX_NIS }
+        ensures most { result ≤ max_nis }
     {
         self.nis.len() as u32
     }
 
     /// The number of links.
     pub fn links(&self) -> u32
-        ensures { result ≡ length self.now.links }
+        ensures links { result ≡ length self.now.links }
+        ensures most { result ≤ max_links }
     {
         self.links.len() as u32
     }
@@ -132,7 +137,7 @@ impl Chip {
         ensures link { slice_get self.now.links link.0 ≡ Some result }
         ensures from { IsNode self.now.routers self.now.nis result.from }
         ensures to { IsNode self.now.routers self.now.nis result.to }
-        ensures delay { (1 ≤ result.delay) × (result.delay ≤ MAX_DELAY) }
+        ensures delay { (1 ≤ result.delay) × (result.delay ≤ max_link_delay) }
     {
         self.links[link.0 as usize]
     }
@@ -142,24 +147,56 @@ impl Chip {
         requires { IsSome (sender_of self.now.links link.0) }
         ensures port { IfSome (sender_of self.now.links link.0) (λ router.
             slice_get (sends_on (Router router) self.now.links) result ≡ Some link.0) }
-        ensures few { result < MAX_PORTS }
+        ensures few { result < max_ports }
     {
         self.index.port(link) as u8
     }
 
+    /// The links on which a router sends, its ports in their order; none past the last router.
+    pub fn outgoing(&self, router: RouterId) -> &[LinkId]
+        ensures { map (λ link. link.0) result.now
+            ≡ sends_on (Router router) self.now.links }
+    {
+        self.index.outgoing(router)
+    }
+
+    /// The links on which a router receives, in file order; none past the last router.
+    pub fn incoming(&self, router: RouterId) -> &[LinkId]
+        ensures { map (λ link. link.0) result.now
+            ≡ receives_on (Router router) self.now.links }
+    {
+        self.index.incoming(router)
+    }
+
     /// The link on which a router sends through a port; `None` exactly where the port is past the
-    /// router's last.
+    /// router's last. The link begins at the router, and its port is that port.
     pub fn exit(&self, router: RouterId, port: u8) -> Option<LinkId>
+        ensures link { option_map (λ link. link.0) result
+            ≡ slice_get (sends_on (Router router) self.now.links) port }
+        ensures sender { IfSome result (λ link. sender_of self.now.links link.0 ≡ Some router) }
+    {
+        match self.port_link(router, port) {
+            None => None,
+            Some(link) => Some(link),
+        }
+    }
+
+    // The link at a port of a router.
+    fn port_link(&self, router: RouterId, port: u8) -> Option<LinkId>
         ensures { option_map (λ link. link.0) result
             ≡ slice_get (sends_on (Router router) self.now.links) port }
     {
-        self.index.exit(router, port)
+        match self.outgoing(router).get(port as usize) {
+            None => None,
+            Some(link) => Some(*link),
+        }
     }
 
     /// The one link on which a network interface sends.
     pub fn leaving(&self, ni: NiId) -> LinkId
         requires { ni.0 < length self.now.nis }
-        ensures { sends_on (Ni ni) self.now.links ≡ result.0 ∷ [] }
+        ensures sends { sends_on (Ni ni) self.now.links ≡ result.0 ∷ [] }
+        ensures link { result.0 < length self.now.links }
     {
         self.index.ends(ni).leaving
     }
@@ -167,9 +204,27 @@ impl Chip {
     /// The one link on which a network interface receives.
     pub fn entering(&self, ni: NiId) -> LinkId
         requires { ni.0 < length self.now.nis }
-        ensures { receives_on (Ni ni) self.now.links ≡ result.0 ∷ [] }
+        ensures receives { receives_on (Ni ni) self.now.links ≡ result.0 ∷ [] }
+        ensures link { result.0 < length self.now.links }
     {
         self.index.ends(ni).entering
+    }
+
+    /// How many wires there are.
+    pub(crate) fn wire_count(&self) -> u32
+        ensures wires { result ≡ wires_of self.now.links }
+        ensures chip { IsChip self.now }
+    {
+        self.index.wires
+    }
+
+    /// How many further wires the links before a link have.
+    pub(crate) fn further_before(&self, link: LinkId) -> u32
+        requires { link.0 < length self.now.links }
+        ensures further { result ≡ further_wires (take link.0 self.now.links) }
+        ensures chip { IsChip self.now }
+    {
+        self.index.further(link)
     }
 
     /// The name of a network interface.

@@ -1,21 +1,23 @@
 // Why a chip file is refused.
 ghost use Rattle.std.specs.Prelude.{◌≡◌};
+ghost use Rattle.aeth_chip.specs.Faults.{rule_of};
 ghost use Rattle.aeth_chip.specs.declared.fault.ChipFault.TheVariants.{Memory};
+ghost use Rattle.aeth_document.specs.Walks.{broken_as};
 
-use aeth_base::NoMemory;
-use aeth_document::Broken;
+use aeth_base::{Broken, BrokenRule, Fault, NoMemory};
 use std::alloc::{AllocError, AllocFailed};
 
-/// The first rule that a chip file breaks, with the first place of its walk and the value there.
+/// The first rule that a chip file breaks, with the first place of its walk and the value there; or
+/// want of memory.
 #[derive(Clone, Copy, Debug, PartialEq, Eq)]
 pub enum ChipFault {
-    /// The bytes are no UTF-8 or no TOML.
-    BadToml,
+    /// The bytes are no UTF-8 or no TOML. The place is 0, and there is no value.
+    BadToml(Broken),
     /// A key is missing, unknown or of another type. The root is place 0, the links follow.
     WrongKey(Broken),
     /// A number is out of its range, or a text is no name. Places count from 1: the version, the
     /// slots, the numbers of routers, interfaces and links, then the names of routers and of
-    /// interfaces.
+    /// interfaces, then in version 2 the delays of the links.
     OutOfRange(Broken),
     /// A name stands twice in the list of routers and then interfaces.
     NameTwice(Broken),
@@ -29,6 +31,35 @@ pub enum ChipFault {
     NiNotSingle(Broken),
     /// There was no memory.
     Memory,
+}
+
+// A rule that is broken, by its number and its name.
+fn broken_as(rule: u32, name: &'static str, broken: Broken) -> BrokenRule
+    ensures { result ≡ broken_as rule name.now broken }
+{
+    BrokenRule {
+        rule,
+        name,
+        place: broken.place,
+        value: broken.value,
+    }
+}
+
+impl Fault for ChipFault {
+    ghost rule = { rule_of };
+
+    fn broken_rule(&self) -> Option<BrokenRule> {
+        match *self {
+            ChipFault::BadToml(broken) => Some(broken_as(1, "BadToml", broken)),
+            ChipFault::WrongKey(broken) => Some(broken_as(2, "WrongKey", broken)),
+            ChipFault::OutOfRange(broken) => Some(broken_as(3, "OutOfRange", broken)),
+            ChipFault::NameTwice(broken) => Some(broken_as(4, "NameTwice", broken)),
+            ChipFault::UnknownName(broken) => Some(broken_as(5, "UnknownName", broken)),
+            ChipFault::TooManyPorts(broken) => Some(broken_as(6, "TooManyPorts", broken)),
+            ChipFault::NiNotSingle(broken) => Some(broken_as(7, "NiNotSingle", broken)),
+            ChipFault::Memory => None,
+        }
+    }
 }
 
 impl From<NoMemory> for ChipFault {

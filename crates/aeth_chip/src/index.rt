@@ -1,11 +1,13 @@
 // An index of the links of a chip, by which the links of a node are found without a walk.
-ghost use Rattle.std.specs.Prelude.{◌≡◌, ◌<◌, ◌^◌, ℕ, Some, IfOk, length, map, slice_get};
-ghost use Rattle.std.specs.Prelude.{option_and_then, option_map};
+ghost use Rattle.std.specs.Prelude.{◌≡◌, ◌<◌, ◌≤◌, ◌^◌, ℕ, Some, IfOk, length, map, slice_get};
+ghost use Rattle.aeth_base.specs.Limits.{max_link_delay};
 ghost use Rattle.aeth_base.specs.declared.ids.NiId.{NiId};
-ghost use Rattle.aeth_chip.specs.declared.node.Node.TheVariants.{Router};
 ghost use Rattle.aeth_chip.specs.Chip.{IsSingle};
-ghost use Rattle.aeth_chip.specs.Index.{IsEnds, IsExits, IsIndex, IsPort, IsTable};
-ghost use Rattle.aeth_chip.specs.Nodes.{sends_on};
+ghost use Rattle.aeth_chip.specs.Index.{AreLinksAt, IsEnds, IsFurther, IsIndex, IsPort, IsTable};
+ghost use Rattle.aeth_chip.specs.Index.{list_at};
+ghost use Rattle.aeth_chip.specs.Limits.{max_links};
+ghost use Rattle.aeth_chip.specs.Wires.{wires_of};
+ghost use Rattle.aeth_chip.specs.declared.node.Link.{Link};
 
 use crate::node::{End, Link, Node};
 use crate::ports::{count_links, nth_link};
@@ -19,28 +21,43 @@ pub(crate) struct Ends {
     pub entering: LinkId,
 }
 
-/// For each router the links on which it sends, its ports in file order; for each link its place
-/// among the links of the node that sends on it; for each network interface its two links.
+/// For each router the links on which it sends, its ports in file order, and those on which it
+/// receives; for each link its place among the links of the node that sends on it, and how many
+/// further wires the links before it have; for each network interface its two links; and how many
+/// wires there are.
 #[derive(Drop)]
 pub(crate) struct Index {
-    pub exits: Vec<Vec<LinkId>>,
+    pub outgoing: Vec<Vec<LinkId>>,
+    pub incoming: Vec<Vec<LinkId>>,
     pub ports: Vec<u32>,
     pub ends: Vec<Ends>,
+    pub further: Vec<u32>,
+    pub wires: u32,
+}
+
+// The list at a place of a list of lists, empty where there is none.
+fn list_at(lists: &[Vec<LinkId>], place: usize) -> &[LinkId]
+    ensures { result.now ≡ list_at lists.now place }
+{
+    match lists.get(place) {
+        None => &[],
+        Some(list) => list,
+    }
 }
 
 impl Index {
-    /// The link on which a router sends through a port; `None` where there is none.
-    pub(crate) fn exit(&self, router: RouterId, port: u8) -> Option<LinkId>
-        ensures { result ≡ option_and_then (λ exits. slice_get exits.items port)
-            (slice_get self.now.exits.items router.0) }
+    /// The links on which a router sends; none past the last router.
+    pub(crate) fn outgoing(&self, router: RouterId) -> &[LinkId]
+        ensures { result.now ≡ list_at self.now.outgoing.items router.0 }
     {
-        match self.exits.get(router.0 as usize) {
-            None => None,
-            Some(exits) => match exits.get(port as usize) {
-                None => None,
-                Some(link) => Some(*link),
-            },
-        }
+        list_at(&self.outgoing, router.0 as usize)
+    }
+
+    /// The links on which a router receives; none past the last router.
+    pub(crate) fn incoming(&self, router: RouterId) -> &[LinkId]
+        ensures { result.now ≡ list_at self.now.incoming.items router.0 }
+    {
+        list_at(&self.incoming, router.0 as usize)
     }
 
     /// The place of a link among the links of its sender.
@@ -49,6 +66,14 @@ impl Index {
         ensures { slice_get self.now.ports.items link.0 ≡ Some result }
     {
         self.ports[link.0 as usize]
+    }
+
+    /// How many further wires the links before a link have.
+    pub(crate) fn further(&self, link: LinkId) -> u32
+        requires { link.0 < length self.now.further.items }
+        ensures { slice_get self.now.further.items link.0 ≡ Some result }
+    {
+        self.further[link.0 as usize]
     }
 
     /// The two links of a network interface.
@@ -68,41 +93,82 @@ pub(crate) fn index_of(
     nis: u32,
     links: &[Link],
 ) -> Result<Index, NoMemory>
-    requires few { length links.now < 2 ^ 32 }
+    requires few { length links.now ≤ max_links }
+    requires delays { (l : ℕ) (link : Link) → slice_get links.now l ≡ Some link
+        → (1 ≤ link.delay) × (link.delay ≤ max_link_delay) }
     requires single { (ni : NiId) → ni.0 < nis → IsSingle links.now ni }
     ensures { IfOk result (λ index. IsIndex links.now routers nis index) }
 {
-    let exits = exits_of(alloc, routers, links)?;
+    let outgoing = links_by_router(alloc, routers, End::From, links)?;
+    let incoming = links_by_router(alloc, routers, End::To, links)?;
     let ports = ports_of(alloc, links)?;
     let ends = ends_of(alloc, nis, links)?;
-    Ok(Index { exits, ports, ends })
+    let (further, wires) = further_of(alloc, links)?;
+    Ok(Index {
+        outgoing,
+        incoming,
+        ports,
+        ends,
+        further,
+        wires,
+    })
 }
 
-/// The links on which a router sends.
-fn sending(alloc: Global, links: &[Link], router: RouterId) -> Result<Vec<LinkId>, NoMemory>
+/// The links that have a router at this end.
+fn links_at(
+    alloc: Global,
+    links: &[Link],
+    end: End,
+    router: RouterId,
+) -> Result<Vec<LinkId>, NoMemory>
     requires { length links.now < 2 ^ 32 }
-    ensures { IfOk result (λ exits. IsExits links.now router.0 exits) }
+    ensures { IfOk result (λ numbers. AreLinksAt end links.now router.0 numbers) }
 {
     let node = Node::Router(router);
-    let mut exits = Vec::new(alloc);
+    let mut numbers = Vec::new(alloc);
     for (number, link) in links.iter().enumerate() {
-        if link.begins_at(node) {
-            exits.push(LinkId(number as u32))?;
+        if link.has_end(end, node) {
+            numbers.push(LinkId(number as u32))?;
         }
     }
-    Ok(exits)
+    Ok(numbers)
 }
 
-/// For each router the links on which it sends.
-fn exits_of(alloc: Global, routers: u32, links: &[Link]) -> Result<Vec<Vec<LinkId>>, NoMemory>
+/// For each router the links that have it at this end.
+fn links_by_router(
+    alloc: Global,
+    routers: u32,
+    end: End,
+    links: &[Link],
+) -> Result<Vec<Vec<LinkId>>, NoMemory>
     requires { length links.now < 2 ^ 32 }
-    ensures { IfOk result (λ exits. IsTable (IsExits links.now) routers exits.items) }
+    ensures { IfOk result (λ lists. IsTable (AreLinksAt end links.now) routers lists.items) }
 {
-    let mut exits = Vec::new(alloc);
+    let mut lists = Vec::new(alloc);
     for router in 0..routers {
-        exits.push(sending(alloc, links, RouterId(router))?)?;
+        lists.push(links_at(alloc, links, end, RouterId(router))?)?;
     }
-    Ok(exits)
+    Ok(lists)
+}
+
+/// For each link how many further wires the links before it have, and how many wires there are.
+fn further_of(alloc: Global, links: &[Link]) -> Result<(Vec<u32>, u32), NoMemory>
+    requires few { length links.now ≤ max_links }
+    requires delays { (l : ℕ) (link : Link) → slice_get links.now l ≡ Some link
+        → (1 ≤ link.delay) × (link.delay ≤ max_link_delay) }
+    ensures further { IfOk result (λ made.
+        IsTable (IsFurther links.now) (length links.now) made.0.items) }
+    ensures wires { IfOk result (λ made. made.1 ≡ wires_of links.now) }
+{
+    let mut further = Vec::new(alloc);
+    let mut before = 0;
+    let mut wires = 0;
+    for link in links {
+        further.push(before)?;
+        before += link.delay - 1;
+        wires += link.delay;
+    }
+    Ok((further, wires))
 }
 
 /// For each link how many links before it begin where it does.

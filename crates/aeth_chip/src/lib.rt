@@ -3,8 +3,6 @@
 
 mod chip;
 mod delays;
-#[cfg(test)]
-mod distance_tests;
 mod distances;
 mod fault;
 mod index;
@@ -14,12 +12,12 @@ mod node;
 mod ports;
 mod reading;
 mod summary;
-#[cfg(test)]
-mod tests;
+mod wires;
 
-pub use chip::{Chip, MAX_CHIP_LINKS, MAX_NIS, MAX_PORTS, MAX_ROUTERS, MAX_SLOTS};
+pub use aeth_base::{Broken, BrokenRule, Fault, Shown};
+pub use chip::{Chip, MAX_LINKS, MAX_NIS, MAX_PORTS, MAX_ROUTERS, MAX_SLOTS_OF_VERSION_1};
 pub use distances::Distances;
 pub use fault::ChipFault;
-pub use node::{Link, MAX_DELAY, Node};
+pub use node::{Link, Node};
 pub use reading::read_chip;
 pub use summary::Summary;

@@ -4,9 +4,6 @@ ghost use Rattle.aeth_chip.specs.Nodes.{begins_at, ends_at, has_end, same_node};
 
 use aeth_base::{NiId, RouterId};
 
-/// The greatest delay of a link, in cycles.
-pub const MAX_DELAY: u32 = 1;
-
 /// Where a link begins or ends.
 #[derive(Clone, Copy, Debug, PartialEq, Eq)]
 pub enum Node {
@@ -14,7 +11,8 @@ pub enum Node {
     Ni(NiId),
 }
 
-/// A directed link. A flit that enters it in a cycle leaves it `delay` cycles later.
+/// A directed link. A flit that enters it in a cycle reaches its far end `delay` cycles later: 1 in a
+/// file of version 1, 1 to 4 in one of version 2.
 #[derive(Clone, Copy, Debug, PartialEq, Eq)]
 pub struct Link {
     pub from: Node,

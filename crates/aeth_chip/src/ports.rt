@@ -1,14 +1,16 @@
 // The links of a router and of a network interface.
-ghost use Rattle.std.specs.Prelude.{◌≡◌, ◌<◌, ◌≤◌, ◌^◌, length, count_by, option_map, slice_get};
-ghost use Rattle.std.specs.Prelude.{IfOk};
-ghost use Rattle.aeth_chip.specs.ChipFile.{crowded, is_single, not_single, only, router_at};
-ghost use Rattle.aeth_chip.specs.ChipFile.{same_router, too_many_ports};
+ghost use Rattle.std.specs.Prelude.{◌≡◌, ◌<◌, ◌^◌, length, count_by, map, option_map, slice_get};
+ghost use Rattle.std.specs.List.{range_with_len};
+ghost use Rattle.aeth_chip.specs.ChipFile.{crowded, is_single, lone, not_single, router_at};
+ghost use Rattle.aeth_chip.specs.ChipFile.{same_router, unjoined};
 ghost use Rattle.aeth_chip.specs.Nodes.{has_end, numbers_from, receives_on, router_of, sends_on};
+ghost use Rattle.aeth_document.specs.Arrays.{texts_in};
+ghost use Rattle.aeth_document.specs.Walks.{walked};
 
 use crate::chip::MAX_PORTS;
 use crate::node::{End, Link, Node};
-use aeth_base::{LinkId, Name, NiId, NoMemory, RouterId};
-use aeth_document::{Broken, Shown, next_place};
+use aeth_base::{LinkId, NiId, RouterId};
+use aeth_document::{Shown, Texts, Walk, shown_text};
 
 /// The link at a place among those that have the node at this end.
 pub(crate) fn nth_link(links: &[Link], end: End, node: Node, place: u32) -> Option<LinkId>
@@ -48,26 +50,22 @@ fn crowded(links: &[Link], router: u32) -> Option<Shown>
     }
 }
 
-/// The first router that has too many links one way.
-#[tactic(auto, using(aeth_base::proofs::Ranges::range_more))]
-pub(crate) fn too_many_ports(routers: u32, links: &[Link]) -> Option<Broken>
-    ensures { result ≡ too_many_ports routers links.now }
+/// The walk after a check of each router's numbers of links.
+#[tactic(auto, using(aeth_base::proofs::Ranges::range_more), unfolding(aeth_document::specs::Walks::walked))]
+pub(crate) fn crowded_routers(walk: Walk, routers: u32, links: &[Link]) -> Walk
+    ensures { result ≡ walked walk (map (crowded links.now) (range_with_len 0 routers)) }
 {
+    let mut walk = walk;
     for router in 0..routers {
-        if let Some(value) = crowded(links, router) {
-            return Some(Broken {
-                place: router,
-                value,
-            });
-        }
+        walk = walk.check(crowded(links, router));
     }
-    None
+    walk
 }
 
-fn only_link(links: &[Link], end: End, node: Node) -> Option<LinkId>
+fn lone_link(links: &[Link], end: End, node: Node) -> Option<LinkId>
     requires { length links.now < 2 ^ 32 }
     ensures { option_map (λ l. l.0) result
-        ≡ only (numbers_from 0 (has_end end node) links.now) }
+        ≡ lone (numbers_from 0 (has_end end node) links.now) }
 {
     match nth_link(links, end, node, 1) {
         Some(_) => None,
@@ -88,7 +86,7 @@ fn router_after(links: &[Link], node: Node) -> Option<RouterId>
     requires { length links.now < 2 ^ 32 }
     ensures { result ≡ router_at (λ link. link.to) links.now (sends_on node links.now) }
 {
-    match only_link(links, End::From, node) {
+    match lone_link(links, End::From, node) {
         None => None,
         Some(number) => match links.get(number.0 as usize) {
             None => None,
@@ -101,7 +99,7 @@ fn router_before(links: &[Link], node: Node) -> Option<RouterId>
     requires { length links.now < 2 ^ 32 }
     ensures { result ≡ router_at (λ link. link.from) links.now (receives_on node links.now) }
 {
-    match only_link(links, End::To, node) {
+    match lone_link(links, End::To, node) {
         None => None,
         Some(number) => match links.get(number.0 as usize) {
             None => None,
@@ -130,21 +128,31 @@ fn is_single(links: &[Link], ni: u32) -> bool
     same_router(router_after(links, node), router_before(links, node))
 }
 
-/// The first network interface that isn't joined to one router by one link each way.
-#[tactic(auto, unfolding(crate::specs::ChipFile::not_single))]
-pub(crate) fn not_single(nis: &[Name], links: &[Link]) -> Result<Option<Broken>, NoMemory>
+// The name of a network interface that isn't joined to one router.
+fn unjoined(links: &[Link], ni: u32, name: &str) -> Option<Shown>
     requires { length links.now < 2 ^ 32 }
-    ensures { IfOk result (λ found. found ≡ not_single nis.now links.now) }
+    ensures { result ≡ unjoined links.now ni name.now }
 {
+    if is_single(links, ni) {
+        None
+    } else {
+        Some(shown_text(name))
+    }
+}
+
+/// The walk after a check of each network interface, which is to be joined to one router by one link
+/// each way.
+#[tactic(auto, unfolding(aeth_document::specs::Walks::walked))]
+pub(crate) fn unjoined_nis(walk: Walk, nis: Texts<'_>, links: &[Link]) -> Walk
+    requires few { length links.now < 2 ^ 32 }
+    requires nis { length (texts_in nis) < 2 ^ 32 }
+    ensures { result ≡ walked walk (not_single links.now 0 (texts_in nis.entry)) }
+{
+    let mut walk = walk;
     let mut ni = 0;
     for name in nis {
-        if !is_single(links, ni) {
-            return Ok(Some(Broken {
-                place: ni,
-                value: Shown::Word(*name),
-            }));
-        }
-        ni = next_place(ni)?;
+        walk = walk.check(unjoined(links, ni, name));
+        ni += 1;
     }
-    Ok(None)
+    walk
 }

@@ -1,24 +1,30 @@
 // Reading a chip file: its rules one after the other.
-ghost use Rattle.std.specs.Prelude.{◌≡◌, ◌<◌, ◌≤◌, ◌^◌, codes, length, map, IfOk, OnOk, None, []};
-ghost use Rattle.aeth_base.specs.Answers.{Gives};
-ghost use Rattle.aeth_chip.specs.ChipFile.{IsInRange, chip_in, chip_of, joined_chip, judged_chip};
-ghost use Rattle.aeth_chip.specs.ChipFile.{name_twice, not_single, numbers, out_of_range};
-ghost use Rattle.aeth_chip.specs.ChipFile.{too_many_ports, wrong_keys_in, wrong_name};
-ghost use Rattle.aeth_document.specs.Chain.{refused};
-ghost use Rattle.aeth_document.specs.Walks.{first_broken};
-ghost use Rattle.aeth_document.specs.Values.{integer_at};
+ghost use Rattle.std.specs.Prelude.{◌≡◌, ◌≤◌, ◌++◌, [], Ok, length, IfOk};
+ghost use Rattle.std.specs.List.{filter_map};
+ghost use Rattle.aeth_base.specs.Faults.{Reads};
+ghost use Rattle.aeth_base.specs.Limits.{max_slots};
+ghost use Rattle.aeth_chip.specs.ChipFile.{chip_in, chip_of, delays, ends_are_known, is_in_range};
+ghost use Rattle.aeth_chip.specs.ChipFile.{keys_fit, link_fields, most_slots, names_differ};
+ghost use Rattle.aeth_chip.specs.ChipFile.{nis_are_single, numbers, ports_are_few, wrong_keys};
+ghost use Rattle.aeth_chip.specs.Faults.{rule_of};
+ghost use Rattle.aeth_chip.specs.Limits.{max_links, max_nis, max_routers};
+ghost use Rattle.aeth_chip.specs.Told.{allows_delays, link_tables, nis_of, routers_of, slots_of, told_chip};
+ghost use Rattle.aeth_chip.specs.Told.{told_links, version_of};
+ghost use Rattle.aeth_document.specs.Arrays.{tables_in, texts_in};
+ghost use Rattle.aeth_document.specs.Keys.{fields_view};
+ghost use Rattle.aeth_document.specs.Walks.{first_broken, repeats, size_of, walked};
 ghost use Rattle.toml.specs.View.{table_view};
 
-use crate::chip::{Chip, MAX_CHIP_LINKS, MAX_NIS, MAX_ROUTERS, MAX_SLOTS};
+use crate::chip::{Chip, MAX_LINKS, MAX_NIS, MAX_ROUTERS, MAX_SLOTS_OF_VERSION_1};
 use crate::fault::ChipFault;
 use crate::index::index_of;
-use crate::links::{Names, known_links};
+use crate::links::{Names, delay_at, links_of, unknown_ends};
 use crate::node::Link;
-use crate::ports::{not_single, too_many_ports};
-use aeth_base::{Name, NoMemory};
+use crate::ports::{crowded_routers, unjoined_nis};
+use aeth_base::{Broken, MAX_LINK_DELAY, MAX_SLOTS, NoMemory, Shown};
 use aeth_document::{
-    Broken, Field, Kind, add_names, count_outside, first_broken, integer_at, names_of, no_names,
-    outside, place_after, read_document, size, tables_at, texts_at, wrong_key, wrong_keys,
+    Field, Kind, Tables, Texts, Walk, count_outside, integer_at, names_of, outside, read_document,
+    repeats, size, tables_at, texts_at, wrong_key,
 };
 use indexmap::IndexSet;
 use std::alloc::Global;
@@ -58,212 +64,243 @@ const LINK: [Field; 2] = [
     },
 ];
 
-fn wrong_keys_in(root: &Table, links: &[&Table]) -> Result<Option<Broken>, NoMemory>
-    ensures { IfOk result (λ found. found
-        ≡ wrong_keys_in (table_view root.now) (map (λ t. table_view t.now) links.now)) }
+const LINK_WITH_DELAY: [Field; 3] = [
+    Field {
+        key: "delay",
+        kind: Kind::OptionalInteger,
+    },
+    Field {
+        key: "from",
+        kind: Kind::Text,
+    },
+    Field {
+        key: "to",
+        kind: Kind::Text,
+    },
+];
+
+fn version_of(root: &Table) -> i64
+    ensures { result ≡ version_of (table_view root.now) }
 {
-    match wrong_key(root, &ROOT) {
-        Some(value) => Ok(Some(Broken { place: 0, value })),
-        None => wrong_keys(1, links, &LINK),
+    integer_at(root, "version")
+}
+
+fn routers_of(root: &Table) -> Texts<'_>
+    ensures { texts_in result ≡ routers_of (table_view root.now) }
+{
+    texts_at(root, "routers")
+}
+
+fn nis_of(root: &Table) -> Texts<'_>
+    ensures { texts_in result ≡ nis_of (table_view root.now) }
+{
+    texts_at(root, "nis")
+}
+
+fn link_tables(root: &Table) -> Tables<'_>
+    ensures { tables_in result ≡ link_tables (table_view root.now) }
+{
+    tables_at(root, "link")
+}
+
+// Whether the version of the file allows delays.
+fn allows_delays(root: &Table) -> bool
+    ensures { result ≡ allows_delays (version_of (table_view root.now)) }
+{
+    version_of(root) == 2
+}
+
+fn link_fields(root: &Table) -> &'static [Field]
+    ensures { fields_view result.now ≡ link_fields (version_of (table_view root.now)) }
+{
+    if allows_delays(root) {
+        &LINK_WITH_DELAY
+    } else {
+        &LINK
     }
 }
 
-#[tactic(auto, unfolding(crate::specs::ChipFile::numbers))]
-fn wrong_number(
-    root: &Table,
-    routers: usize,
-    nis: usize,
-    links: usize,
-) -> Result<Option<Broken>, NoMemory>
-    ensures { IfOk result (λ found. found
-        ≡ first_broken 1 (numbers (integer_at (codes "version") (table_view root.now))
-        (integer_at (codes "slots") (table_view root.now)) routers nis links)) }
+// The walk after a check of each table's keys.
+#[tactic(auto, unfolding(crate::specs::ChipFile::wrong_keys), using(aeth_document::proofs::WalkLemmas::walk_laws))]
+fn wrong_keys(walk: Walk, root: &Table) -> Walk
+    ensures { result ≡ walked walk (wrong_keys (table_view root.now)) }
 {
-    let numbers = [
-        outside(1, 1, integer_at(root, "version")),
-        outside(1, MAX_SLOTS as u64, integer_at(root, "slots")),
-        count_outside(1, MAX_ROUTERS as u64, routers),
-        count_outside(1, MAX_NIS as u64, nis),
-        count_outside(0, MAX_CHIP_LINKS as u64, links),
-    ];
-    first_broken(1, &numbers)
+    walk.check(wrong_key(root, &ROOT))
+        .keys(link_tables(root), link_fields(root))
 }
 
-#[tactic(auto, unfolding(crate::specs::ChipFile::wrong_name))]
-fn wrong_name(routers: &[&str], nis: &[&str]) -> Result<Option<Broken>, NoMemory>
-    ensures { IfOk result (λ found. found
-        ≡ wrong_name (map (λ t. t.now) routers.now) (map (λ t. t.now) nis.now)) }
+#[tactic(auto, unfolding(crate::specs::ChipFile::keys_fit), using(aeth_document::proofs::WalkLemmas::walk_laws))]
+fn judge_keys(root: &Table) -> Result<(), ChipFault>
+    ensures { Reads rule_of (λ u. u) result (keys_fit (table_view root.now)) }
 {
-    match no_names(6, routers)? {
-        Some(broken) => Ok(Some(broken)),
-        None => no_names(place_after(6, routers.len())?, nis),
-    }
-}
-
-fn out_of_range(
-    root: &Table,
-    routers: &[&str],
-    nis: &[&str],
-    links: usize,
-) -> Result<Option<Broken>, NoMemory>
-    ensures { IfOk result (λ found. found
-        ≡ out_of_range (integer_at (codes "version") (table_view root.now))
-        (integer_at (codes "slots") (table_view root.now)) (map (λ t. t.now) routers.now)
-        (map (λ t. t.now) nis.now) links) }
-{
-    match wrong_number(root, routers.len(), nis.len(), links)? {
-        Some(broken) => Ok(Some(broken)),
-        None => wrong_name(routers, nis),
-    }
-}
-
-// Puts the names into their sets, which are empty, up to the first that stands twice.
-fn add_apart(
-    router_names: &mut IndexSet<Name>,
-    ni_names: &mut IndexSet<Name>,
-    routers: &[Name],
-    nis: &[Name],
-) -> Result<Option<Broken>, NoMemory>
-    requires routers { router_names.old.keys ≡ [] }
-    requires nis { ni_names.old.keys ≡ [] }
-    ensures found { IfOk result (λ found. found ≡ name_twice routers.now nis.now) }
-    ensures routers { IfOk result (λ found. found ≡ None → router_names.new.keys ≡ routers.now) }
-    ensures nis { IfOk result (λ found. found ≡ None → ni_names.new.keys ≡ nis.now) }
-{
-    match add_names(router_names, ni_names, 0, routers)? {
-        Some(broken) => Ok(Some(broken)),
-        None => add_names(ni_names, router_names, place_after(0, routers.len())?, nis),
-    }
-}
-
-fn distinct(alloc: Global, routers: &[Name], nis: &[Name]) -> Result<Names, ChipFault>
-    ensures gives { Gives ChipFault.Memory (λ _. tt) result
-        (refused ChipFault.NameTwice (name_twice routers.now nis.now)) }
-    ensures routers { IfOk result (λ names. names.routers.keys ≡ routers.now) }
-    ensures nis { IfOk result (λ names. names.nis.keys ≡ nis.now) }
-{
-    let mut router_names = IndexSet::new(alloc);
-    let mut ni_names = IndexSet::new(alloc);
-    match add_apart(&mut router_names, &mut ni_names, routers, nis)? {
-        Some(broken) => Err(ChipFault::NameTwice(broken)),
-        None => Ok(Names {
-            routers: router_names,
-            nis: ni_names,
-        }),
-    }
-}
-
-fn judge_keys(root: &Table, links: &[&Table]) -> Result<(), ChipFault>
-    ensures { Gives ChipFault.Memory (λ u. u) result (refused ChipFault.WrongKey
-        (wrong_keys_in (table_view root.now) (map (λ t. table_view t.now) links.now))) }
-{
-    match wrong_keys_in(root, links)? {
+    match wrong_keys(Walk::from(0), root).found() {
         None => Ok(()),
         Some(broken) => Err(ChipFault::WrongKey(broken)),
     }
 }
 
-fn judge_ranges(root: &Table, routers: &[&str], nis: &[&str], links: usize) -> Result<(), ChipFault>
-    ensures gives { Gives ChipFault.Memory (λ u. u) result (refused ChipFault.OutOfRange
-        (out_of_range (integer_at (codes "version") (table_view root.now))
-        (integer_at (codes "slots") (table_view root.now)) (map (λ t. t.now) routers.now)
-        (map (λ t. t.now) nis.now) links)) }
-    ensures range { OnOk result (IsInRange (integer_at (codes "slots") (table_view root.now))
-        (map (λ t. t.now) routers.now) (map (λ t. t.now) nis.now) links) }
+fn most_slots(root: &Table) -> u32
+    ensures { result ≡ most_slots (version_of (table_view root.now)) }
 {
-    match out_of_range(root, routers, nis, links)? {
+    if allows_delays(root) {
+        MAX_SLOTS
+    } else {
+        MAX_SLOTS_OF_VERSION_1
+    }
+}
+
+#[tactic(auto, unfolding(crate::specs::ChipFile::numbers))]
+fn numbers(root: &Table) -> [Option<Shown>; 5]
+    ensures { result ≡ numbers (table_view root.now) }
+{
+    [
+        outside(1, 2, version_of(root)),
+        outside(1, most_slots(root) as u64, integer_at(root, "slots")),
+        count_outside(1, MAX_ROUTERS as u64, routers_of(root).count_left()),
+        count_outside(1, MAX_NIS as u64, nis_of(root).count_left()),
+        count_outside(0, MAX_LINKS as u64, link_tables(root).count_left()),
+    ]
+}
+
+// The walk after a check of each link's delay, where the version allows them.
+#[tactic(auto, unfolding(crate::specs::ChipFile::delays, aeth_document::specs::Walks::walked))]
+fn delays(walk: Walk, root: &Table) -> Walk
+    ensures { result ≡ walked walk (delays (table_view root.now)) }
+{
+    if !allows_delays(root) {
+        return walk;
+    }
+    let mut walk = walk;
+    for link in link_tables(root) {
+        walk = walk.check(outside(1, MAX_LINK_DELAY as u64, delay_at(link)));
+    }
+    walk
+}
+
+#[tactic(auto, unfolding(crate::specs::ChipFile::is_in_range), using(aeth_document::proofs::WalkLemmas::walk_laws))]
+fn judge_ranges(root: &Table) -> Result<(), ChipFault>
+    ensures { Reads rule_of (λ u. u) result (is_in_range (table_view root.now)) }
+{
+    let walk = Walk::from(1)
+        .checks(&numbers(root))
+        .names(routers_of(root))
+        .names(nis_of(root));
+    match delays(walk, root).found() {
         None => Ok(()),
         Some(broken) => Err(ChipFault::OutOfRange(broken)),
     }
 }
 
-fn judge_ports(routers: u32, links: &[Link]) -> Result<(), ChipFault>
-    ensures gives { Gives ChipFault.Memory (λ u. u) result
-        (refused ChipFault.TooManyPorts (too_many_ports routers links.now)) }
-    ensures none { OnOk result (too_many_ports routers links.now ≡ None) }
+// The first text of the routers and then the interfaces that stands there twice.
+fn repeated_name(alloc: Global, root: &Table) -> Result<Option<Broken>, NoMemory>
+    ensures { IfOk result (λ found. found ≡ first_broken 0
+        (repeats [] (routers_of (table_view root.now) ++ nis_of (table_view root.now)))) }
 {
-    match too_many_ports(routers, links) {
+    let mut seen = IndexSet::new(alloc);
+    let walk = repeats(Walk::from(0), &mut seen, routers_of(root))?;
+    let walk = repeats(walk, &mut seen, nis_of(root))?;
+    Ok(walk.found())
+}
+
+#[tactic(auto, unfolding(crate::specs::ChipFile::names_differ))]
+fn judge_names(alloc: Global, root: &Table) -> Result<(), ChipFault>
+    ensures { Reads rule_of (λ u. u) result (names_differ (table_view root.now)) }
+{
+    match repeated_name(alloc, root)? {
+        None => Ok(()),
+        Some(broken) => Err(ChipFault::NameTwice(broken)),
+    }
+}
+
+// The names of the routers and of the network interfaces.
+fn names_in(alloc: Global, root: &Table) -> Result<Names, NoMemory>
+    requires range { is_in_range (table_view root.now) ≡ Ok tt }
+    requires differ { names_differ (table_view root.now) ≡ Ok tt }
+    ensures routers { IfOk result (λ names. names.routers.keys ≡ routers_of (table_view root.now)) }
+    ensures nis { IfOk result (λ names. names.nis.keys ≡ nis_of (table_view root.now)) }
+    ensures few_routers { IfOk result (λ names. length names.routers.keys ≤ max_routers) }
+    ensures few_nis { IfOk result (λ names. length names.nis.keys ≤ max_nis) }
+{
+    let routers = names_of(alloc, routers_of(root))?;
+    let nis = names_of(alloc, nis_of(root))?;
+    Ok(Names { routers, nis })
+}
+
+#[tactic(auto, unfolding(crate::specs::ChipFile::ends_are_known), using(aeth_document::proofs::WalkLemmas::walk_laws))]
+fn judge_ends(names: &Names, root: &Table) -> Result<(), ChipFault>
+    requires routers { names.now.routers.keys ≡ routers_of (table_view root.now) }
+    requires nis { names.now.nis.keys ≡ nis_of (table_view root.now) }
+    requires few_routers { length names.now.routers.keys ≤ max_routers }
+    requires few_nis { length names.now.nis.keys ≤ max_nis }
+    ensures { Reads rule_of (λ u. u) result (ends_are_known (table_view root.now)) }
+{
+    let walk = unknown_ends(Walk::from(0), names, link_tables(root));
+    match walk.found() {
+        None => Ok(()),
+        Some(broken) => Err(ChipFault::UnknownName(broken)),
+    }
+}
+
+#[tactic(auto, unfolding(crate::specs::ChipFile::ports_are_few), using(aeth_document::proofs::WalkLemmas::walk_laws))]
+fn judge_ports(routers: u32, links: &[Link]) -> Result<(), ChipFault>
+    ensures { Reads rule_of (λ u. u) result (ports_are_few routers links.now) }
+{
+    match crowded_routers(Walk::from(0), routers, links).found() {
         None => Ok(()),
         Some(broken) => Err(ChipFault::TooManyPorts(broken)),
     }
 }
 
-fn judge_single(nis: &[Name], links: &[Link]) -> Result<(), ChipFault>
-    requires { length links.now < 2 ^ 32 }
-    ensures gives { Gives ChipFault.Memory (λ u. u) result
-        (refused ChipFault.NiNotSingle (not_single nis.now links.now)) }
-    ensures none { OnOk result (not_single nis.now links.now ≡ None) }
+#[tactic(auto, unfolding(crate::specs::ChipFile::nis_are_single), using(aeth_document::proofs::WalkLemmas::walk_laws))]
+fn judge_nis(root: &Table, links: &[Link]) -> Result<(), ChipFault>
+    requires few_nis { length (nis_of (table_view root.now)) ≤ max_nis }
+    requires few_links { length links.now ≤ max_links }
+    ensures { Reads rule_of (λ u. u) result (nis_are_single (nis_of (table_view root.now)) links.now) }
 {
-    match not_single(nis, links)? {
+    match unjoined_nis(Walk::from(0), nis_of(root), links).found() {
         None => Ok(()),
         Some(broken) => Err(ChipFault::NiNotSingle(broken)),
     }
 }
 
-#[tactic(auto, unfolding(crate::specs::ChipFile::joined_chip))]
-fn joined_chip(
-    alloc: Global,
-    slots: u32,
-    names: Names,
-    nis: &[Name],
-    tables: &[&Table],
-) -> Result<Chip, ChipFault>
-    requires some_slots { 1 ≤ slots }
-    requires slots { slots ≤ MAX_SLOTS }
-    requires some_routers { 1 ≤ length names.routers.keys }
-    requires routers { length names.routers.keys ≤ MAX_ROUTERS }
-    requires some_nis { 1 ≤ length names.nis.keys }
-    requires nis { length names.nis.keys ≤ MAX_NIS }
-    requires links { length tables.now ≤ MAX_CHIP_LINKS }
-    requires same { names.nis.keys ≡ nis.now }
-    ensures { Gives ChipFault.Memory (λ chip. chip) result
-        (joined_chip slots names.routers.keys nis.now (map (λ t. table_view t.now) tables.now)) }
+fn slots_of(root: &Table) -> u32
+    requires { size_of (slots_of (table_view root.now)) ≤ max_slots }
+    ensures { result ≡ size_of (slots_of (table_view root.now)) }
 {
-    let links = known_links(alloc, &names, tables)?;
-    judge_ports(names.routers.len() as u32, &links)?;
-    judge_single(nis, &links)?;
-    let index = index_of(alloc, names.routers.len() as u32, nis.len() as u32, &links)?;
-    Ok(Chip::new(slots, names.routers, names.nis, links, index))
-}
-
-#[tactic(auto, unfolding(crate::specs::ChipFile::judged_chip))]
-fn judged_chip(
-    alloc: Global,
-    root: &Table,
-    routers: &[&str],
-    nis: &[&str],
-    tables: &[&Table],
-) -> Result<Chip, ChipFault>
-    ensures { Gives ChipFault.Memory (λ chip. chip) result
-        (judged_chip (table_view root.now) (map (λ t. t.now) routers.now)
-        (map (λ t. t.now) nis.now) (map (λ t. table_view t.now) tables.now)) }
-{
-    judge_keys(root, tables)?;
-    judge_ranges(root, routers, nis, tables.len())?;
-    let router_names = names_of(alloc, routers)?;
-    let ni_names = names_of(alloc, nis)?;
-    let names = distinct(alloc, &router_names, &ni_names)?;
-    let slots = size(integer_at(root, "slots")) as u32;
-    joined_chip(alloc, slots, names, &ni_names, tables)
+    size(integer_at(root, "slots")) as u32
 }
 
 #[tactic(auto, unfolding(crate::specs::ChipFile::chip_in))]
 fn chip_in(alloc: Global, root: &Table) -> Result<Chip, ChipFault>
-    ensures { Gives ChipFault.Memory (λ chip. chip) result (chip_in (table_view root.now)) }
+    ensures { Reads rule_of (λ chip. chip) result (chip_in (table_view root.now)) }
 {
-    let routers = texts_at(alloc, root, "routers")?;
-    let nis = texts_at(alloc, root, "nis")?;
-    let tables = tables_at(alloc, root, "link")?;
-    judged_chip(alloc, root, &routers, &nis, &tables)
+    judge_keys(root)?;
+    judge_ranges(root)?;
+    judge_names(alloc, root)?;
+    let names = names_in(alloc, root)?;
+    judge_ends(&names, root)?;
+    let links = links_of(alloc, &names, link_tables(root))?;
+    judge_ports(names.routers.len() as u32, &links)?;
+    judge_nis(root, &links)?;
+    let index = index_of(
+        alloc,
+        names.routers.len() as u32,
+        names.nis.len() as u32,
+        &links,
+    )?;
+    Ok(Chip::new(slots_of(root), names.routers, names.nis, links, index))
 }
 
 /// The chip of a file's bytes, or the first rule that the file breaks; or memory ran out.
 #[tactic(auto, unfolding(crate::specs::ChipFile::chip_of))]
 pub fn read_chip(alloc: Global, bytes: &[u8]) -> Result<Chip, ChipFault>
-    ensures gives { Gives ChipFault.Memory (λ chip. chip) result (chip_of bytes.now) }
+    ensures { Reads rule_of (λ chip. chip) result (chip_of bytes.now) }
 {
     match read_document(alloc, bytes)? {
-        None => Err(ChipFault::BadToml),
         Some(root) => chip_in(alloc, &root),
+        None => Err(ChipFault::BadToml(Broken {
+            place: 0,
+            value: Shown::Nothing,
+        })),
     }
 }

@@ -1,9 +1,9 @@
-use Rattle.aeth_chip.proofs.IndexLemmas.{exit_at}
+use Rattle.std.proofs.Common.{sym}
+use Rattle.aeth_chip.proofs.NodeLemmas.{sender_of-found}
 use Rattle.aeth_chip.proofs.chip.Chip.exit.Goals as goal
 
--- The index has the links of each router, and a router past the last has none.
-pub returns : goal.returns
-returns c =
-    rw (c.exit.ensures, ← c.self.view_is)
-    (exit_at _ c.self.inside.index.exits.items c.self.invariant.0
-    c.self.invariant.1.exits c.args.router c.args.port)
+-- The router sends on the links of its list.
+pub returns-in-Some-clause-sender : goal.returns-in-Some-clause-sender
+returns-in-Some-clause-sender c =
+    sender_of-found c.args.self.now.links c.args.router c.args.port c.in-Some.link.0
+    (sym c.in-Some.ensures)

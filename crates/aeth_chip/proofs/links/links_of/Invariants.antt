@@ -1,0 +1,13 @@
+use Rattle.std.proofs.Common.{◌≡◌, ◌++◌, map}
+use Rattle.std.specs.List.{AllByRecursion}
+use Rattle.aeth_chip.specs.Told.{HasDelay, link_of}
+use Rattle.aeth_document.specs.Arrays.{tables_in}
+use Rattle.aeth_chip.proofs.links.links_of.Given as goal
+
+abbrev pub invariant-loop-table : goal.invariant-loop-table
+invariant-loop-table l = record {
+  links : l.links.items
+      ++ map (link_of l.names.routers.keys l.names.nis.keys) (tables_in l.table-iterator)
+      ≡ map (link_of l.names.routers.keys l.names.nis.keys) (tables_in l.fn.tables);
+  delays : AllByRecursion HasDelay (tables_in l.table-iterator);
+}

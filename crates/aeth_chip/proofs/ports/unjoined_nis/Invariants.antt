@@ -1,0 +1,12 @@
+use Rattle.std.proofs.Common.{◌≡◌, ◌+◌, length}
+use Rattle.aeth_chip.specs.ChipFile.{not_single}
+use Rattle.aeth_document.specs.Arrays.{texts_in}
+use Rattle.aeth_document.specs.Walks.{walked}
+use Rattle.aeth_chip.proofs.ports.unjoined_nis.Given as goal
+
+abbrev pub invariant-loop-name : goal.invariant-loop-name
+invariant-loop-name l = record {
+  walk : walked l.walk (not_single l.links l.ni (texts_in l.name-iterator))
+      ≡ walked l.fn.walk (not_single l.links 0 (texts_in l.fn.nis));
+  count : l.ni + length (texts_in l.name-iterator) ≡ length (texts_in l.fn.nis);
+}
