@@ -1,6 +1,6 @@
 #!/bin/sh
 # Counts the instructions of `aeth slots`, above those of a run that ends in `usage`, for full and
-# half-full tables. It needs valgrind. The counts are the same at each run on one machine.
+# half-full tables of up to 128 slots. It needs valgrind. The counts are the same at each run on one machine.
 set -eu
 
 home=$(dirname -- "$(dirname -- "$(readlink -f -- "$0")")")

@@ -10,6 +10,8 @@ mod Rotation
 mod Counts
 mod Gaps
 mod Ways
+mod EarliestSlots
 mod Rounds
 mod WaySearch
 mod RoundSearch
+mod FirstRound

@@ -1,21 +1,17 @@
 -- The steps of the search for the chosen set: the fewest slots of a way, the least first slot and
 -- the least size of a round, and the first round.
-use Rattle.std.proofs.Common.{ℕ, ◌+◌, ◌-◌, ◌<◌, ◌≤◌, ◌≡◌, ◌≢◌, ◌∙◌, min, max, suc, List, [], ◌∷◌}
+use Rattle.std.proofs.Common.{ℕ, ◌+◌, ◌-◌, ◌<◌, ◌≤◌, ◌≡◌, ◌∙◌, min, max, suc, List, [], ◌∷◌}
 use Rattle.std.proofs.Common.{length, Contains, sym, refl, subst, inl, inr, arith}
-use Rattle.std.specs.declared.cmp.Ordering.TheVariants.{Less}
-use Rattle.std.specs.Ordering.{nat_cmp}
-use Rattle.std.specs.Cmp.Lexicographic.{slice_cmp}
 use Rattle.std.proofs.lemmas.Bool.{cases_eq, cases_lt}
 use Rattle.aeth_slots.specs.SlotSet.{Slots, IsSlotSet}
 use Rattle.aeth_slots.specs.Choice.{IsSuitable, subsets, IsChosen}
-use Rattle.aeth_slots.specs.Ways.{IsWay, ReachesWithin, IsEarliest, IsFewest, IsFirstWay}
-use Rattle.aeth_slots.specs.Ways.{AddsFirstWay, IsRound, HasRound, IsLeastSize, IsFirstMember}
-use Rattle.aeth_slots.specs.Ways.{IsFirstRound}
+use Rattle.aeth_slots.specs.Ways.{IsWay, ReachesWithin, IsEarliest, IsFewest}
+use Rattle.aeth_slots.specs.Ways.{IsRound, HasRound, IsLeastSize}
+use Rattle.aeth_slots.specs.Ways.{IsFirstMember, IsFirstRound}
 use Rattle.aeth_slots.proofs.Ways.{exact_from_within, way_nearer, way_end}
 use Rattle.aeth_slots.proofs.ChoiceLemmas.{subsets-itself}
 use Rattle.aeth_slots.proofs.Rounds.{set_of, free_below, round-subset, round-suitable, subset-round}
 use Rattle.aeth_slots.proofs.Rounds.{round-up, round-length}
-use Rattle.aeth_slots.proofs.WaySearch.{not_before-cons}
 
 -- ---- the fewest slots
 
@@ -77,31 +73,6 @@ none_starts free gap more first is ([], round, count) past least = round
 none_starts free gap more first is (start ∷ way, round, count) past least =
     let below = free_below {free = free} is start round.0 in
     omega (arith, least way start round (omega arith))
-
--- ---- the first round
-
--- No round comes before the least first slot with the first way from there.
-round_first : (free : Slots) (gap more first : ℕ) (way : List ℕ) → IsFirstMember free gap more first
-    → IsFirstWay free.slots (first + free.size) gap first more way
-    → (other : List ℕ) → IsRound free gap other → length other ≡ more + 1
-    → slice_cmp nat_cmp other (first ∷ way) ≢ Less
-round_first free gap more first way is first_way [] round count = absurd round
-round_first free gap more first way is first_way (start ∷ other) round count =
-    not_before-cons start first other way (is.least other start round (omega arith))
-    (λ same. first_way.first other
-    (subst (λ (k : ℕ). IsWay free.slots (k + free.size) gap k other) (sym same) round.1)
-    (omega arith))
-
--- The first way from the least first slot makes the first round.
-pub first_round : (free : Slots) (gap more first : ℕ) (new : List ℕ)
-    → IsFirstMember free gap more first
-    → AddsFirstWay free.slots (first + free.size) gap first more (first ∷ []) new
-    → IsFirstRound free gap (more + 1) new
-first_round free gap more first new is (way, joined, first_way) = rw joined (record {
-  round_is = (is.member, first_way.way_is);
-  count_is = omega (arith, first_way.count_is);
-  first = round_first free gap more first way is first_way;
-})
 
 -- ---- the least size
 

@@ -1,6 +1,7 @@
 -- The words of the search for the chosen set: ways over free slots from a slot to an end.
 -- Once round the table is a way from a slot to the same slot one table later.
 use Rattle.std.specs.Prelude.{ℕ, ◌+◌, ◌<◌, ◌≤◌, ◌≡◌, ◌≢◌, List, [], ◌∷◌, ◌++◌, length, Contains}
+use Rattle.std.specs.Prelude.{slice_index}
 use Rattle.std.specs.declared.cmp.Ordering.TheVariants.{Less}
 use Rattle.std.specs.Ordering.{nat_cmp}
 use Rattle.std.specs.Cmp.Lexicographic.{slice_cmp}
@@ -27,6 +28,10 @@ pub record IsEarliest (free : List ℕ) (end gap most slot : ℕ) : Type 0 where
   pub member : Contains free slot
   pub later : (from : ℕ) → Contains free from → slot ≤ from → ReachesWithin free end gap from most
   pub earlier : (from : ℕ) → Contains free from → ReachesWithin free end gap from most → slot ≤ from
+
+-- For each number of slots below a count, the earliest slot over at most so many.
+pub record AreEarliest (free : List ℕ) (end gap count : ℕ) (slots : List ℕ) : Type 0 where
+  pub each : (most : ℕ) → most < count → IsEarliest free end gap most (slice_index slots most)
 
 -- The least free slot after `from` that reaches the end over at most so many slots.
 pub record IsNextOnWay (free : List ℕ) (end gap from most slot : ℕ) : Type 0 where

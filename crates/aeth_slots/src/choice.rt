@@ -2,17 +2,17 @@
 //
 // From a slot to an end, the free slots from which the end is reached over at most so many
 // further slots are those from an earliest one on. The earliest ones are found from the end
-// backwards, each by one look-up, so a choice takes about the square of the table size in steps.
-ghost use Rattle.std.specs.Prelude.{◌≡◌, ◌+◌, ◌-◌, ◌<◌, ◌≤◌, ◌↔◌, [], ◌∷◌, List, ℕ, length, IsTrue};
-ghost use Rattle.std.specs.Prelude.{IsSome, IfSome, IfNone, Contains};
+// backwards, each by one look-up, and any two look-ups go back by more than a gap. So a choice takes
+// a few times the table size in steps.
+ghost use Rattle.std.specs.Prelude.{◌≡◌, ◌+◌, ◌<◌, ◌≤◌, ◌↔◌, ◌∷◌, List, ℕ, IsTrue, Contains};
+ghost use Rattle.std.specs.Prelude.{IsSome, IfSome, IfNone};
 ghost use Rattle.aeth_base.specs.Limits.{max_slots};
-ghost use Rattle.aeth_slots.specs.SlotSet.{IsSlotSet, Ascends};
-ghost use Rattle.aeth_slots.specs.Choice.{IsSuitable, IsChosen, chosen, subsets};
-ghost use Rattle.aeth_slots.specs.Ways.{IsWay, Reaches, ReachesWithin, IsEarliest, IsFewest};
-ghost use Rattle.aeth_slots.specs.Ways.{IsNextOnWay, IsFirstMember, IsLeastSize, AddsFirstWay};
-ghost use Rattle.aeth_slots.specs.Ways.{IsRound, HasRound, StartsWithin, IsFirstRound};
+ghost use Rattle.aeth_slots.specs.Choice.{IsSuitable, IsChosen, chosen};
+ghost use Rattle.aeth_slots.specs.Ways.{AreEarliest, IsFewest, IsFirstMember, IsFirstRound};
+ghost use Rattle.aeth_slots.specs.Ways.{HasRound, IsLeastSize, IsRound, IsWay, StartsWithin};
 
 use crate::SlotSet;
+use aeth_base::MAX_SLOTS;
 
 /// The lexicographically first among the suitable subsets of least size: at least `need` slots,
 /// with no gap above `gap`. There is none exactly where the whole free set isn't suitable.
@@ -101,50 +101,40 @@ fn first_round(free: &SlotSet, gap: u32, first: u32, more: u32) -> SlotSet
     let size = free.size();
     let mut set = SlotSet::empty(size);
     set.insert(first);
-    add_way(free, first + size, gap, first, more, &mut set);
+    let Some(earliest) = earliest_slots(free, first + size, gap, more) else {
+        return set;
+    };
+    let mut from = first;
+    let mut left = more;
+    while left > 0 {
+        left -= 1;
+        let Some(next) = free.at_or_after(earliest[left as usize].max(from + 1)) else {
+            return set;
+        };
+        set.insert(next);
+        from = next;
+    }
     set
 }
 
-/// Adds the lexicographically first way from a slot to the end over `count` slots.
-fn add_way(free: &SlotSet, end: u32, gap: u32, from: u32, count: u32, set: &mut SlotSet)
-    requires set { IsSlotSet free.now }
-    requires end { free.now.size ≤ end }
-    requires from { Contains free.now.slots from }
-    requires reaches { Reaches free.now.slots end gap from count }
-    requires size { set.old.size ≡ free.now.size }
-    requires below { Ascends 0 (from + 1) set.old.slots }
-    ensures size { set.new.size ≡ set.old.size }
-    ensures way { AddsFirstWay free.now.slots end gap from count set.old.slots set.new.slots }
-{
-    if count == 0 {
-        return;
-    }
-    if let Some(next) = next_slot(free, end, gap, from, count - 1) {
-        set.insert(next);
-        add_way(free, end, gap, next, count - 1, set);
-    }
-}
-
-/// The least free slot after `from` from which the end is reached over at most `more` slots.
-fn next_slot(free: &SlotSet, end: u32, gap: u32, from: u32, more: u32) -> Option<u32>
-    requires { from < max_slots }
-    ensures some { IfSome result (IsNextOnWay free.now.slots end gap from more) }
-    ensures none { IfNone result ((slot : ℕ) → Contains free.now.slots slot → from < slot
-        → ReachesWithin free.now.slots end gap slot more → ⊥) }
-{
-    let earliest = earliest(free, end, gap, more)?;
-    free.at_or_after(earliest.max(from + 1))
-}
-
-/// The free slot from which on each one reaches the end over at most `most` slots.
-fn earliest(free: &SlotSet, end: u32, gap: u32, most: u32) -> Option<u32>
-    ensures some { IfSome result (IsEarliest free.now.slots end gap most) }
-    ensures none { IfNone result ((from : ℕ) → Contains free.now.slots from
-        → ReachesWithin free.now.slots end gap from most → ⊥) }
+/// For each number of slots below a count, the free slot from which on each one reaches the end
+/// over at most so many. There are none where no free slot reaches it.
+fn earliest_slots(
+    free: &SlotSet,
+    end: u32,
+    gap: u32,
+    count: u32,
+) -> Option<[u32; MAX_SLOTS as usize]>
+    requires { count ≤ max_slots }
+    ensures some { IfSome result (AreEarliest free.now.slots end gap count) }
+    ensures none { IfNone result ((way : List ℕ) (from : ℕ) → Contains free.now.slots from
+        → IsWay free.now.slots end gap from way → ⊥) }
 {
     let mut earliest = free.at_or_after(end.saturating_sub(gap))?;
-    for _more in 0..most {
+    let mut slots = [0; MAX_SLOTS as usize];
+    for most in 0..count {
+        slots[most as usize] = earliest;
         earliest = free.at_or_after(earliest.saturating_sub(gap))?;
     }
-    Some(earliest)
+    Some(slots)
 }

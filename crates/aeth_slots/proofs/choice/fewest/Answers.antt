@@ -1,5 +1,6 @@
 use Rattle.std.proofs.Common.{◌+◌, ◌-◌, ◌∙◌, ap, arith}
-use Rattle.aeth_slots.proofs.Ways.{none_near, earliest_none, earliest_more, way_short}
+use Rattle.aeth_slots.proofs.EarliestSlots.{none_near, earliest_none, earliest_more}
+use Rattle.aeth_slots.proofs.Ways.{way_short}
 use Rattle.aeth_slots.proofs.Rounds.{free_below}
 use Rattle.aeth_slots.proofs.RoundSearch.{fewest_more}
 use Rattle.aeth_slots.proofs.choice.fewest.Goals as goal
