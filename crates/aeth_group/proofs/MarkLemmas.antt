@@ -14,38 +14,38 @@ use Rattle.std.proofs.lemmas.List.Sums.{sum_by-set}
 use Rattle.std.proofs.lemmas.Option.{slice_get-get_or}
 use Rattle.aeth_base.proofs.Lists.{slice_get-slice_set_same, slice_get-slice_set_other}
 use Rattle.aeth_app.specs.App.{is_marked}
-use Rattle.aeth_group.specs.declared.closing.TheConstants.{PLACES, SIZE}
+use Rattle.aeth_app.specs.Limits.{max_uses}
 use Rattle.aeth_group.specs.Marks.{Extends, LeadsOver}
-use Rattle.aeth_group.specs.Marks.{Spreads, marked, place_of, unmarked, with_mark}
+use Rattle.aeth_group.specs.Marks.{Spreads, marked, place_of, places, unmarked, with_mark}
 
 -- ---- one more mark
 
 -- A marked pair lies in the table.
 record IsMarked (marks : List Bool) (u v : ℕ) : Type 0 where
-  first : u < SIZE
-  second : v < SIZE
+  first : u < max_uses
+  second : v < max_uses
   is : is_marked marks (place_of u v) ≡ true
 
 marked_parts : (marks : List Bool) (u v : ℕ) → marked marks u v ≡ true → IsMarked marks u v
 marked_parts marks u v is =
-    let outer = and_parts (ltb u SIZE && ltb v SIZE) (is_marked marks (place_of u v)) is in
-    let inner = and_parts (ltb u SIZE) (ltb v SIZE) outer.0 in
+    let outer = and_parts (ltb u max_uses && ltb v max_uses) (is_marked marks (place_of u v)) is in
+    let inner = and_parts (ltb u max_uses) (ltb v max_uses) outer.0 in
     record {
-      first = ltb-true u SIZE inner.0;
-      second = ltb-true v SIZE inner.1;
+      first = ltb-true u max_uses inner.0;
+      second = ltb-true v max_uses inner.1;
       is = outer.1;
     }
 
 marked_from : (marks : List Bool) (u v : ℕ) → IsMarked marks u v → marked marks u v ≡ true
 marked_from marks u v is =
-    and_from _ _ (and_from _ _ (lt-ltb u SIZE is.first) (lt-ltb v SIZE is.second)) is.is
+    and_from _ _ (and_from _ _ (lt-ltb u max_uses is.first) (lt-ltb v max_uses is.second)) is.is
 
 -- A marked pair lies in a row of the table.
-pub marked_first : (marks : List Bool) (u v : ℕ) → marked marks u v ≡ true → u < SIZE
+pub marked_first : (marks : List Bool) (u v : ℕ) → marked marks u v ≡ true → u < max_uses
 marked_first marks u v is = (marked_parts marks u v is).first
 
 -- A marked pair lies in a column of the table.
-pub marked_second : (marks : List Bool) (u v : ℕ) → marked marks u v ≡ true → v < SIZE
+pub marked_second : (marks : List Bool) (u v : ℕ) → marked marks u v ≡ true → v < max_uses
 marked_second marks u v is = (marked_parts marks u v is).second
 
 -- Nothing is marked in a list without marks.
@@ -55,20 +55,20 @@ is_marked-none (suc count) zero = refl
 is_marked-none (suc count) (suc place) = is_marked-none count place
 
 -- No pair is marked in a table without marks.
-pub marked-none : (u v : ℕ) → marked (replicate PLACES false) u v ≡ false
-marked-none u v = and_right _ _ (is_marked-none PLACES (place_of u v))
+pub marked-none : (u v : ℕ) → marked (replicate places false) u v ≡ false
+marked-none u v = and_right _ _ (is_marked-none places (place_of u v))
 
 -- A pair in the table is marked where its place is.
-pub marked-at_place : (marks : List Bool) (u v : ℕ) (default : Bool) → length marks ≡ PLACES
-    → u < SIZE → v < SIZE → get_or marks (place_of u v) default ≡ marked marks u v
+pub marked-at_place : (marks : List Bool) (u v : ℕ) (default : Bool) → length marks ≡ places
+    → u < max_uses → v < max_uses → get_or marks (place_of u v) default ≡ marked marks u v
 marked-at_place marks u v default long first second =
     let at = ap (λ o. unwrap_or o false)
     (slice_get-get_or marks (place_of u v) default (omega arith)) in
-    rw (lt-ltb u SIZE first, lt-ltb v SIZE second) (sym at)
+    rw (lt-ltb u max_uses first, lt-ltb v max_uses second) (sym at)
 
 -- The pair is marked now.
-pub marked-with_mark_same : (marks : List Bool) (u v : ℕ) → length marks ≡ PLACES → u < SIZE
-    → v < SIZE → marked (with_mark marks u v) u v ≡ true
+pub marked-with_mark_same : (marks : List Bool) (u v : ℕ) → length marks ≡ places → u < max_uses
+    → v < max_uses → marked (with_mark marks u v) u v ≡ true
 marked-with_mark_same marks u v long first second = marked_from (with_mark marks u v) u v (record {
   first = first;
   second = second;
@@ -83,8 +83,8 @@ is_marked-other marks place other apart =
     ap (λ o. unwrap_or o false) (slice_get-slice_set_other marks place other true apart)
 
 -- A marked pair stays marked.
-pub marked-with_mark_kept : (marks : List Bool) (u v a b : ℕ) → length marks ≡ PLACES → u < SIZE
-    → v < SIZE → marked marks a b ≡ true → marked (with_mark marks u v) a b ≡ true
+pub marked-with_mark_kept : (marks : List Bool) (u v a b : ℕ) → length marks ≡ places → u < max_uses
+    → v < max_uses → marked marks a b ≡ true → marked (with_mark marks u v) a b ≡ true
 marked-with_mark_kept marks u v a b long first second is =
     let old = marked_parts marks a b is in
     let low = old.first in
@@ -105,7 +105,7 @@ marked-with_mark_kept marks u v a b long first second is =
     ]
 
 -- A pair that is marked now was marked before, or is the new one.
-pub marked-with_mark_cases : (marks : List Bool) (u v a b : ℕ) → u < SIZE → v < SIZE
+pub marked-with_mark_cases : (marks : List Bool) (u v a b : ℕ) → u < max_uses → v < max_uses
     → marked (with_mark marks u v) a b ≡ true
     → (marked marks a b ≡ true) ⊎ ((a ≡ u) × (b ≡ v))
 marked-with_mark_cases marks u v a b first second is =
@@ -123,13 +123,13 @@ marked-with_mark_cases marks u v a b first second is =
 
 -- A table is as long as it becomes with one more mark.
 pub length-before : (old new : List Bool) (u v : ℕ) → new ≡ with_mark old u v
-    → length new ≡ PLACES → length old ≡ PLACES
+    → length new ≡ places → length old ≡ places
 length-before old new u v is long =
     sym (length-set old (place_of u v) true) ∙ ap length (sym is) ∙ long
 
 -- The table lacks one mark fewer.
-pub unmarked-with_mark : (marks : List Bool) (u v : ℕ) → length marks ≡ PLACES → u < SIZE
-    → v < SIZE → marked marks u v ≡ false → unmarked (with_mark marks u v) < unmarked marks
+pub unmarked-with_mark : (marks : List Bool) (u v : ℕ) → length marks ≡ places → u < max_uses
+    → v < max_uses → marked marks u v ≡ false → unmarked (with_mark marks u v) < unmarked marks
 unmarked-with_mark marks u v long first second is =
     let place = place_of u v in
     let lack : Bool → ℕ = λ mark. cond (not mark) 1 0 in
@@ -157,7 +157,7 @@ extends-then a b c first second = record {
 }
 
 -- A pair to which two marks lead was marked.
-extends-with_mark : (marks : List Bool) (u w v : ℕ) → length marks ≡ PLACES → u < SIZE → v < SIZE
+extends-with_mark : (marks : List Bool) (u w v : ℕ) → length marks ≡ places → u < max_uses → v < max_uses
     → marked marks u w ≡ true → marked marks w v ≡ true → Extends marks (with_mark marks u v)
 extends-with_mark marks u w v long first second to onward = record {
   kept = λ a b is. marked-with_mark_kept marks u v a b long first second is;
@@ -206,7 +206,7 @@ leading-start marks u w is = record {
 
 -- One more that was marked.
 pub leading-mark : (old new : List Bool) (added : Bool) (u w v next : ℕ)
-    → Leading old new added u w v → length new ≡ PLACES → u < SIZE → v < SIZE
+    → Leading old new added u w v → length new ≡ places → u < max_uses → v < max_uses
     → marked new w v ≡ true → marked new u v ≡ false
     → Leading old (with_mark new u v) true u w next
 leading-mark old new added u w v next before long first second onward lacks =
@@ -234,7 +234,7 @@ leading-skip old new added u w v before needless = record {
 
 -- After the last.
 pub leading-end : (old new : List Bool) (added : Bool) (u w bound : ℕ)
-    → Leading old new added u w bound → SIZE ≤ bound → OnFalse added (LeadsOver new u w)
+    → Leading old new added u w bound → max_uses ≤ bound → OnFalse added (LeadsOver new u w)
 leading-end old new added u w bound all last = OnFalse_from added _ (λ none v to onward.
     let within = (marked_parts new w v onward).second in
     OnFalse_at none all.led v (omega arith) onward)

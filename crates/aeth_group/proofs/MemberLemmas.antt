@@ -7,7 +7,7 @@ use Rattle.std.proofs.lemmas.Bool.{and_from, and_parts, eq-eqb, eqb-true}
 use Rattle.std.proofs.lemmas.List.FromFn.{get_or-map-range_with_len, length-map-range_with_len}
 use Rattle.std.proofs.lemmas.Option.{slice_get-get_or}
 use Rattle.aeth_app.specs.App.{AppData, UseData, has_connection, is_marked}
-use Rattle.aeth_app.specs.declared.app.TheConstants.{MAX_CONNECTIONS, MAX_USES}
+use Rattle.aeth_app.specs.Limits.{max_connections, max_uses}
 use Rattle.aeth_group.specs.Groups.{group_count, group_of}
 use Rattle.aeth_group.specs.Members.{IsGroups, UseGroupData, are_together, group_at, group_in}
 use Rattle.aeth_group.specs.Members.{groups_of, has_at, is_kept, is_member, use_group, use_has}
@@ -46,8 +46,8 @@ unfolding groups_of
 count-groups_of app = refl
 
 -- What holds of all groups holds of those of an application within its limits.
-pub is_groups-groups_of : (app : AppData) → length app.connections ≤ MAX_CONNECTIONS
-    → length app.uses ≤ MAX_USES → IsGroups (groups_of app)
+pub is_groups-groups_of : (app : AppData) → length app.connections ≤ max_connections
+    → length app.uses ≤ max_uses → IsGroups (groups_of app)
 unfolding groups_of
 is_groups-groups_of app connections uses =
     let few = group_count-le app.uses in

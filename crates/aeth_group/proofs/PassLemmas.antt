@@ -4,8 +4,9 @@ use Rattle.std.proofs.Common.{replicate, sym, ap, subst, inl, inr, arith}
 use Rattle.std.specs.Bool.{OnFalse}
 use Rattle.std.proofs.lemmas.Bool.{cases_eq, cases_lt, false≢true, OnFalse_at, OnFalse_from}
 use Rattle.aeth_app.specs.App.{UseData}
-use Rattle.aeth_group.specs.declared.closing.TheConstants.{PLACES, SIZE}
-use Rattle.aeth_group.specs.Marks.{IsPair, IsTransitive, LeadsOver, Spreads, marked, with_mark}
+use Rattle.aeth_app.specs.Limits.{max_uses}
+use Rattle.aeth_group.specs.Marks.{IsPair, IsTransitive, LeadsOver, Spreads, marked, places}
+use Rattle.aeth_group.specs.Marks.{with_mark}
 use Rattle.aeth_group.proofs.MarkLemmas.{marked-none, marked-with_mark_cases}
 use Rattle.aeth_group.proofs.MarkLemmas.{marked-with_mark_kept, marked-with_mark_same}
 use Rattle.aeth_group.proofs.MarkLemmas.{marked_first, marked_second, spreads-both, spreads-refl}
@@ -61,7 +62,7 @@ passing-none old new next added u w before kept leads =
 
 -- After a row.
 pub passing-row : (old new : List Bool) (added : Bool) (u w : ℕ) → Passing old new added u w
-    → SIZE ≤ w → Passing old new added (u + 1) 0
+    → max_uses ≤ w → Passing old new added (u + 1) 0
 unfolding IsBefore
 passing-row old new added u w row last = record {
   spreads = row.spreads;
@@ -78,7 +79,7 @@ passing-row old new added u w row last = record {
 
 -- After the last row.
 pub passing-end : (old new : List Bool) (added : Bool) (u : ℕ) → Passing old new added u 0
-    → SIZE ≤ u → OnFalse added (IsTransitive (marked new))
+    → max_uses ≤ u → OnFalse added (IsTransitive (marked new))
 unfolding IsBefore
 passing-end old new added u all last = OnFalse_from added _ (λ none a b v to onward.
     let within = marked_first new a b to in
@@ -92,7 +93,7 @@ pub record Pairing (uses : List UseData) (marks : List Bool) (u v : ℕ) : Type 
   pub each : (a b : ℕ) → IsPair uses a b → IsBefore u v a b → marked marks a b ≡ true
 
 -- Before the first pair.
-pub pairing-start : (uses : List UseData) → Pairing uses (replicate PLACES false) 0 0
+pub pairing-start : (uses : List UseData) → Pairing uses (replicate places false) 0 0
 unfolding IsBefore
 pairing-start uses = record {
   only = λ a b is. absurd (false≢true (sym (marked-none a b) ∙ is));
@@ -102,7 +103,7 @@ pairing-start uses = record {
 
 -- One more pair, which was marked.
 pub pairing-mark : (uses : List UseData) (marks : List Bool) (u v : ℕ) → Pairing uses marks u v
-    → length marks ≡ PLACES → u < SIZE → v < SIZE → IsPair uses u v
+    → length marks ≡ places → u < max_uses → v < max_uses → IsPair uses u v
     → Pairing uses (with_mark marks u v) u (v + 1)
 unfolding IsBefore
 pairing-mark uses marks u v before long first second pair = record {

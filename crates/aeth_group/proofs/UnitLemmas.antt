@@ -12,7 +12,7 @@ use Rattle.std.proofs.lemmas.List.Sums.{length-filter}
 use Rattle.aeth_base.specs.declared.ids.Unit.{Unit as GroupUnit}
 use Rattle.aeth_base.proofs.Members.{Contains-cases, Contains-filter, Contains-here, Contains-map}
 use Rattle.aeth_base.proofs.Members.{Contains-nil, Contains-there, filter-Contains, map-Contains}
-use Rattle.aeth_app.specs.declared.app.TheConstants.{MAX_USES}
+use Rattle.aeth_app.specs.Limits.{max_uses}
 use Rattle.aeth_group.specs.Members.{GroupsData, is_member, units_of, units_with}
 use Rattle.aeth_base.proofs.Ranges.{range_with_len-more}
 
@@ -104,7 +104,7 @@ length-units_with groups c =
 -- The units of the first so many connections, in number.
 pub record UnitsBefore (groups : GroupsData) (c units : ℕ) : Type 0 where
   pub is : units ≡ length (flat_map (units_with groups) (range_with_len 0 c))
-  pub few : units ≤ MAX_USES * c
+  pub few : units ≤ max_uses * c
 
 -- None yet.
 pub units-start : (groups : GroupsData) → UnitsBefore groups 0 0
@@ -113,7 +113,7 @@ units-start groups = record { is = refl; few = omega arith }
 -- One more connection.
 pub units-more : (groups : GroupsData) (c units more : ℕ) → UnitsBefore groups c units
     → more ≡ count_by (λ g. is_member groups g c) (range_with_len 0 groups.count)
-    → more ≤ groups.count → groups.count ≤ MAX_USES → UnitsBefore groups (c + 1) (units + more)
+    → more ≤ groups.count → groups.count ≤ max_uses → UnitsBefore groups (c + 1) (units + more)
 units-more groups c units more before is within most =
     let all = flat_map (units_with groups) (range_with_len 0 c) in
     let longer : length (flat_map (units_with groups) (range_with_len 0 (suc c)))

@@ -1,6 +1,6 @@
 -- Tables of marks, a mark for each pair of use cases, row by row, and their closing.
 --
---   place_of      the place of a pair in a table
+--   places, place_of      how many places a table has, and that of a pair
 --   marked, with_mark, unmarked      whether a pair is marked, a table with one more mark, and how
 --                                    many marks a table lacks
 --   IsTransitive, IsWithin, LeadsOver      what tests and tables may have
@@ -12,15 +12,19 @@ use Rattle.std.specs.Prelude.{◌≡◌, ◌<◌, ◌+◌, ◌*◌, ◌⊎◌, �
 use Rattle.std.specs.Prelude.{IsTrue, length, count_by, slice_set}
 use Rattle.std.specs.Bool.{OnFalse, OnTrue}
 use Rattle.aeth_app.specs.App.{UseData, is_marked, is_smooth}
-use Rattle.aeth_group.specs.declared.closing.TheConstants.{SIZE}
+use Rattle.aeth_app.specs.Limits.{max_uses}
+
+-- How many places a table has.
+abbrev pub places : ℕ
+places = max_uses * max_uses
 
 -- The place of a pair in a table.
 abbrev pub place_of : ℕ → ℕ → ℕ
-place_of u v = SIZE * u + v
+place_of u v = max_uses * u + v
 
 -- Whether a pair is marked; one outside of the table isn't.
 abbrev pub marked : List Bool → ℕ → ℕ → Bool
-marked marks u v = nat_lt u SIZE && nat_lt v SIZE && is_marked marks (place_of u v)
+marked marks u v = nat_lt u max_uses && nat_lt v max_uses && is_marked marks (place_of u v)
 
 -- The table with one more pair marked.
 abbrev pub with_mark : List Bool → ℕ → ℕ → List Bool

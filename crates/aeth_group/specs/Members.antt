@@ -14,7 +14,7 @@ use Rattle.std.specs.Prelude.{length, map, filter, flat_map, slice_get}
 use Rattle.std.specs.List.{list_any, range_with_len}
 use Rattle.aeth_base.specs.declared.ids.Unit.{Unit as GroupUnit}
 use Rattle.aeth_app.specs.App.{AppData, has_connection, is_marked}
-use Rattle.aeth_app.specs.declared.app.TheConstants.{MAX_CONNECTIONS, MAX_USES}
+use Rattle.aeth_app.specs.Limits.{max_connections, max_uses}
 use Rattle.aeth_group.specs.Groups.{group_count, group_of}
 
 -- A use case's group, and for each connection whether the use case has it.
@@ -46,9 +46,9 @@ groups_of app = record {
 
 -- What holds of all groups.
 pub record IsGroups (groups : GroupsData) : Type 0 where
-  pub connections : groups.connections ≤ MAX_CONNECTIONS
-  pub count : groups.count ≤ MAX_USES
-  pub uses : length groups.uses ≤ MAX_USES
+  pub connections : groups.connections ≤ max_connections
+  pub count : groups.count ≤ max_uses
+  pub uses : length groups.uses ≤ max_uses
   pub below : All (λ one. one.group < groups.count) groups.uses
 
 -- The group of a use case, which may be missing.

@@ -1,9 +1,10 @@
 // Which use cases chains of smooth pairs join: a table of marks that is closed by marking.
 ghost use Rattle.std.specs.Prelude.{◌≡◌, ◌<◌, ℕ, false, replicate, IsTrue, length};
 ghost use Rattle.std.specs.Bool.{OnFalse};
+ghost use Rattle.aeth_app.specs.Limits.{max_uses};
 ghost use Rattle.aeth_group.specs.Groups.{in_one_group};
 ghost use Rattle.aeth_group.specs.Marks.{IsClosure, IsPair, IsTransitive, LeadsOver, Spreads};
-ghost use Rattle.aeth_group.specs.Marks.{marked, place_of, with_mark};
+ghost use Rattle.aeth_group.specs.Marks.{marked, place_of, places, with_mark};
 
 use aeth_app::{App, MAX_USES};
 use aeth_base::UseId;
@@ -69,8 +70,8 @@ fn pass(marks: &mut Marks) -> bool
 /// Marks a use case with all that a second is marked with, where it is marked with this. Whether a
 /// mark was added.
 fn lead_over(marks: &mut Marks, u: usize, w: usize) -> bool
-    requires first { u < SIZE }
-    requires second { w < SIZE }
+    requires first { u < max_uses }
+    requires second { w < max_uses }
     ensures spreads { Spreads marks.old marks.new result }
     ensures led { OnFalse result (LeadsOver marks.new u w) }
 {
@@ -89,25 +90,25 @@ fn lead_over(marks: &mut Marks, u: usize, w: usize) -> bool
 
 /// A table without marks.
 pub(crate) fn no_marks() -> Marks
-    ensures { result ≡ replicate PLACES false }
+    ensures { result ≡ replicate places false }
 {
     [false; PLACES]
 }
 
 /// The place of a pair in a table.
 fn place_of(u: usize, v: usize) -> usize
-    requires first { u < SIZE }
-    requires second { v < SIZE }
+    requires first { u < max_uses }
+    requires second { v < max_uses }
     ensures place { result ≡ place_of u v }
-    ensures within { result < PLACES }
+    ensures within { result < places }
 {
     SIZE * u + v
 }
 
 /// Whether a pair is marked.
 pub(crate) fn marked(marks: &Marks, u: usize, v: usize) -> bool
-    requires first { u < SIZE }
-    requires second { v < SIZE }
+    requires first { u < max_uses }
+    requires second { v < max_uses }
     ensures { result ≡ marked marks.now u v }
 {
     marks[place_of(u, v)]
@@ -115,8 +116,8 @@ pub(crate) fn marked(marks: &Marks, u: usize, v: usize) -> bool
 
 /// Marks a pair.
 pub(crate) fn mark(marks: &mut Marks, u: usize, v: usize)
-    requires first { u < SIZE }
-    requires second { v < SIZE }
+    requires first { u < max_uses }
+    requires second { v < max_uses }
     ensures { marks.new ≡ with_mark marks.old u v }
 {
     marks[place_of(u, v)] = true;

@@ -2,13 +2,14 @@
 ghost use Rattle.std.specs.Prelude.{◌≡◌, ◌<◌, ◌≤◌, IfOk, count_by, length, map};
 ghost use Rattle.std.specs.List.{range_with_len};
 ghost use Rattle.aeth_app.specs.App.{has_connection, is_marked};
+ghost use Rattle.aeth_app.specs.Limits.{max_uses};
 ghost use Rattle.aeth_group.specs.AppGroups.{IsGroupsOf};
 ghost use Rattle.aeth_group.specs.Members.{IsGroups, are_together, group_at, groups_of, has_at};
 ghost use Rattle.aeth_group.specs.Members.{has_unit, is_kept, is_member, units_of};
 
 use crate::closing::chained;
 use crate::numbering::{class_of, firsts_below};
-use aeth_app::{App, MAX_USES};
+use aeth_app::App;
 use aeth_base::{ConnId, GroupId, NoMemory, Unit, UseId};
 use std::alloc::Global;
 use std::marker::Model;
@@ -118,7 +119,7 @@ impl Groups {
     /// The number of use cases.
     pub fn uses(&self) -> u32
         ensures uses { result ≡ length self.now.uses }
-        ensures most { result ≤ MAX_USES }
+        ensures most { result ≤ max_uses }
     {
         self.uses.len() as u32
     }
