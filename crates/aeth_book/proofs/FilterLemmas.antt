@@ -1,0 +1,119 @@
+-- Laws of filters and of ranges, and the greatest of a list with one more number.
+use Rattle.std.proofs.Common.{◌≡◌, ◌∙◌, ◌<◌, ◌+◌, ◌++◌, ◌&&◌, ◌||◌, ℕ}
+use Rattle.std.proofs.Common.{Bool, true, false, cond, max, List, [], ◌∷◌, length}
+use Rattle.std.proofs.Common.{Contains, get_or, refl, ap, arith, filter}
+use Rattle.std.proofs.Common.{take, suc}
+use Rattle.std.specs.List.{list_any, range_with_len}
+use Rattle.std.specs.Ordering.{nat_cmp, ord_max}
+use Rattle.std.proofs.lemmas.Bool.Decides.{nat_tests}
+use Rattle.std.proofs.lemmas.List.{append-nil, take_more}
+use Rattle.std.proofs.lemmas.List.Elements.{filter-append}
+use Rattle.aeth_base.proofs.Ranges.{range_with_len-more}
+use Rattle.aeth_slots.specs.SlotSet.{greatest}
+use Rattle.aeth_slots.proofs.Ascending.{Ascends-bounds}
+use Rattle.aeth_base.proofs.Members.{Contains-here, Contains-there}
+use Rattle.aeth_slots.proofs.TestLemmas.{Ascends-slots}
+
+-- What one filter leaves, another filters.
+pub filter_twice : {X : Type 0} (first second both : X → Bool) (xs : List X)
+    → ((x : X) → Contains xs x → (first x && second x) ≡ both x)
+    → filter second (filter first xs) ≡ filter both xs
+filter_twice first second both [] same = refl
+filter_twice {X} first second both (x ∷ xs) same =
+    let rest : filter second (filter first xs) ≡ filter both xs =
+    filter_twice first second both xs (λ y has. same y (Contains-there x xs y has)) in
+    let cases : (a b : Bool) → (a ≡ first x) → (b ≡ second x)
+    → filter second (cond a (x ∷ filter first xs) (filter first xs))
+    ≡ cond (a && b) (x ∷ filter both xs) (filter both xs) =
+    elim [
+      | true ↦ λ b is_first is_second.
+          rw (← is_second) (ap (λ ys. cond b (x ∷ ys) ys) rest)
+      | false ↦ λ b is_first is_second. rest
+    ]
+    in rw (← same x (Contains-here x xs)) (cases (first x) (second x) refl refl)
+
+-- Tests that agree on a list leave the same of it.
+pub filter_same : {X : Type 0} (first second : X → Bool) (xs : List X)
+    → ((x : X) → Contains xs x → first x ≡ second x) → filter first xs ≡ filter second xs
+filter_same first second [] same = refl
+filter_same first second (x ∷ xs) same =
+    let rest : filter first xs ≡ filter second xs =
+    filter_same first second xs (λ y has. same y (Contains-there x xs y has)) in
+    rw (same x (Contains-here x xs)) (ap (λ ys. cond (second x) (x ∷ ys) ys) rest)
+
+-- A test that none passes leaves nothing.
+pub filter_all_out : {X : Type 0} (test : X → Bool) (xs : List X)
+    → ((x : X) → Contains xs x → test x ≡ false) → filter test xs ≡ []
+filter_all_out test [] fails = refl
+filter_all_out test (x ∷ xs) fails =
+    rw (fails x (Contains-here x xs))
+    (filter_all_out test xs (λ y is_in. fails y (Contains-there x xs y is_in)))
+
+-- One more element that passes, and one that doesn't.
+pub filter-push : {X : Type 0} (test : X → Bool) (xs : List X) (x : X) → test x ≡ true
+    → filter test (xs ++ x ∷ []) ≡ filter test xs ++ x ∷ []
+filter-push test xs x passes =
+    filter-append test xs (x ∷ [])
+    ∙ ap (λ b. filter test xs ++ cond b (x ∷ []) []) passes
+
+pub filter-skip : {X : Type 0} (test : X → Bool) (xs : List X) (x : X) → test x ≡ false
+    → filter test (xs ++ x ∷ []) ≡ filter test xs
+filter-skip test xs x fails =
+    filter-append test xs (x ∷ [])
+    ∙ ap (λ b. filter test xs ++ cond b (x ∷ []) []) fails ∙ append-nil (filter test xs)
+
+-- A test that all pass leaves the list.
+pub filter_none : (xs : List ℕ) → filter (λ x. true) xs ≡ xs
+filter_none [] = refl
+filter_none (x ∷ xs) = ap (λ ys. x ∷ ys) (filter_none xs)
+
+pub filter-same-more : (test : ℕ → Bool) (row : List ℕ) (i : ℕ) → i < length row
+    → test (get_or row i 0) ≡ false → filter test (take (i + 1) row) ≡ filter test (take i row)
+filter-same-more test row i within fails =
+    ap (filter test) (take_more row i 0 within)
+    ∙ filter-skip test (take i row) (get_or row i 0) fails
+
+-- What passes one test of the elements that pass another.
+pub any-filter : {X : Type 0} (first second : X → Bool) (xs : List X)
+    → list_any second (filter first xs) ≡ list_any (λ x. first x && second x) xs
+any-filter first second [] = refl
+any-filter {X} first second (x ∷ xs) =
+    let rest : list_any second (filter first xs) ≡ list_any (λ y. first y && second y) xs =
+    any-filter first second xs in
+    let cases : (a : Bool) → a ≡ first x
+    → list_any second (cond a (x ∷ filter first xs) (filter first xs))
+    ≡ ((a && second x) || list_any (λ y. first y && second y) xs) =
+    elim [
+      | true ↦ λ is. ap (λ b. second x || b) rest
+      | false ↦ λ is. rest
+    ]
+    in cases (first x) refl
+
+-- A number of a range is below its end.
+pub in_range : (count u : ℕ) → Contains (range_with_len 0 count) u → u < count
+in_range count u is_in = (Ascends-bounds 0 count _ (Ascends-slots count) u is_in).1
+
+-- One more number of a range passes a test, or fails it.
+pub range-passes : (test : ℕ → Bool) (u : ℕ) → test u ≡ true
+    → filter test (range_with_len 0 (u + 1)) ≡ filter test (range_with_len 0 u) ++ u ∷ []
+range-passes test u passes =
+    let next : u + 1 ≡ suc u = omega arith in
+    ap (λ n. filter test (range_with_len 0 n)) next
+    ∙ ap (filter test) (range_with_len-more 0 u u (omega arith))
+    ∙ filter-push test (range_with_len 0 u) u passes
+
+pub range-fails : (test : ℕ → Bool) (u : ℕ) → test u ≡ false
+    → filter test (range_with_len 0 (u + 1)) ≡ filter test (range_with_len 0 u)
+range-fails test u fails =
+    let next : u + 1 ≡ suc u = omega arith in
+    ap (λ n. filter test (range_with_len 0 n)) next
+    ∙ ap (filter test) (range_with_len-more 0 u u (omega arith))
+    ∙ filter-skip test (range_with_len 0 u) u fails
+
+-- The greater of two numbers, as `max` answers it.
+pub ord_max-nat : (a b : ℕ) → ord_max nat_cmp a b ≡ max a b
+ord_max-nat a b = grind (arith, nat_tests)
+
+pub greatest-push : (xs : List ℕ) (x : ℕ) → greatest (xs ++ x ∷ []) ≡ max (greatest xs) x
+greatest-push [] x = omega arith
+greatest-push (y ∷ xs) x = let rest = greatest-push xs x in omega (arith, rest)

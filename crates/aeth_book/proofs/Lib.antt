@@ -1,0 +1,6 @@
+pub mod FilterLemmas
+mod TableLemmas
+pub mod FreeLemmas
+pub mod UseLemmas
+pub mod StartLemmas
+mod BookLemmas
