@@ -6,7 +6,7 @@ use Rattle.std.specs.List.{flat_map, join_with_byte}
 use Rattle.std.specs.Prelude.{slice_get, IfSome}
 use Rattle.std.proofs.lemmas.List.{flat_map_more, map-id, take_more}
 use Rattle.std.proofs.lemmas.Option.{slice_get_cases}
-use Rattle.aeth_cli.specs.Words.{comma}
+use Rattle.aeth_text.specs.Limits.{comma}
 use Rattle.aeth_cli.specs.Text.{list_text}
 
 -- What is joined by a byte is the first piece, and then the byte and a piece for each other one.

@@ -11,7 +11,8 @@ use Rattle.std.proofs.lemmas.List.{at_drop_more, at_drop_all}
 use Rattle.std.proofs.lemmas.Option.{none-some, option_and_then_some, same_Some}
 use Rattle.aeth_slots.specs.SlotSet.{Slots}
 use Rattle.aeth_base.specs.Number.{number_of}
-use Rattle.aeth_cli.specs.Words.{comma, bounded, number_within, rising_slots, slot_set_of}
+use Rattle.aeth_text.specs.Limits.{comma}
+use Rattle.aeth_cli.specs.Words.{bounded, number_within, rising_slots, slot_set_of}
 
 -- After some of the pieces their slots are read, and the next one is at least the least.
 pub record IsReadSoFar (size : ℕ) (pieces : List (List ℕ)) (count least : ℕ) (slots : List ℕ)

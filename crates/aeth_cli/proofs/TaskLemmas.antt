@@ -7,8 +7,8 @@ use Rattle.aeth_io.specs.Causes.{Rose}
 use Rattle.aeth_cli.specs.Job.{Job}
 use Rattle.aeth_cli.specs.Places.{Files}
 use Rattle.aeth_cli.specs.Status.{read_fault_status, usage_status}
-use Rattle.aeth_cli.specs.Stop.{Leads}
-use Rattle.aeth_cli.specs.Task.{IsAnswer, OnTold, Reaches, Task, ends}
+use Rattle.aeth_cli.specs.Stop.{Leaves}
+use Rattle.aeth_cli.specs.Task.{IsAnswer, OnTold, ComesToRead, Task, ends}
 use Rattle.aeth_cli.specs.Task.{job_with, read_fault, reads, told}
 
 -- A task that is at its end is answered by its job.
@@ -62,12 +62,12 @@ reached_next None bytes Reached read reached = (bytes, reached)
 reached_next (Some held) bytes Reached read reached = subst Reached (read held refl) reached
 
 -- Once a file was read, over the same contents, what comes next of its bytes is left.
-pub Leads-reads : (old now : Files) (file name : List ℕ) (next : List ℕ → Task) (bytes : List ℕ)
+pub Leaves-reads : (old now : Files) (file name : List ℕ) (next : List ℕ → Task) (bytes : List ℕ)
     → ((other : List ℕ) → old.faults other ≤ now.faults other)
     → ((other : List ℕ) → now.content other ≡ old.content other)
     → ((held : List ℕ) → old.content name ≡ Some held → bytes ≡ held)
-    → Leads old now (reads file name next) (next bytes)
-Leads-reads old now file name next bytes later kept read new answer answers_now =
+    → Leaves old now (reads file name next) (next bytes)
+Leaves-reads old now file name next bytes later kept read new answer answers_now =
     let IsAnswerOver : (List ℕ → Option (List ℕ)) → Type 0 =
     λ content. IsAnswer (record { content = content; faults = now.faults }) new (next bytes)
     answer in
@@ -83,6 +83,6 @@ Leads-reads old now file name next bytes later kept read new answer answers_now 
         rose = rose_later (old.faults it.name) (now.faults it.name) (new.faults it.name)
             (later it.name) it.rose;
         reached = inr (reached_next (old.content name) bytes
-            (λ held. Reaches old.content (next held) it.file it.name) read it.reached);
+            (λ held. ComesToRead old.content (next held) it.file it.name) read it.reached);
       };
     }

@@ -1,7 +1,7 @@
 -- Refusal lines: the first rule that a file breaks, its place and the value that broke it.
 -- This project's own.
 use Rattle.std.specs.Prelude.{ℕ, ◌++◌, List, codes, decimal}
-use Rattle.aeth_base.specs.declared.shown.Broken.{Broken}
+use Rattle.aeth_base.specs.Faults.{BrokenRule}
 use Rattle.aeth_base.specs.declared.shown.Shown.{Shown}
 use Rattle.aeth_base.specs.declared.shown.Shown.TheVariants.{Nothing, Odd, Number, Word}
 use Rattle.aeth_cli.specs.Job.{Job}
@@ -14,17 +14,22 @@ value_text Odd = codes "?"
 value_text (Number n) = decimal n
 value_text (Word name) = name
 
--- `refused FILE RULE NAME PLACE VALUE`.
-abbrev pub refusal_text : List ℕ → ℕ → List ℕ → Broken → List ℕ
-refusal_text file rule name broken =
+-- A refusal line up to its value.
+abbrev pub refusal_front : List ℕ → ℕ → List ℕ → ℕ → List ℕ
+refusal_front file rule name place =
     codes "refused " ++ file ++ codes " " ++ decimal rule ++ codes " " ++ name ++ codes " "
-    ++ decimal broken.place ++ codes " " ++ value_text broken.value ++ codes "\n"
+    ++ decimal place ++ codes " "
+
+-- `refused FILE RULE NAME PLACE VALUE`.
+abbrev pub refusal_text : List ℕ → BrokenRule → List ℕ
+refusal_text file broken =
+    refusal_front file broken.rule broken.name broken.place ++ value_text broken.value
+    ++ codes "\n"
 
 -- A file is refused for a rule.
-abbrev pub refused_file : List ℕ → ℕ → List ℕ → Broken → Job
-refused_file file rule name broken =
-    record { status = refused_status; text = refusal_text file rule name broken }
+abbrev pub refused_file : List ℕ → BrokenRule → Job
+refused_file file broken = record { status = refused_status; text = refusal_text file broken }
 
--- A rule that has no place and no value.
-abbrev pub nowhere : Broken
-nowhere = record { place = 0; value = Nothing }
+-- The rule that comes before those of each kind of file: it isn't too long.
+abbrev pub too_long : BrokenRule
+too_long = record { rule = 0; name = codes "TooLong"; place = 0; value = Nothing }

@@ -33,11 +33,11 @@ abbrev pub memory_status : ℕ
 memory_status = 6
 
 -- The number of a status.
-abbrev pub number_of : Status → ℕ
-number_of status.Done = done_status
-number_of status.Usage = usage_status
-number_of status.InputRefused = refused_status
-number_of status.NotGranted = not_granted_status
-number_of status.ReadFault = read_fault_status
-number_of status.WriteFault = write_fault_status
-number_of status.Memory = memory_status
+abbrev pub status_number : Status → ℕ
+status_number status.Done = done_status
+status_number status.Usage = usage_status
+status_number status.InputRefused = refused_status
+status_number status.NotGranted = not_granted_status
+status_number status.ReadFault = read_fault_status
+status_number status.WriteFault = write_fault_status
+status_number status.Memory = memory_status

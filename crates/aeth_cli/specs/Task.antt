@@ -1,9 +1,9 @@
 -- What a command does: it reads files, one after the other, and comes to a job.
 --
 --   Task                    the files and what comes of them
---   Step                    a part of a task, which gives a value to what comes next
+--   Judging                 a part of a task, which gives a value to what comes next
 --   job_with                the job, where the contents that it rests on are told
---   Reaches                 all that is judged before a file was judged and not refused
+--   ComesToRead             all that is judged before a file was judged and not refused
 --   IsAnswer, IsReadFault   what a run answers: the job, or that a file can't be read
 -- This project's own.
 use Rattle.std.specs.Prelude.{ℕ, ◌≡◌, ◌≢◌, ◌<◌, ◌≤◌, ◌⊎◌, ◌++◌, List, Option, Some, None, codes}
@@ -18,11 +18,12 @@ pub data Task : Type 0 where
   ends : Job → Task
   reads : List ℕ → List ℕ → (List ℕ → Task) → Task
 
--- A part of a task that gives a value: what comes next of that value makes it a task.
-abbrev pub Step : Type 0 → Type 0
-Step A = (A → Task) → Task
+-- A file, or what a command judges between its files: it gives a value, of which the next comes, or
+-- the task ends there.
+abbrev pub Judging : Type 0 → Type 0
+Judging A = (A → Task) → Task
 
--- What a step gives of the bytes of a file, where they are told.
+-- What comes of the bytes of a file, where they are told.
 abbrev pub told : {A : Type 0} → Option (List ℕ) → (List ℕ → Option A) → Option A
 told None next = None
 told (Some bytes) next = next bytes
@@ -39,11 +40,11 @@ OnTold None Holds = (bytes : List ℕ) × Holds bytes
 OnTold (Some bytes) Holds = Holds bytes
 
 -- The task comes to read this file under this name: none of what it judges before is refused.
-abbrev pub Reaches : (List ℕ → Option (List ℕ)) → Task → List ℕ → List ℕ → Type 0
-Reaches content (ends job) file name = ⊥
-Reaches content (reads this own next) file name =
+abbrev pub ComesToRead : (List ℕ → Option (List ℕ)) → Task → List ℕ → List ℕ → Type 0
+ComesToRead content (ends job) file name = ⊥
+ComesToRead content (reads this own next) file name =
     ((this ≡ file) × (own ≡ name))
-    ⊎ OnTold (content own) (λ bytes. Reaches content (next bytes) file name)
+    ⊎ OnTold (content own) (λ bytes. ComesToRead content (next bytes) file name)
 
 -- The answer where a file can't be read.
 abbrev pub read_fault : List ℕ → Job
@@ -56,7 +57,7 @@ pub record IsReadFault (old new : Files) (task : Task) (answer : Job) : Type 0 w
   pub name : List ℕ
   pub says : answer ≡ read_fault file
   pub rose : Rose (old.faults name) (new.faults name)
-  pub reached : Reaches old.content task file name
+  pub reached : ComesToRead old.content task file name
 
 -- The answer to a task: its job, or that a file can't be read. The words that it came of are a
 -- command.

@@ -2,7 +2,7 @@
 -- This project's own.
 use Rattle.std.specs.Prelude.{ℕ, List, map, decimal}
 use Rattle.std.specs.List.{join_with_byte}
-use Rattle.aeth_cli.specs.Words.{comma}
+use Rattle.aeth_text.specs.Limits.{comma}
 
 -- The decimals of numbers with commas between them.
 abbrev pub list_text : List ℕ → List ℕ

@@ -7,10 +7,7 @@ use Rattle.std.specs.List.{slice_split}
 use Rattle.std.specs.Str.{bytes_eq}
 use Rattle.aeth_base.specs.Number.{number_of}
 use Rattle.aeth_slots.specs.SlotSet.{Slots}
-
--- What stands between the numbers of a list: a comma.
-abbrev pub comma : ℕ
-comma = 44
+use Rattle.aeth_text.specs.Limits.{comma}
 
 -- A value, and then what comes of it; none where there is none.
 infixl 10 ◌>>=◌

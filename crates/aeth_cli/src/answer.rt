@@ -1,12 +1,11 @@
 // What a command comes to: a status and a text.
-ghost use Rattle.aeth_cli.specs.Files.{too_long};
 ghost use Rattle.aeth_cli.specs.Job.{done, not_granted, usage};
-ghost use Rattle.aeth_cli.specs.Refusal.{refused_file, value_text};
+ghost use Rattle.aeth_cli.specs.Refusal.{refusal_front, refused_file, too_long, value_text};
 ghost use Rattle.aeth_cli.specs.Task.{read_fault};
 ghost use Rattle.std.specs.Prelude.{◌≡◌, ◌++◌, IfOk, OnOk};
 
 use crate::status::Status;
-use aeth_base::{Broken, NoMemory, Shown, push_number};
+use aeth_base::{BrokenRule, NoMemory, Shown, push_number};
 use std::alloc::Global;
 use std::marker::Model;
 
@@ -20,14 +19,14 @@ pub struct Answer {
 
 impl Model for Answer {
     ghost use Rattle.aeth_cli.specs.Job.{Job};
-    ghost use Rattle.aeth_cli.specs.Status.{number_of};
+    ghost use Rattle.aeth_cli.specs.Status.{status_number};
 
     ghost Value = { Job };
 
-    ghost view = { λ a. record { status = number_of a.status; text = a.text.items } };
+    ghost view = { λ a. record { status = status_number a.status; text = a.text.items } };
 }
 
-/// Why a command doesn't come to its last step.
+/// Why a command doesn't come to its end.
 #[derive(Drop)]
 pub enum Stop {
     /// It ends before, with an answer.
@@ -46,12 +45,6 @@ impl From<NoMemory> for Stop {
         Stop::Memory
     }
 }
-
-/// Where a rule that has no place and no value is broken.
-pub const NOWHERE: Broken = Broken {
-    place: 0,
-    value: Shown::Nothing,
-};
 
 impl Answer {
     /// The job is done, and this is its text.
@@ -84,20 +77,11 @@ impl Answer {
         })
     }
 
-    /// A file breaks a rule, at a place and by a value.
-    pub fn refused_file(
-        alloc: Global,
-        file: &str,
-        rule: u8,
-        name: &str,
-        broken: &Broken,
-    ) -> Result<Answer, NoMemory>
-        ensures { IfOk result (λ answer. answer
-            ≡ refused_file file.now rule name.now broken.now) }
+    /// A file breaks a rule.
+    pub fn refused_file(alloc: Global, file: &str, broken: &BrokenRule) -> Result<Answer, NoMemory>
+        ensures { IfOk result (λ answer. answer ≡ refused_file file.now broken.now) }
     {
-        let place = broken.place;
-        let line = format!(in alloc; "refused {file} {rule} {name} {place} ")?;
-        let mut text = line.into_bytes();
+        let mut text = refusal_front(alloc, file, broken.rule, broken.name, broken.place)?;
         push_value(&mut text, &broken.value)?;
         text.push(b'\n')?;
         Ok(Answer {
@@ -108,9 +92,15 @@ impl Answer {
 
     /// A file is too long.
     pub fn too_long(alloc: Global, file: &str) -> Result<Answer, NoMemory>
-        ensures { IfOk result (λ answer. answer ≡ too_long file.now) }
+        ensures { IfOk result (λ answer. answer ≡ refused_file file.now too_long) }
     {
-        Answer::refused_file(alloc, file, 0, "TooLong", &NOWHERE)
+        let too_long = BrokenRule {
+            rule: 0,
+            name: "TooLong",
+            place: 0,
+            value: Shown::Nothing,
+        };
+        Answer::refused_file(alloc, file, &too_long)
     }
 
     /// A file can't be read.
@@ -123,6 +113,21 @@ impl Answer {
             text: line.into_bytes(),
         })
     }
+}
+
+/// A refusal line up to its value.
+fn refusal_front(
+    alloc: Global,
+    file: &str,
+    rule: u32,
+    name: &str,
+    place: u32,
+) -> Result<Vec<u8>, NoMemory>
+    ensures { IfOk result (λ text. text.items
+        ≡ refusal_front file.now rule name.now place) }
+{
+    let line = format!(in alloc; "refused {file} {rule} {name} {place} ")?;
+    Ok(line.into_bytes())
 }
 
 fn push_value(text: &mut Vec<u8>, value: &Shown) -> Result<(), NoMemory>

@@ -20,12 +20,12 @@ pub enum Status {
 }
 
 impl Status {
-    ghost use Rattle.aeth_cli.specs.Status.{number_of};
+    ghost use Rattle.aeth_cli.specs.Status.{status_number};
     ghost use Rattle.std.specs.Prelude.{◌≡◌};
 
     /// The number with which the program ends.
     pub fn number(self) -> u8
-        ensures { result ≡ number_of self }
+        ensures { result ≡ status_number self }
     {
         match self {
             Status::Done => 0,

@@ -2,9 +2,10 @@ use Rattle.std.specs.Prelude.{ℕ, Vec, codes}
 use Rattle.std.specs.Global.{Global}
 use Rattle.std.proofs.lemmas.Result.{err_from_is_err_and}
 use Rattle.aeth_app.specs.AppFile.{app_of}
-use Rattle.aeth_cli.specs.Files.{app_refusal, judged, text_file}
+use Rattle.aeth_app.specs.Fault.{rule_of}
+use Rattle.aeth_cli.specs.Files.{judgement, text_file}
 use Rattle.aeth_cli.specs.Places.{files_of}
-use Rattle.aeth_cli.proofs.FileLemmas.{Takes-judged, Takes-stopped, app_refusal-status}
+use Rattle.aeth_cli.proofs.FileLemmas.{Judges-read, Judges-stopped}
 use Rattle.aeth_cli.proofs.files.read_app_file.Goals as goal
 
 -- The file can't be read, or is too long.
@@ -12,15 +13,15 @@ pub returns-in_err-bytes : goal.returns-in_err-bytes
 returns-in_err-bytes g c =
     let p = err_from_is_err_and c.from_residual.result c.from_residual.ensures.1 in
     rw (p.1, p.2)
-    (Takes-stopped (files_of g.H.Shelf c.args.shelf.now) (files_of g.H.Shelf c.read_file.new.shelf)
+    (Judges-stopped (files_of g.H.Shelf c.args.shelf.now) (files_of g.H.Shelf c.read_file.new.shelf)
     (text_file (codes "app") c.args.name.now)
-    (λ bytes. judged app_refusal (app_of c.args.chip.now bytes)) (λ (bytes : Vec ℕ Global). bytes.items)
-    (λ app. app) _ c.in_err-bytes.ensures)
+    (λ bytes. judgement (codes "app") (app_of c.args.chip.now bytes))
+    (λ (bytes : Vec ℕ Global). bytes.items) (λ app. app) _ c.in_err-bytes.ensures)
 
 -- The file was read, and is judged.
 pub returns : goal.returns
 returns g c =
-    Takes-judged (files_of g.H.Shelf c.args.shelf.now) (files_of g.H.Shelf c.read_file.new.shelf)
-    (text_file (codes "app") c.args.name.now) (λ bytes. bytes.items) c.in_ok-bytes.bytes
-    app_refusal (app_of c.args.chip.now) (λ app. app) c.judge_app.result app_refusal-status
-    c.in_ok-bytes.ensures (rw c.deref.ensures.value at c.judge_app.ensures)
+    Judges-read (files_of g.H.Shelf c.args.shelf.now) (files_of g.H.Shelf c.read_file.new.shelf)
+    (codes "app") c.args.name.now (λ (bytes : Vec ℕ Global). bytes.items) c.in_ok-bytes.bytes
+    rule_of (λ app. app) (app_of c.args.chip.now) c.read_app.result c.judged.result c.in_ok-bytes.ensures
+    (rw c.deref.ensures.value at c.read_app.ensures.gives) c.judged.ensures

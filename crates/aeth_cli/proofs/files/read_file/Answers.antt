@@ -1,6 +1,6 @@
 use Rattle.std.proofs.Common.{ap, Err}
 use Rattle.aeth_cli.specs.Places.{files_of}
-use Rattle.aeth_cli.proofs.FileLemmas.{Leads-text_file}
+use Rattle.aeth_cli.proofs.FileLemmas.{Leaves-text_file}
 use Rattle.aeth_cli.proofs.TaskLemmas.{IsAnswer-fault}
 use Rattle.aeth_cli.proofs.files.read_file.Goals as goal
 
@@ -8,7 +8,7 @@ use Rattle.aeth_cli.proofs.files.read_file.Goals as goal
 pub returns-in-Ok : goal.returns-in-Ok
 returns-in-Ok g c =
     let read = rw c.as_str.ensures at c.in-Ok.ensures in
-    λ next. Leads-text_file (files_of g.H.Shelf c.args.shelf.now)
+    λ next. Leaves-text_file (files_of g.H.Shelf c.args.shelf.now)
     (files_of g.H.Shelf c.read_all.new.shelf) c.args.file.now c.args.name.now
     c.in-Ok.bytes.items next read.later read.kept read.ok read.within
 

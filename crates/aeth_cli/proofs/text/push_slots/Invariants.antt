@@ -1,7 +1,7 @@
 use Rattle.std.proofs.Common.{◌≡◌, ◌++◌, ◌∷◌}
 use Rattle.std.specs.Fmt.{decimal}
 use Rattle.std.specs.List.{flat_map}
-use Rattle.aeth_cli.specs.Words.{comma}
+use Rattle.aeth_text.specs.Limits.{comma}
 use Rattle.aeth_cli.proofs.text.push_slots.Given as goal
 
 abbrev pub invariant-loop-slot : goal.invariant-loop-slot

@@ -4,7 +4,7 @@ use Rattle.std.proofs.lemmas.List.{length_push}
 use Rattle.std.proofs.lemmas.Iterator.Consumers.{YieldsList-end, YieldsList-turn}
 use Rattle.std.proofs.lemmas.Iterator.Splits.{YieldsList-from_str_split}
 use Rattle.aeth_slots.proofs.Ascending.{Ascends-push, Ascends-wider}
-use Rattle.aeth_cli.specs.Words.{comma}
+use Rattle.aeth_text.specs.Limits.{comma}
 use Rattle.aeth_cli.proofs.Reading.{number_within-bounds, read-all, read-more, read-none}
 use Rattle.aeth_cli.proofs.Reading.{slot_set_of-list}
 use Rattle.aeth_cli.proofs.words.slots_in.Goals as goal

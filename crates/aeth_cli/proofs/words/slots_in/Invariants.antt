@@ -1,7 +1,7 @@
 use Rattle.std.proofs.Common.{◌≡◌, ◌==◌, length}
 use Rattle.std.specs.List.{slice_split}
 use Rattle.aeth_slots.specs.SlotSet.{Ascends}
-use Rattle.aeth_cli.specs.Words.{comma}
+use Rattle.aeth_text.specs.Limits.{comma}
 use Rattle.aeth_cli.proofs.Reading.{IsReadSoFar}
 use Rattle.aeth_cli.proofs.words.slots_in.Given as goal
 

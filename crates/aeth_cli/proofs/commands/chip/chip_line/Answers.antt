@@ -21,7 +21,7 @@ returns c =
       sym c.slots.ensures.slots,
       sym c.routers.ensures.routers,
       sym c.nis.ensures.nis,
-      sym c.links.ensures,
+      sym c.links.ensures.links,
       c.in_ok-push.ensures.items,
       c.in_ok-push_count-6.ensures,
       c.in_ok-push_count-5.ensures,
