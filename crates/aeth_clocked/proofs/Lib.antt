@@ -1,6 +1,5 @@
 pub mod DrivenLemmas
 mod DrivenTurns
 pub mod OrderLemmas
-mod Permutations
 mod Turns
 pub mod WiresLemmas

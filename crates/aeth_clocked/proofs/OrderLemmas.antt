@@ -13,14 +13,15 @@ use Rattle.std.proofs.lemmas.Map.Views.{Contains-from_any}
 use Rattle.std.proofs.lemmas.Map.Keys.{IsDistinct-from_apart, IsDistinct-IsPermutation}
 use Rattle.std.proofs.lemmas.Option.{slice_get_within, get_or_from_slice_get}
 use Rattle.aeth_clocked.specs.Order.{AreChosen, IsOrder, rotation_of}
-use Rattle.aeth_clocked.proofs.Permutations.{All-range, Contains-range, IsPermutation-from_all}
+use Rattle.aeth_base.proofs.Permutations.{IsPermutation-from_all}
+use Rattle.aeth_base.proofs.Ranges.{All-range, Contains-range}
 
 module _ (numbers : List ℕ) (order : IsOrder numbers) where
   -- An order has each number below its length.
   pub IsOrder-contains : (i : ℕ) → i < length numbers → Contains numbers i
   IsOrder-contains i below =
       let n = length numbers in
-      Contains-permutation (range_with_len 0 n) numbers i order.permutes (Contains-range n i below)
+      Contains-permutation (range_with_len 0 n) numbers i order.permutes (Contains-range 0 n i (omega arith) (omega arith))
 
   -- So the test for such a number passes.
   pub IsOrder-passes : (i : ℕ) → i < length numbers

@@ -4,10 +4,11 @@ use Rattle.std.specs.Prelude.{ℕ, Bool, List, map, Option}
 use Rattle.aeth_clocked.specs.declared.flit.Flit.{Flit}
 use Rattle.aeth_clocked.specs.Driven.{driven_wires}
 
--- What the trait of components says of one: its outputs, what it emits on one of them in a cycle,
--- what it is after that, and what it is once it has latched these wires.
+-- What the trait of components says of one: its outputs and inputs, what it emits on an output in
+-- a cycle, what it is after that, and what it is once it has latched these wires.
 pub record Meaning (P : Type 0) : Type 0 where
   pub outputs : P → ℕ → Bool
+  pub inputs : P → ℕ → Bool
   pub emit : P → ℕ → ℕ → Option Flit
   pub after : P → ℕ → P
   pub absorb : P → List (Option Flit) → P

@@ -1,7 +1,6 @@
 mod Constants
 pub mod EntryLemmas
 pub mod EntryWrites
-mod FlatMaps
 pub mod InterfaceLemmas
 pub mod ProgramLemmas
 pub mod ProgramWrites

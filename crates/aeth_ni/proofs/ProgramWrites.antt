@@ -11,7 +11,7 @@ use Rattle.aeth_ni.specs.declared.write.Write.TheVariants.{ClearSlot, ClearRoute
 use Rattle.aeth_ni.specs.Program.{Entry, closing_writes, entries_of, opening_writes}
 use Rattle.aeth_ni.specs.Switch.{IsSameSlot, entries_in}
 use Rattle.aeth_ni.proofs.EntryWrites.{clear_of, set_of}
-use Rattle.aeth_ni.proofs.FlatMaps.{Contains-flat_map, flat_map-Contains}
+use Rattle.aeth_base.proofs.Members.{Contains-flat_map, flat_map-Contains}
 
 -- What a write names.
 abbrev named : Write → Entry

@@ -14,7 +14,7 @@ use Rattle.aeth_ni.specs.Program.{entries_of, opening_writes, program_of}
 use Rattle.aeth_ni.specs.Switch.{AreSlotsApart, IsSwitch, entries_in}
 use Rattle.aeth_ni.proofs.EntryWrites.{Leave, fold-cases, fold-cleared, fold-keeps, fold-sets}
 use Rattle.aeth_ni.proofs.EntryWrites.{set_of}
-use Rattle.aeth_ni.proofs.FlatMaps.{Contains-flat_map, flat_map-Contains}
+use Rattle.aeth_base.proofs.Members.{Contains-flat_map, flat_map-Contains}
 use Rattle.aeth_ni.proofs.ProgramWrites.{closing-cleared, closing-clears, closing-sets}
 use Rattle.aeth_ni.proofs.ProgramWrites.{opening-clears, opening-set, opening-sets}
 

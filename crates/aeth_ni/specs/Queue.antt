@@ -21,7 +21,7 @@ use Rattle.aeth_ni.specs.declared.queue.Route.{Route}
 
 -- What one queue number holds: the words that wait to be sent, the words that were received and
 -- not taken, the room for these, the words that the other end has room for, and the credits that
--- it is owed.
+-- it owes that end.
 pub record QueueState : Type 0 where
   pub route : Option Route
   pub waiting : List ℕ

@@ -120,7 +120,7 @@ impl Ni {
         queue.halt();
     }
 
-    /// Empties a source queue and its receive queue, its counter and the credits that it is owed.
+    /// Empties a source queue and its receive queue, its counter and the credits that it owes.
     pub fn finish(&mut self, queue: u8)
         requires { queue < queues_of_interface }
         ensures { self.new ≡ changed queue finished self.old }
