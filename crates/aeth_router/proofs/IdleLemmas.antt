@@ -15,21 +15,21 @@ flits_for-idle port zero = refl
 flits_for-idle port (suc count) = flits_for-idle port count
 
 -- So none is on it, be it a port or not.
-sole-idle : (count : ℕ) (port : Option ℕ) →
-    option_and_then (λ port. sole (flits_for port (replicate count None))) port ≡ None
+sole-idle : (count : ℕ) (port : Option ℕ)
+    → option_and_then (λ port. sole (flits_for port (replicate count None))) port ≡ None
 sole-idle count None = refl
 sole-idle count (Some port) = ap sole (flits_for-idle port count)
 
 -- A router that holds no flit emits none.
-pub emitted_on-idle : (outgoing : List ℕ) (count link : ℕ) →
-    emitted_on outgoing (replicate count None) link ≡ None
+pub emitted_on-idle : (outgoing : List ℕ) (count link : ℕ)
+    → emitted_on outgoing (replicate count None) link ≡ None
 emitted_on-idle outgoing count link =
     sole-idle count (position (λ other. other == link) outgoing)
 
 -- It drives wires that are empty on its outgoing links by leaving them.
-pub Drives-idle : (outgoing : List ℕ) (count : ℕ) (wires : List (Option Flit)) →
-    ((link : ℕ) → is_among outgoing link ≡ true → slice_get wires link ≡ Some None) →
-    Drives (is_among outgoing) (emitted_on outgoing (replicate count None)) wires wires
+pub Drives-idle : (outgoing : List ℕ) (count : ℕ) (wires : List (Option Flit))
+    → ((link : ℕ) → is_among outgoing link ≡ true → slice_get wires link ≡ Some None)
+    → Drives (is_among outgoing) (emitted_on outgoing (replicate count None)) wires wires
 Drives-idle outgoing count wires empty =
     record {
       links = refl;
@@ -41,15 +41,15 @@ Drives-idle outgoing count wires empty =
     }
 
 -- It is then as it was.
-pub emptied-idle : (router : RouterState) →
-    router.held ≡ replicate (length router.held) None → emptied router ≡ router
+pub emptied-idle : (router : RouterState)
+    → router.held ≡ replicate (length router.held) None → emptied router ≡ router
 emptied-idle router idle =
     ap (λ (held : List (Option Flit)). record router { held = held }) (sym idle)
 
 -- Links that are empty bring no flit.
-flits-idle : (wires : List (Option Flit)) (links : List ℕ) →
-    ((place link : ℕ) → slice_get links place ≡ Some link → flit_on wires link ≡ None) →
-    map (flit_on wires) links ≡ replicate (length links) None
+flits-idle : (wires : List (Option Flit)) (links : List ℕ)
+    → ((place link : ℕ) → slice_get links place ≡ Some link → flit_on wires link ≡ None)
+    → map (flit_on wires) links ≡ replicate (length links) None
 flits-idle wires [] empty = refl
 flits-idle wires (link ∷ links) empty =
     let here : flit_on wires link ≡ None = empty 0 link refl in
@@ -58,7 +58,7 @@ flits-idle wires (link ∷ links) empty =
     cc
 
 -- A router whose incoming links are empty holds no flit.
-pub absorbed-idle : (wires : List (Option Flit)) (router : RouterState) →
-    ((place link : ℕ) → slice_get router.incoming place ≡ Some link → flit_on wires link ≡ None) →
-    (absorbed wires router).held ≡ replicate (length router.incoming) None
+pub absorbed-idle : (wires : List (Option Flit)) (router : RouterState)
+    → ((place link : ℕ) → slice_get router.incoming place ≡ Some link → flit_on wires link ≡ None)
+    → (absorbed wires router).held ≡ replicate (length router.incoming) None
 absorbed-idle wires router empty = flits-idle wires router.incoming empty

@@ -2,5 +2,6 @@ pub mod IdleLemmas
 pub mod LinkLemmas
 pub mod PortLemmas
 pub mod RouterLemmas
+pub mod WireLemmas
 mod Steps
 mod TrafficLemmas

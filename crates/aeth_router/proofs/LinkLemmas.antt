@@ -17,9 +17,9 @@ use Rattle.aeth_clocked.specs.Wires.{AreLinks}
 use Rattle.aeth_router.specs.Router.{AreApart, is_among}
 
 -- A link before all others is apart from them.
-AreApart-cons : (first : ℕ) (others : List ℕ) →
-    ((i link : ℕ) → slice_get others i ≡ Some link → first < link) → AreApart others →
-    AreApart (first ∷ others)
+AreApart-cons : (first : ℕ) (others : List ℕ)
+    → ((i link : ℕ) → slice_get others i ≡ Some link → first < link) → AreApart others
+    → AreApart (first ∷ others)
 AreApart-cons first others above apart zero zero link at there = refl
 AreApart-cons first others above apart zero (suc j) link at there =
     let same : first ≡ link = same_Some first link at in
@@ -33,17 +33,17 @@ AreApart-cons first others above apart (suc i) (suc j) link at there =
     ap (λ (n : ℕ). suc n) (apart i j link at there)
 
 -- Where all others come after the first link, each is the first or comes after it.
-least-cons : (first : ℕ) (others : List ℕ) (i link : ℕ) →
-    ((j other : ℕ) → slice_get others j ≡ Some other → first < other) →
-    slice_get (first ∷ others) i ≡ Some link → first ≤ link
+least-cons : (first : ℕ) (others : List ℕ) (i link : ℕ)
+    → ((j other : ℕ) → slice_get others j ≡ Some other → first < other)
+    → slice_get (first ∷ others) i ≡ Some link → first ≤ link
 least-cons first others zero link above at =
     let same : first ≡ link = same_Some first link at in omega arith
 least-cons first others (suc i) link above at =
     let below = above i link at in omega arith
 
 -- The numbers of links that pass a test begin at the first link's, or later.
-numbers_from-least : (number : ℕ) (test : Link → Bool) (links : List Link) (i link : ℕ) →
-    slice_get (numbers_from number test links) i ≡ Some link → number ≤ link
+numbers_from-least : (number : ℕ) (test : Link → Bool) (links : List Link) (i link : ℕ)
+    → slice_get (numbers_from number test links) i ≡ Some link → number ≤ link
 numbers_from-least number test [] i link at = absurd (cc at)
 numbers_from-least number test (first ∷ links) i link at =
     elim (cases_Bool (test first)) [
@@ -58,8 +58,8 @@ numbers_from-least number test (first ∷ links) i link at =
     ]
 
 -- They are apart. So the links on which a node sends are, and those on which it receives.
-pub AreApart-numbers_from : (number : ℕ) (test : Link → Bool) (links : List Link) →
-    AreApart (numbers_from number test links)
+pub AreApart-numbers_from : (number : ℕ) (test : Link → Bool) (links : List Link)
+    → AreApart (numbers_from number test links)
 AreApart-numbers_from number test [] = λ i j link at there. absurd (cc at)
 AreApart-numbers_from number test (first ∷ links) =
     let others = numbers_from (number + 1) test links in
@@ -73,9 +73,9 @@ AreApart-numbers_from number test (first ∷ links) =
     ]
 
 -- Each is that of a link that passes.
-numbers_from-link : (number : ℕ) (test : Link → Bool) (links : List Link) (n : ℕ) →
-    is_among (numbers_from number test links) n ≡ true →
-    (i : ℕ) × (link : Link) × (slice_get links i ≡ Some link) × (test link ≡ true)
+numbers_from-link : (number : ℕ) (test : Link → Bool) (links : List Link) (n : ℕ)
+    → is_among (numbers_from number test links) n ≡ true
+    → (i : ℕ) × (link : Link) × (slice_get links i ≡ Some link) × (test link ≡ true)
     × (n ≡ number + i)
 numbers_from-link number test [] n is = absurd (cc is)
 numbers_from-link number test (first ∷ links) n is =
@@ -96,39 +96,39 @@ numbers_from-link number test (first ∷ links) n is =
     ]
 
 -- A link that is at some place is one of them.
-pub is_among-at : (links : List ℕ) (place link : ℕ) → slice_get links place ≡ Some link →
-    is_among links link ≡ true
+pub is_among-at : (links : List ℕ) (place link : ℕ) → slice_get links place ≡ Some link
+    → is_among links link ≡ true
 is_among-at links place link at =
     any_passes_from_place (λ among. among == link) links place link at (eq-eqb link link refl)
 
 -- The numbers of all links that pass a test, as those of the links that begin or end at a node.
 module _ (test : Link → Bool) (links : List Link) (number : ℕ) where
   -- Each is the number of such a link.
-  pub passes-from_is_among : is_among (numbers_from 0 test links) number ≡ true →
-      (link : Link) × (slice_get links number ≡ Some link) × (test link ≡ true)
+  pub passes-from_is_among : is_among (numbers_from 0 test links) number ≡ true
+      → (link : Link) × (slice_get links number ≡ Some link) × (test link ≡ true)
   passes-from_is_among is =
       let found = numbers_from-link 0 test links number is in
       let same : found.0 ≡ number = let at = found.4 in omega arith in
       (found.1, rw same at found.2, found.3)
 
   -- The number of each such link is one.
-  pub is_among-from_passes : (link : Link) → slice_get links number ≡ Some link →
-      test link ≡ true → is_among (numbers_from 0 test links) number ≡ true
+  pub is_among-from_passes : (link : Link) → slice_get links number ≡ Some link
+      → test link ≡ true → is_among (numbers_from 0 test links) number ≡ true
   is_among-from_passes link at passes =
       let from_start : 0 + number ≡ number = omega arith in
       is_among-at (numbers_from 0 test links) (count_by test (take number links)) number
       (rw from_start at (numbers_from-at test 0 links number link at passes))
 
 -- They are numbers of links.
-pub AreLinks-numbers_from : (test : Link → Bool) (links : List Link) →
-    AreLinks (is_among (numbers_from 0 test links)) (length links)
+pub AreLinks-numbers_from : (test : Link → Bool) (links : List Link)
+    → AreLinks (is_among (numbers_from 0 test links)) (length links)
 AreLinks-numbers_from test links number is =
     let found = passes-from_is_among test links number is in
     slice_get_within links number found.0 found.1
 
 -- The port of a link is its place among the links on which a router sends.
-pub position-at : (links : List ℕ) (port link : ℕ) → AreApart links →
-    slice_get links port ≡ Some link → position (λ other. other == link) links ≡ Some port
+pub position-at : (links : List ℕ) (port link : ℕ) → AreApart links
+    → slice_get links port ≡ Some link → position (λ other. other == link) links ≡ Some port
 position-at links port link apart at =
     let within = slice_get_within links port link at in
     let first : position_or_len (λ other. other == link) links ≡ port =

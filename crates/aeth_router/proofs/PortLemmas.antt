@@ -7,33 +7,33 @@ use Rattle.std.proofs.lemmas.List.Elements.{filter_map-append}
 use Rattle.std.proofs.lemmas.Option.{same_Some}
 use Rattle.aeth_clocked.specs.declared.flit.Flit.{Flit}
 use Rattle.aeth_header.specs.Header.{port_of}
-use Rattle.aeth_router.specs.declared.traffic.TheConstants.{PORTS}
 use Rattle.aeth_router.specs.Ports.{hopped, toward, flits_for, sole}
+use Rattle.aeth_router.specs.Traffic.{named_ports}
 
 -- A flit goes to the port that it names.
-pub toward-same : (port : ℕ) (flit : Flit) → port_of flit.header ≡ port →
-    toward port (Some flit) ≡ Some (hopped flit)
+pub toward-same : (port : ℕ) (flit : Flit) → port_of flit.header ≡ port
+    → toward port (Some flit) ≡ Some (hopped flit)
 toward-same port flit names = grind (arith, nat_tests)
 
 -- It goes to no other.
-pub toward-other : (port : ℕ) (flit : Flit) → port_of flit.header ≢ port →
-    toward port (Some flit) ≡ None
+pub toward-other : (port : ℕ) (flit : Flit) → port_of flit.header ≢ port
+    → toward port (Some flit) ≡ None
 toward-other port flit other = grind (arith, nat_tests)
 
 -- One flit more, or none, behind those that are held.
-pub flits_for-push : (port : ℕ) (held : List (Option Flit)) (latched : Option Flit) →
-    flits_for port (held ++ latched ∷ []) ≡ flits_for port held ++ flits_for port (latched ∷ [])
+pub flits_for-push : (port : ℕ) (held : List (Option Flit)) (latched : Option Flit)
+    → flits_for port (held ++ latched ∷ []) ≡ flits_for port held ++ flits_for port (latched ∷ [])
 flits_for-push port held latched = filter_map-append (toward port) held (latched ∷ [])
 
 -- A first flit that names the port is for it.
-flits_for-same : (port : ℕ) (flit : Flit) (held : List (Option Flit)) →
-    port_of flit.header ≡ port →
-    flits_for port (Some flit ∷ held) ≡ hopped flit ∷ flits_for port held
+flits_for-same : (port : ℕ) (flit : Flit) (held : List (Option Flit))
+    → port_of flit.header ≡ port
+    → flits_for port (Some flit ∷ held) ≡ hopped flit ∷ flits_for port held
 flits_for-same port flit held names = rw (toward-same port flit names) refl
 
 -- A first flit that names another is not.
-flits_for-other : (port : ℕ) (flit : Flit) (held : List (Option Flit)) →
-    port_of flit.header ≢ port → flits_for port (Some flit ∷ held) ≡ flits_for port held
+flits_for-other : (port : ℕ) (flit : Flit) (held : List (Option Flit))
+    → port_of flit.header ≢ port → flits_for port (Some flit ∷ held) ≡ flits_for port held
 flits_for-other port flit held other = rw (toward-other port flit other) refl
 
 -- The flit that is held at a place names a port.
@@ -47,8 +47,8 @@ Names-tail : (port : ℕ) (first : Option Flit) (held : List (Option Flit)) (pla
 Names-tail port first held place flit names = record { at = names.at; names = names.names }
 
 -- Where no held flit names the port, none is for it.
-pub flits_for-none : (port : ℕ) (held : List (Option Flit)) →
-    ((place : ℕ) (flit : Flit) → Names port held place flit → ⊥) → flits_for port held ≡ []
+pub flits_for-none : (port : ℕ) (held : List (Option Flit))
+    → ((place : ℕ) (flit : Flit) → Names port held place flit → ⊥) → flits_for port held ≡ []
 flits_for-none port [] none = refl
 flits_for-none port (None ∷ held) none =
     flits_for-none port held (λ place flit names.
@@ -59,9 +59,9 @@ flits_for-none port (Some first ∷ held) none =
     none (suc place) flit (Names-tail port (Some first) held place flit names))
 
 -- Where one does, there is one for it.
-flits_for-some : (port : ℕ) (held : List (Option Flit)) (place : ℕ) (flit : Flit) →
-    Names port held place flit →
-    (first : Flit) × (others : List Flit) × (flits_for port held ≡ first ∷ others)
+flits_for-some : (port : ℕ) (held : List (Option Flit)) (place : ℕ) (flit : Flit)
+    → Names port held place flit
+    → (first : Flit) × (others : List Flit) × (flits_for port held ≡ first ∷ others)
 flits_for-some port [] place flit names = absurd (let at = names.at in cc)
 flits_for-some port (first ∷ held) zero flit names =
     let same : first ≡ Some flit = same_Some first (Some flit) names.at in
@@ -79,12 +79,12 @@ flits_for-some port (Some first ∷ held) (suc place) flit names =
     ]
 
 -- A flit's port is one that a header can name.
-port_of-below : (word : ℕ) → port_of word < PORTS
+port_of-below : (word : ℕ) → port_of word < named_ports
 port_of-below word = omega arith
 
 -- Past those that a header can name, there is no flit for a port.
-pub flits_for-past : (port : ℕ) (held : List (Option Flit)) → PORTS ≤ port →
-    flits_for port held ≡ []
+pub flits_for-past : (port : ℕ) (held : List (Option Flit)) → named_ports ≤ port
+    → flits_for port held ≡ []
 flits_for-past port held past =
     flits_for-none port held (λ place flit names.
     let below = port_of-below flit.header in
@@ -92,14 +92,14 @@ flits_for-past port held past =
     omega arith)
 
 -- A list with a second member has no sole one.
-sole-two : (flit first : Flit) (flits others : List Flit) → flits ≡ first ∷ others →
-    sole (flit ∷ flits) ≡ None
+sole-two : (flit first : Flit) (flits others : List Flit) → flits ≡ first ∷ others
+    → sole (flit ∷ flits) ≡ None
 sole-two flit first flits others is = rw is refl
 
 -- Where two held flits name the port, there is no sole one for it.
 pub sole-contended : (port : ℕ) (held : List (Option Flit)) (place other : ℕ)
-    (flit contender : Flit) → place < other → Names port held place flit →
-    Names port held other contender → sole (flits_for port held) ≡ None
+    (flit contender : Flit) → place < other → Names port held place flit
+    → Names port held other contender → sole (flits_for port held) ≡ None
 sole-contended port [] place other flit contender before names too =
     absurd (let at = names.at in cc)
 sole-contended port held place zero flit contender before names too = absurd (omega arith)
@@ -135,10 +135,10 @@ pub record Alone (port : ℕ) (held : List (Option Flit)) (sent : Flit) : Type 0
   pub sends : hopped flit ≡ sent
 
 -- Such a flit is the one for the port.
-flits_for-alone : (port : ℕ) (held : List (Option Flit)) (place : ℕ) (flit : Flit) →
-    Names port held place flit →
-    ((other : ℕ) (contender : Flit) → Names port held other contender → other ≡ place) →
-    flits_for port held ≡ hopped flit ∷ []
+flits_for-alone : (port : ℕ) (held : List (Option Flit)) (place : ℕ) (flit : Flit)
+    → Names port held place flit
+    → ((other : ℕ) (contender : Flit) → Names port held other contender → other ≡ place)
+    → flits_for port held ≡ hopped flit ∷ []
 flits_for-alone port [] place flit names alone = absurd (let at = names.at in cc)
 flits_for-alone port (first ∷ held) zero flit names alone =
     let same : first ≡ Some flit = same_Some first (Some flit) names.at in
@@ -168,22 +168,22 @@ flits_for-alone port (Some first ∷ held) (suc place) flit names alone =
     ]
 
 -- The flit that alone names the port is carried there.
-pub sole-from_Alone : (port : ℕ) (held : List (Option Flit)) (sent : Flit) →
-    Alone port held sent → sole (flits_for port held) ≡ Some sent
+pub sole-from_Alone : (port : ℕ) (held : List (Option Flit)) (sent : Flit)
+    → Alone port held sent → sole (flits_for port held) ≡ Some sent
 sole-from_Alone port held sent alone =
     rw (flits_for-alone port held alone.place alone.flit alone.names alone.alone)
     (ap (λ (flit : Flit). Some flit) alone.sends)
 
 -- A list with a sole member has no other.
-sole-cons : (flit sent : Flit) (flits : List Flit) → sole (flit ∷ flits) ≡ Some sent →
-    flit ≡ sent
+sole-cons : (flit sent : Flit) (flits : List Flit) → sole (flit ∷ flits) ≡ Some sent
+    → flit ≡ sent
 sole-cons flit sent [] is = same_Some flit sent is
 sole-cons flit sent (next ∷ flits) is = absurd (cc is)
 
 -- What is carried there is held, and names the port.
-sole-held : (port : ℕ) (held : List (Option Flit)) (sent : Flit) →
-    sole (flits_for port held) ≡ Some sent →
-    (place : ℕ) × (flit : Flit) × Names port held place flit × (hopped flit ≡ sent)
+sole-held : (port : ℕ) (held : List (Option Flit)) (sent : Flit)
+    → sole (flits_for port held) ≡ Some sent
+    → (place : ℕ) × (flit : Flit) × Names port held place flit × (hopped flit ≡ sent)
 sole-held port [] sent is = absurd (cc is)
 sole-held port (None ∷ held) sent is =
     let rest = sole-held port held sent is in
@@ -204,8 +204,8 @@ sole-held port (Some first ∷ held) sent is =
     ]
 
 -- Only a flit that alone names the port is carried there.
-pub Alone-from_sole : (port : ℕ) (held : List (Option Flit)) (sent : Flit) →
-    sole (flits_for port held) ≡ Some sent → Alone port held sent
+pub Alone-from_sole : (port : ℕ) (held : List (Option Flit)) (sent : Flit)
+    → sole (flits_for port held) ≡ Some sent → Alone port held sent
 Alone-from_sole port held sent is =
     let found = sole-held port held sent is in
     record {

@@ -19,36 +19,50 @@ use Rattle.aeth_router.specs.Router.{is_among, numbers_of}
 use Rattle.aeth_router.proofs.LinkLemmas.{is_among-at}
 
 -- The number at a place.
-pub numbers_of-at : (links : List LinkId) (place : ℕ) (default : LinkId) → place < length links →
-    slice_get (numbers_of links) place ≡ Some (get_or links place default).0
+pub numbers_of-at : (links : List LinkId) (place : ℕ) (default : LinkId) → place < length links
+    → slice_get (numbers_of links) place ≡ Some (get_or links place default).0
 numbers_of-at links place default within =
     slice_get-map (λ link. link.0) links place
     ∙ ap (λ (link : Option LinkId). option_map (λ link. link.0) link)
     (slice_get-get_or links place default within)
 
 -- It is a link, where all are.
-pub numbers_of-below : (links : List LinkId) (place count : ℕ) (default : LinkId) →
-    AreLinks (is_among (numbers_of links)) count → place < length links →
-    (get_or links place default).0 < count
+pub numbers_of-below : (links : List LinkId) (place count : ℕ) (default : LinkId)
+    → AreLinks (is_among (numbers_of links)) count → place < length links
+    → (get_or links place default).0 < count
 numbers_of-below links place count default are_links within =
     are_links (get_or links place default).0
     (is_among-at (numbers_of links) place (get_or links place default).0
     (numbers_of-at links place default within))
 
 -- The numbers up to a place, and the one at it.
-take-at : (numbers : List ℕ) (place number : ℕ) → slice_get numbers place ≡ Some number →
-    take (place + 1) numbers ≡ take place numbers ++ number ∷ []
+take-at : (numbers : List ℕ) (place number : ℕ) → slice_get numbers place ≡ Some number
+    → take (place + 1) numbers ≡ take place numbers ++ number ∷ []
 take-at numbers place number at =
     take_more numbers place number (slice_get_within numbers place number at)
     ∙ ap (λ (last : ℕ). take place numbers ++ last ∷ [])
     (get_or_from_slice_get numbers place number number at)
 
+-- One link more, and what a function makes of its number.
+pub numbers_of-more : (change : ℕ → ℕ) (links made : List LinkId) (place : ℕ)
+    (default more : LinkId) → place < length links
+    → more.0 ≡ change (get_or links place default).0
+    → numbers_of made ≡ map change (take place (numbers_of links))
+    → numbers_of (made ++ more ∷ []) ≡ map change (take (place + 1) (numbers_of links))
+numbers_of-more change links made place default more within is before =
+    let number = (get_or links place default).0 in
+    rw (
+      map-append (λ (link : LinkId). link.0) made (more ∷ []),
+      take-at (numbers_of links) place number (numbers_of-at links place default within),
+      map-append change (take place (numbers_of links)) (number ∷ []),
+    ) (rw (before, is) refl)
+
 -- The flit of one link more is held.
 pub held-more : (wires held : List (Option Flit)) (links : List ℕ) (place link : ℕ)
-    (flit : Option Flit) → slice_get links place ≡ Some link → place < length held →
-    slice_get wires link ≡ Some flit →
-    take place held ≡ map (flit_on wires) (take place links) →
-    take (place + 1) (slice_set held place flit) ≡ map (flit_on wires) (take (place + 1) links)
+    (flit : Option Flit) → slice_get links place ≡ Some link → place < length held
+    → slice_get wires link ≡ Some flit
+    → take place held ≡ map (flit_on wires) (take place links)
+    → take (place + 1) (slice_set held place flit) ≡ map (flit_on wires) (take (place + 1) links)
 held-more wires held links place link flit at within on before =
     let is : flit ≡ flit_on wires link =
     ap (λ (there : Option (Option Flit)). unwrap_or there None) (sym on) in
@@ -57,8 +71,9 @@ held-more wires held links place link flit at within on before =
     (rw (before, is) refl)
 
 -- The links up to a place, and the one at it.
-is_among-more : (links : List ℕ) (place link other : ℕ) → slice_get links place ≡ Some link →
-    is_among (take (place + 1) links) other ≡ (is_among (take place links) other || eqb link other)
+is_among-more : (links : List ℕ) (place link other : ℕ) → slice_get links place ≡ Some link
+    → is_among (take (place + 1) links) other
+    ≡ (is_among (take place links) other || eqb link other)
 is_among-more links place link other at =
     rw (take-at links place link at)
     (list_any-append (λ among. eqb among other) (take place links) (link ∷ [])
@@ -66,9 +81,9 @@ is_among-more links place link other at =
 
 -- One link more is driven.
 pub Drives-more : (links : List ℕ) (flit_on : ℕ → Option Flit) (place link : ℕ)
-    (old middle : List (Option Flit)) → slice_get links place ≡ Some link → link < length old →
-    Drives (is_among (take place links)) flit_on old middle →
-    Drives (is_among (take (place + 1) links)) flit_on old
+    (old middle : List (Option Flit)) → slice_get links place ≡ Some link → link < length old
+    → Drives (is_among (take place links)) flit_on old middle
+    → Drives (is_among (take (place + 1) links)) flit_on old
     (slice_set middle link (flit_on link))
 Drives-more links flit_on place link old middle at within before =
     let size = before.links in

@@ -11,25 +11,25 @@ use Rattle.aeth_clocked.specs.declared.flit.Flit.{Flit}
 use Rattle.aeth_header.specs.Header.{port_of, next_word}
 use Rattle.aeth_router.specs.declared.traffic.Traffic.{Traffic}
 use Rattle.aeth_router.specs.declared.traffic.Traffic.TheVariants.{Free}
-use Rattle.aeth_router.specs.declared.traffic.TheConstants.{PORTS}
 use Rattle.aeth_router.specs.Ports.{flits_for, hopped, sole}
-use Rattle.aeth_router.specs.Traffic.{IsTraffic, traffic_of}
+use Rattle.aeth_router.specs.Traffic.{IsTraffic, named_ports, traffic_of}
 use Rattle.aeth_router.proofs.PortLemmas.{flits_for-past, flits_for-push, toward-other}
 use Rattle.aeth_router.proofs.PortLemmas.{toward-same}
 
 -- Before any flit each port is free.
-pub IsTraffic-start : IsTraffic (replicate PORTS Free) []
+pub IsTraffic-start : IsTraffic (replicate named_ports Free) []
 IsTraffic-start =
     record {
       size = refl;
       at = λ port within.
-          slice_get-get_or (replicate 8 Free) port Free within
-          ∙ ap (λ (traffic : Traffic). Some traffic) (get_or-replicate 8 port Free Free within);
+          slice_get-get_or (replicate named_ports Free) port Free within
+          ∙ ap (λ (traffic : Traffic). Some traffic)
+          (get_or-replicate named_ports port Free Free within);
     }
 
 -- Where a link brought no flit, nothing more goes anywhere.
-pub IsTraffic-none : (table : List Traffic) (before : List (Option Flit)) →
-    IsTraffic table before → IsTraffic table (before ++ None ∷ [])
+pub IsTraffic-none : (table : List Traffic) (before : List (Option Flit))
+    → IsTraffic table before → IsTraffic table (before ++ None ∷ [])
 IsTraffic-none table before traffic =
     record {
       size = traffic.size;
@@ -41,13 +41,13 @@ IsTraffic-none table before traffic =
 
 -- A flit that names a port adds to the traffic there.
 pub IsTraffic-some : (table : List Traffic) (before : List (Option Flit)) (flit : Flit)
-    (port header : ℕ) (default changed : Traffic) →
-    port ≡ port_of flit.header → header ≡ next_word flit.header →
-    ((flits : List Flit) → get_or table port default ≡ traffic_of flits →
-    changed ≡ traffic_of (flits ++ record flit { header = header } ∷ [])) →
-    IsTraffic table before → IsTraffic (slice_set table port changed) (before ++ Some flit ∷ [])
+    (port header : ℕ) (default changed : Traffic)
+    → port ≡ port_of flit.header → header ≡ next_word flit.header
+    → ((flits : List Flit) → get_or table port default ≡ traffic_of flits
+    → changed ≡ traffic_of (flits ++ record flit { header = header } ∷ []))
+    → IsTraffic table before → IsTraffic (slice_set table port changed) (before ++ Some flit ∷ [])
 IsTraffic-some table before flit port header default changed names moved more traffic =
-    let few : port < 8 = omega arith in
+    let few : port < named_ports = omega arith in
     let size = traffic.size in
     record {
       size = length-set table port changed ∙ traffic.size;
@@ -74,8 +74,8 @@ IsTraffic-some table before flit port header default changed names moved more tr
     }
 
 -- A port that the table doesn't have carries nothing.
-pub IsTraffic-past : (table : List Traffic) (held : List (Option Flit)) (port : ℕ) →
-    IsTraffic table held → length table ≤ port → sole (flits_for port held) ≡ None
+pub IsTraffic-past : (table : List Traffic) (held : List (Option Flit)) (port : ℕ)
+    → IsTraffic table held → length table ≤ port → sole (flits_for port held) ≡ None
 IsTraffic-past table held port traffic past =
     let size = traffic.size in
     ap sole (flits_for-past port held (omega arith))

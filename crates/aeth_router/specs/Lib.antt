@@ -1,4 +1,7 @@
 pub mod Agreement
+pub mod Part
+pub mod PartAgreement
 pub mod Ports
 pub mod Router
+pub mod Stage
 pub mod Traffic

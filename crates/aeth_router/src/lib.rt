@@ -1,9 +1,12 @@
-//! Routers: each flit that alone names a port moves on by one hop in a cycle.
+//! Routers, where each flit that alone names a port moves on by one hop in a cycle, and the stages
+//! of links with a delay.
 #![tactic(auto)]
 
+mod part;
 mod router;
-#[cfg(test)]
-mod tests;
+mod stage;
 mod traffic;
 
+pub use part::Part;
 pub use router::Router;
+pub use stage::Stage;

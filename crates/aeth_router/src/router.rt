@@ -1,11 +1,12 @@
-//! A router: flits latched in one cycle and driven in the next.
+// A router: flits latched in one cycle and driven in the next.
 
-ghost use Rattle.std.specs.Prelude.{◌≡◌, IfOk, length, map};
-ghost use Rattle.aeth_chip.specs.Nodes.{receives_on, sends_on};
+ghost use Rattle.std.specs.Prelude.{◌≡◌, ◌<◌, IfOk, length, map};
+ghost use Rattle.aeth_chip.specs.Nodes.{sends_on};
 ghost use Rattle.aeth_clocked.specs.Wires.{AreLinks, flit_on};
-ghost use Rattle.aeth_router.specs.Router.{absorbed, emitted_on, emptied, is_among};
-ghost use Rattle.aeth_router.specs.Router.{new_router, numbers_of};
-ghost use Rattle.aeth_router.specs.Agreement.{absorbed-agrees};
+ghost use Rattle.aeth_router.specs.Router.{is_among, last_wire, new_router, numbers_of};
+ghost use Rattle.aeth_router.specs.Router.{router_outputs, router_inputs, router_emit};
+ghost use Rattle.aeth_router.specs.Router.{router_after, router_absorb};
+ghost use Rattle.aeth_router.specs.Agreement.{router_absorb-agrees};
 ghost use Rattle.std.proofs.Common.{refl};
 
 use crate::traffic::emit;
@@ -48,13 +49,13 @@ impl Model for Router {
 
 impl Router {
     /// The chip's router of this number, which holds no flit; without links where the chip has no
-    /// such router.
+    /// such router. It receives on the last wire of each of its incoming links.
     ///
     /// Later calls take no memory, and time in the number of links of the router.
     pub fn new(alloc: Global, chip: &Chip, router: RouterId) -> Result<Router, NoMemory>
         ensures { IfOk result (λ made. made ≡ new_router router chip.now.links) }
     {
-        let incoming = receiving(alloc, chip, Node::Router(router))?;
+        let incoming = last_wires(alloc, chip, chip.incoming(router))?;
         let outgoing = sending(alloc, chip, Node::Router(router))?;
         let held = vec![in alloc; None; incoming.len()]?;
         Ok(Router {
@@ -66,15 +67,15 @@ impl Router {
 }
 
 impl Clocked for Router {
-    ghost outputs = { λ router link. is_among router.outgoing link };
+    ghost outputs = { router_outputs };
 
-    ghost inputs = { λ router link. is_among router.incoming link };
+    ghost inputs = { router_inputs };
 
-    ghost emit = { λ router cycle link. emitted_on router.outgoing router.held link };
+    ghost emit = { router_emit };
 
-    ghost after = { λ router cycle. emptied router };
+    ghost after = { router_after };
 
-    ghost absorb = { λ router wires. absorbed wires router };
+    ghost absorb = { router_absorb };
 
     fn drive(&mut self, _cycle: u64, wires: &mut Wires) {
         emit(&self.outgoing, &self.held, wires);
@@ -93,10 +94,10 @@ impl Clocked for Router {
 
     ghost inputs_absorb = { λ router wires link. refl };
 
-    ghost absorb_agrees = { absorbed-agrees };
+    ghost absorb_agrees = { router_absorb-agrees };
 }
 
-/// The links on which a node sends.
+// The links on which a node sends.
 fn sending(alloc: Global, chip: &Chip, node: Node) -> Result<Vec<LinkId>, NoMemory>
     ensures { IfOk result (λ links. numbers_of links.items ≡ sends_on node chip.now.links) }
 {
@@ -109,20 +110,28 @@ fn sending(alloc: Global, chip: &Chip, node: Node) -> Result<Vec<LinkId>, NoMemo
     Ok(links)
 }
 
-/// The links on which a node receives.
-fn receiving(alloc: Global, chip: &Chip, node: Node) -> Result<Vec<LinkId>, NoMemory>
-    ensures { IfOk result (λ links. numbers_of links.items ≡ receives_on node chip.now.links) }
+// The last wires of links.
+fn last_wires(alloc: Global, chip: &Chip, links: &[LinkId]) -> Result<Vec<LinkId>, NoMemory>
+    requires { AreLinks (is_among (numbers_of links.now)) (length chip.now.links) }
+    ensures { IfOk result (λ wires. numbers_of wires.items
+        ≡ map (last_wire chip.now.links) (numbers_of links.now)) }
 {
-    let mut links = Vec::new(alloc);
-    for number in 0..chip.links() {
-        if chip.link(LinkId(number)).ends_at(node) {
-            links.push(LinkId(number))?;
-        }
+    let mut wires = Vec::with_capacity(alloc, links.len())?;
+    for link in links {
+        wires.push(last_wire(chip, *link))?;
     }
-    Ok(links)
+    Ok(wires)
 }
 
-/// Holds from each incoming link what the wires have there.
+// The last wire of a link.
+fn last_wire(chip: &Chip, link: LinkId) -> LinkId
+    requires { link.0 < length chip.now.links }
+    ensures { result.0 ≡ last_wire chip.now.links link.0 }
+{
+    chip.wire(link, chip.link(link).delay - 1)
+}
+
+// Holds from each incoming wire what is there.
 fn take_in(held: &mut [Option<Flit>], incoming: &[LinkId], wires: &Wires)
     requires links { AreLinks (is_among (numbers_of incoming.now)) (length wires.now) }
     requires places { length held.old ≡ length incoming.now }

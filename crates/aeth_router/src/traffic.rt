@@ -1,20 +1,20 @@
-//! What the flits that a router holds put on its output links.
+// What the flits that a router holds put on its output links.
 
 ghost use Rattle.std.specs.Prelude.{◌≡◌, ◌++◌, ◌∷◌, [], List, Option, length};
 ghost use Rattle.aeth_clocked.specs.Wires.{AreLinks, Drives};
 ghost use Rattle.aeth_clocked.specs.declared.flit.Flit.{Flit};
 ghost use Rattle.aeth_router.specs.Ports.{flits_for, sole};
 ghost use Rattle.aeth_router.specs.Router.{AreApart, emitted_on, is_among, numbers_of};
-ghost use Rattle.aeth_router.specs.Traffic.{IsTraffic, traffic_of};
+ghost use Rattle.aeth_router.specs.Traffic.{IsTraffic, named_ports, traffic_of};
 
 use aeth_base::LinkId;
 use aeth_clocked::{Flit, Wires};
 use aeth_header::{PORT_BITS, hop};
 
-/// The output ports that a header can name.
+// The output ports that a header can name.
 const PORTS: usize = 1 << PORT_BITS;
 
-/// How much goes to one port: no flit, one, or flits that contend for it.
+// How much goes to one port: no flit, one, or flits that contend for it.
 #[derive(Clone, Copy)]
 enum Traffic {
     Free,
@@ -25,8 +25,8 @@ enum Traffic {
 impl Traffic {
     /// The traffic with one flit more.
     fn with(self, flit: Flit) -> Traffic
-        ensures { (flits : List Flit) → self ≡ traffic_of flits →
-            result ≡ traffic_of (flits ++ flit ∷ []) }
+        ensures { (flits : List Flit) → self ≡ traffic_of flits
+            → result ≡ traffic_of (flits ++ flit ∷ []) }
     {
         match self {
             Traffic::Free => Traffic::One(flit),
@@ -62,7 +62,7 @@ pub(crate) fn emit(outgoing: &[LinkId], held: &[Option<Flit>], wires: &mut Wires
     }
 }
 
-/// What goes to each port.
+// What goes to each port.
 fn traffic_by(held: &[Option<Flit>]) -> [Traffic; PORTS]
     ensures { IsTraffic result held.now }
 {
@@ -73,11 +73,11 @@ fn traffic_by(held: &[Option<Flit>]) -> [Traffic; PORTS]
     table
 }
 
-/// Sends one flit more to the port that it names.
+// Sends one flit more to the port that it names.
 fn send(table: &mut [Traffic], latched: Option<Flit>)
-    requires { length table.old ≡ PORTS }
-    ensures { (before : List (Option Flit)) → IsTraffic table.old before →
-        IsTraffic table.new (before ++ latched ∷ []) }
+    requires { length table.old ≡ named_ports }
+    ensures { (before : List (Option Flit)) → IsTraffic table.old before
+        → IsTraffic table.new (before ++ latched ∷ []) }
 {
     let Some(flit) = latched else {
         return;
@@ -87,10 +87,10 @@ fn send(table: &mut [Traffic], latched: Option<Flit>)
     table[port as usize] = traffic.with(Flit { header, ..flit });
 }
 
-/// The flit on a port; none past those that a header can name.
+// The flit on a port; none past those that a header can name.
 fn carried_on(table: &[Traffic], port: usize) -> Option<Flit>
-    ensures { (held : List (Option Flit)) → IsTraffic table.now held →
-        result ≡ sole (flits_for port held) }
+    ensures { (held : List (Option Flit)) → IsTraffic table.now held
+        → result ≡ sole (flits_for port held) }
 {
     match table.get(port) {
         Some(traffic) => traffic.carried(),

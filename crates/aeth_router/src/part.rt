@@ -1,0 +1,60 @@
+// A component of any kind.
+
+ghost use Rattle.aeth_router.specs.Part.{outputs_of, inputs_of, emit_of, after_of, absorb_of};
+ghost use Rattle.aeth_router.specs.PartAgreement.{outputs_of-after, inputs_of-after};
+ghost use Rattle.aeth_router.specs.PartAgreement.{outputs_of-absorb, inputs_of-absorb};
+ghost use Rattle.aeth_router.specs.PartAgreement.{absorb_of-agrees};
+
+use crate::router::Router;
+use crate::stage::Stage;
+use aeth_clocked::{Clocked, Wires};
+use aeth_ni::Ni;
+
+/// A component of a network.
+#[derive(Debug, Drop)]
+pub enum Part {
+    /// A network interface.
+    Interface(Ni),
+    /// A router.
+    Router(Router),
+    /// A stage of a link with a delay.
+    Stage(Stage),
+}
+
+impl Clocked for Part {
+    ghost outputs = { outputs_of };
+
+    ghost inputs = { inputs_of };
+
+    ghost emit = { emit_of };
+
+    ghost after = { after_of };
+
+    ghost absorb = { absorb_of };
+
+    fn drive(&mut self, cycle: u64, wires: &mut Wires) {
+        match self {
+            Part::Interface(ni) => ni.drive(cycle, wires),
+            Part::Router(router) => router.drive(cycle, wires),
+            Part::Stage(stage) => stage.drive(cycle, wires),
+        }
+    }
+
+    fn latch(&mut self, wires: &Wires) {
+        match self {
+            Part::Interface(ni) => ni.latch(wires),
+            Part::Router(router) => router.latch(wires),
+            Part::Stage(stage) => stage.latch(wires),
+        }
+    }
+
+    ghost outputs_after = { outputs_of-after };
+
+    ghost inputs_after = { inputs_of-after };
+
+    ghost outputs_absorb = { outputs_of-absorb };
+
+    ghost inputs_absorb = { inputs_of-absorb };
+
+    ghost absorb_agrees = { absorb_of-agrees };
+}
