@@ -1,3 +1,4 @@
+// What no clause says: that the definitions of network interfaces mean the rules.
 ghost use Rattle.std.specs.Prelude.{◌≡◌, length};
 ghost use Rattle.aeth_base.specs.Limits.{max_slots};
 ghost use Rattle.aeth_hardware_tests.specs.declared.interface.TheConstants.{NUMBER, LEAVING};
@@ -19,7 +20,7 @@ const SLOTS: u32 = 128;
 
 const QUEUES: u8 = 32;
 
-/// An interface with the widest slot table, between two links.
+// An interface with the widest slot table, between two links.
 #[derive(Drop)]
 struct Bench {
     ni: Ni,
@@ -31,37 +32,37 @@ struct Bench {
     ghost links: { length wires ≡ 2 },
 }
 
-/// A call on the interface of a bench, and what it is to answer.
+// A call on the interface of a bench, and what it is to answer.
 #[derive(Clone, Copy)]
 enum Step {
-    /// The queue, its remote queue and its counter; the route is 1.
+    // The queue, its remote queue and its counter; the route is 1.
     SetRoute(u8, u8, u32),
     ClearRoute(u8),
     SetSlot(u32, u8),
     ClearSlot(u32),
-    /// The queue, the word, and whether it is taken.
+    // The queue, the word, and whether it is taken.
     Offer(u8, u32, bool),
-    /// The queue, and the word that it gives.
+    // The queue, and the word that it gives.
     Take(u8, Option<u32>),
     Halt(u8),
     Finish(u8),
-    /// The cycle, and the header and words on the leaving link.
+    // The cycle, and the header and words on the leaving link.
     Drive(u64, Option<[u32; 3]>),
-    /// The header and words on the entering link, and the queue and word count that are told.
+    // The header and words on the entering link, and the queue and word count that are told.
     Latch([u32; 3], Option<(u8, u8)>),
 }
 
 use Step::{ClearRoute, ClearSlot, Drive, Finish, Halt, Latch, Offer, SetRoute, SetSlot, Take};
 
 impl Bench {
-    /// All queues are empty, and each receive queue has room for so many words.
+    // All queues are empty, and each receive queue has room for so many words.
     fn new(alloc: Global, room: u32) -> Result<Bench, NoMemory> {
         let ni = Ni::new(alloc, NUMBER, LEAVING, ENTERING, SLOTS, &[room; 32])?;
         let wires = Wires::new(alloc, 2)?;
         Ok(Bench { ni, wires })
     }
 
-    /// Whether a step is answered as it is to be.
+    // Whether a step is answered as it is to be.
     fn answers(&mut self, step: Step) -> bool {
         match step {
             SetRoute(queue, remote, credits) => self.set_route(queue, remote, credits),
@@ -164,7 +165,7 @@ impl Bench {
     }
 }
 
-/// With counter 1 one of two words is sent in the queue's slot, and one waits for a credit.
+// With counter 1 one of two words is sent in the queue's slot, and one waits for a credit.
 const A_WORD_IS_HELD_BACK: [Step; 9] = [
     SetRoute(0, 3, 1),
     SetSlot(2, 0),
@@ -179,8 +180,8 @@ const A_WORD_IS_HELD_BACK: [Step; 9] = [
     Drive(2, Some([0x4060_0001, 101, 0])),
 ];
 
-/// Four words land in queue 9, of which the newest three stay. Credits go back, without a word
-/// beside them.
+// Four words land in queue 9, of which the newest three stay. Credits go back, without a word
+// beside them.
 const TAKEN_WORDS_RETURN: [Step; 11] = [
     SetRoute(9, 31, 0),
     SetSlot(0, 9),
@@ -196,7 +197,7 @@ const TAKEN_WORDS_RETURN: [Step; 11] = [
     Drive(128, None),
 ];
 
-/// A full source queue in the last slot, a halt, a finish, and tables that are cleared.
+// A full source queue in the last slot, a halt, a finish, and tables that are cleared.
 const NOTHING_IS_SENT: [Step; 29] = [
     SetRoute(7, 7, 65_535),
     SetSlot(127, 7),
@@ -230,8 +231,8 @@ const NOTHING_IS_SENT: [Step; 29] = [
     Drive(127, None),
 ];
 
-/// The place of the first step that isn't answered as it is to be, where each receive queue has
-/// room for so many words.
+// The place of the first step that isn't answered as it is to be, where each receive queue has
+// room for so many words.
 fn first_wrong(alloc: Global, room: u32, steps: &[Step]) -> Result<Option<usize>, NoMemory> {
     let mut bench = Bench::new(alloc, room)?;
     for (place, step) in steps.iter().enumerate() {

@@ -5,3 +5,5 @@
 mod clocked;
 #[cfg(test)]
 mod interface;
+#[cfg(test)]
+mod router;
