@@ -1,6 +1,7 @@
 mod Chains
 mod Fronts
 mod NameCounts
+mod OwnNames
 mod StartLaws
 mod PrintLaws
 pub mod LineForms

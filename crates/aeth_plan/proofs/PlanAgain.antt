@@ -11,13 +11,13 @@ use Rattle.aeth_base.specs.Name.{is_name}
 use Rattle.aeth_base.specs.declared.ids.LinkId.{LinkId}
 use Rattle.aeth_slots.specs.SlotSet.{Ascends}
 use Rattle.aeth_chip.specs.Chip.{ChipData, IsChip}
-use Rattle.aeth_app.specs.App.{AppData}
+use Rattle.aeth_app.specs.App.{AppData, IsApp}
 use Rattle.aeth_group.specs.Members.{GroupsData, IsGroups}
 use Rattle.aeth_group.specs.declared.grant.Grant.{Grant}
 use Rattle.aeth_group.specs.declared.grant.SeatLine.{SeatLine}
 use Rattle.aeth_plan.specs.Plan.{IsGrantOf, IsPlanOf, IsSeatOf, PlanData, connection_names}
 use Rattle.aeth_plan.specs.Plan.{core_names, grant_before, name_at, seat_before}
-use Rattle.aeth_plan.specs.PlanText.{HasNames, grant_words}
+use Rattle.aeth_plan.specs.PlanText.{grant_words}
 use Rattle.aeth_plan.specs.Rules.{each, known_grant}
 use Rattle.aeth_plan.specs.PlanText.{plan_in, plan_of, plan_text}
 use Rattle.aeth_plan.specs.Rules.{known_seat}
@@ -29,9 +29,10 @@ use Rattle.aeth_plan.proofs.Places.{place_again}
 use Rattle.aeth_plan.proofs.TextLaws.{text_again}
 use Rattle.aeth_text.specs.Fields.{are_ascending, is_path}
 use Rattle.aeth_text.specs.Limits.{max_number}
-use Rattle.aeth_app.specs.declared.app.TheConstants.{SEATS}
+use Rattle.aeth_app.specs.Limits.{seats_per_ni}
 use Rattle.aeth_text.specs.Order.{misplaced}
 use Rattle.aeth_text.proofs.OrderLaws.{none_misplaced}
+use Rattle.aeth_plan.proofs.OwnNames.{HasNames, names_hold}
 use Rattle.aeth_plan.proofs.NameCounts.{length-connection_names, length-core_names}
 use Rattle.aeth_plan.specs.Layout.{first_grant_line, first_seat_line}
 
@@ -99,7 +100,7 @@ seat_again chip app names line seat of =
       place_again (core_names app) names.apart_cores seat.core.0
           (omega (arith, of.core, length-core_names app)),
       place_again chip.nis names.apart_nis seat.ni.0 of.ni,
-      lt-ltb seat.seat SEATS of.seat,
+      lt-ltb seat.seat seats_per_ni of.seat,
     ) refl
 
 grant_again : (chip : ChipData) (app : AppData) (groups : GroupsData) → HasNames chip app
@@ -138,10 +139,11 @@ in_again chip app groups names plan of =
 
 -- The plan is read of its text, where it is one for the chip, the application and its groups.
 pub plan_again : (chip : ChipData) (app : AppData) (groups : GroupsData) → IsChip chip
-    → IsGroups groups → HasNames chip app → (plan : PlanData) → IsPlanOf chip app groups plan
+    → IsApp app → IsGroups groups → (plan : PlanData) → IsPlanOf chip app groups plan
     → plan_of chip app groups (plan_text chip app plan) ≡ Ok plan
 unfolding plan_of plan_text
-plan_again chip app groups is_chip is_groups names plan of =
+plan_again chip app groups is_chip is_app is_groups plan of =
+    let names = names_hold chip app is_chip is_app in
     let few_slots = is_chip.slots in
     let has : IsText (plan_words chip app plan) = record {
       slots = omega (arith, few_slots, of.slots);

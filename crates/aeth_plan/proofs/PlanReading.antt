@@ -29,7 +29,7 @@ use Rattle.aeth_plan.proofs.Places.{each_only, found_ok, holds_ok}
 use Rattle.aeth_plan.proofs.Places.{is_none-None, ordered_ok, place_only}
 use Rattle.aeth_plan.proofs.TextLaws.{text_only}
 use Rattle.aeth_plan.proofs.Chains.{bind_ok, ok_is}
-use Rattle.aeth_app.specs.declared.app.TheConstants.{SEATS}
+use Rattle.aeth_app.specs.Limits.{seats_per_ni}
 use Rattle.aeth_text.specs.Order.{misplaced}
 use Rattle.aeth_text.proofs.OrderLaws.{rises}
 use Rattle.aeth_plan.proofs.NameCounts.{length-connection_names, length-core_names}
@@ -42,7 +42,7 @@ unfolding known_seat
 seat_only chip app line text seat has e =
     let (core, e1, r1) = bind_ok (found line 2 (place_of (core_names app) text.core)) _ seat e in
     let (ni, e2, r2) = bind_ok (found line 3 (place_of chip.nis text.ni)) _ seat r1 in
-    let (u, e3, r3) = bind_ok (holds line 4 (nat_lt text.seat SEATS)) _ seat r2 in
+    let (u, e3, r3) = bind_ok (holds line 4 (nat_lt text.seat seats_per_ni)) _ seat r2 in
     let made : SeatLine =
     record { core = record { 0 = core }; ni = record { 0 = ni }; seat = text.seat } in
     let cores = place_only (core_names app) text.core core (found_ok line 2 _ core e1) in
@@ -53,7 +53,7 @@ seat_only chip app line text seat has e =
       record {
         core = omega (arith, cores.0, length-core_names app);
         ni = nis.0;
-        seat = ltb-true text.seat SEATS (holds_ok line 4 _ u e3);
+        seat = ltb-true text.seat seats_per_ni (holds_ok line 4 _ u e3);
       },
     )
 

@@ -16,7 +16,7 @@ use Rattle.aeth_slots.specs.SlotSet.{Ascends}
 use Rattle.aeth_text.specs.Order.{Rises}
 use Rattle.aeth_chip.specs.Chip.{ChipData}
 use Rattle.aeth_app.specs.App.{AppData}
-use Rattle.aeth_app.specs.declared.app.TheConstants.{SEATS}
+use Rattle.aeth_app.specs.Limits.{seats_per_ni}
 use Rattle.aeth_group.specs.Members.{GroupsData}
 use Rattle.aeth_group.specs.declared.grant.Grant.{Grant}
 use Rattle.aeth_group.specs.declared.grant.SeatLine.{SeatLine}
@@ -54,7 +54,7 @@ pub record IsPlan (plan : PlanData) : Type 0 where
 pub record IsSeatOf (chip : ChipData) (app : AppData) (line : SeatLine) : Type 0 where
   pub core : line.core.0 < length app.cores
   pub ni : line.ni.0 < length chip.nis
-  pub seat : line.seat < SEATS
+  pub seat : line.seat < seats_per_ni
 
 -- What holds of a grant for a chip, an application and its groups: what it names is there, its path
 -- has 2 to 8 links, and it has at least one start.

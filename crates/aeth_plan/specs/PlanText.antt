@@ -3,13 +3,9 @@
 --   plan_in, plan_of      the plan of a text
 --   seat_words, grant_words, plan_words, plan_text      the text of a plan
 --   HasSeat, HasConnection      what a line has to name to be printed
---   HasNames      what holds of the names of a chip and an application that were read
 -- This project's own.
-use Rattle.std.specs.Prelude.{ℕ, ◌<◌, ◌==◌, List, length, map, IsTrue, Result, Ok}
-use Rattle.std.specs.List.{AllByRecursion, IsDistinct}
-use Rattle.std.specs.Str.{bytes_eq}
+use Rattle.std.specs.Prelude.{ℕ, ◌<◌, ◌==◌, List, length, map, Result, Ok}
 use Rattle.aeth_base.specs.Faults.{BrokenRule}
-use Rattle.aeth_base.specs.Name.{is_name}
 use Rattle.aeth_document.specs.Chain.{◌>>=◌}
 use Rattle.aeth_text.specs.Order.{misplaced}
 use Rattle.aeth_chip.specs.Chip.{ChipData}
@@ -79,13 +75,3 @@ pub record HasSeat (chip : ChipData) (app : AppData) (seat : SeatLine) : Type 0 
 -- A grant names a connection that there is.
 abbrev pub HasConnection : AppData → Grant → Type 0
 HasConnection app grant = grant.unit.conn.0 < length app.connections
-
--- What holds of the names of every chip and application: they are names, and no two interfaces, no
--- two cores and no two connections have one.
-pub record HasNames (chip : ChipData) (app : AppData) : Type 0 where
-  pub nis : AllByRecursion (λ name. IsTrue (is_name name)) chip.nis
-  pub cores : AllByRecursion (λ name. IsTrue (is_name name)) (core_names app)
-  pub connections : AllByRecursion (λ name. IsTrue (is_name name)) (connection_names app)
-  pub apart_nis : IsDistinct bytes_eq chip.nis
-  pub apart_cores : IsDistinct bytes_eq (core_names app)
-  pub apart_connections : IsDistinct bytes_eq (connection_names app)

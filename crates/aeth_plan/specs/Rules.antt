@@ -13,7 +13,7 @@ use Rattle.aeth_document.specs.Chain.{◌>>=◌}
 use Rattle.aeth_text.specs.Order.{line_after}
 use Rattle.aeth_chip.specs.Chip.{ChipData}
 use Rattle.aeth_app.specs.App.{AppData}
-use Rattle.aeth_app.specs.declared.app.TheConstants.{SEATS}
+use Rattle.aeth_app.specs.Limits.{seats_per_ni}
 use Rattle.aeth_group.specs.Members.{GroupsData}
 use Rattle.aeth_group.specs.declared.grant.Grant.{Grant}
 use Rattle.aeth_group.specs.declared.grant.SeatLine.{SeatLine}
@@ -53,7 +53,7 @@ unfoldable pub known_seat : ChipData → AppData → ℕ → SeatText → Result
 known_seat chip app line text = do
   core ← found line 2 (place_of (core_names app) text.core)
   ni ← found line 3 (place_of chip.nis text.ni)
-  seat ← holds line 4 (nat_lt text.seat SEATS)
+  seat ← holds line 4 (nat_lt text.seat seats_per_ni)
   Ok (record { core = record { 0 = core }; ni = record { 0 = ni }; seat = text.seat })
 
 -- The grant of a line.

@@ -11,7 +11,7 @@ ghost use Rattle.aeth_plan.specs.Refusals.{rule_of};
 use crate::fault::PlanFault;
 use crate::layout::FIRST_SEAT_LINE;
 use crate::text::{GrantText, SeatText};
-use aeth_app::{App, SEATS};
+use aeth_app::{App, SEATS_PER_NI};
 use aeth_base::{GroupId, Path, Unit};
 use aeth_chip::Chip;
 use aeth_group::{Grant, Groups, SeatLine};
@@ -43,7 +43,7 @@ fn known_seat(chip: &Chip, app: &App, line: u32, text: &SeatText) -> Result<Seat
     let Some(ni) = chip.find_ni(&text.ni) else {
         return Err(PlanFault::Unknown { line, field: 3 });
     };
-    holds(line, 4, text.seat < SEATS)?;
+    holds(line, 4, text.seat < SEATS_PER_NI)?;
     let seat = text.seat as u8;
     Ok(SeatLine { core, ni, seat })
 }

@@ -15,6 +15,7 @@ mod text;
 
 pub use fault::PlanFault;
 pub use laws::{plan_has_text, plan_is_for_chip, text_is_read};
+pub use layout::{FIRST_SEAT_LINE, first_grant_line};
 pub use plan::Plan;
 pub use printing::print;
 pub use read::read_plan;

@@ -1,10 +1,9 @@
 -- Lists that are printed word by word, with commas between.
-use Rattle.std.proofs.Common.{◌≡◌, ◌+◌, ◌∙◌, ℕ, Bool, true, false, List, [], ◌∷◌, ◌++◌, drop}
-use Rattle.std.proofs.Common.{Some, refl, sym, ap, append_assoc, slice_get}
+use Rattle.std.proofs.Common.{◌≡◌, ◌∙◌, ℕ, Bool, true, false, List, [], ◌∷◌, ◌++◌}
+use Rattle.std.proofs.Common.{refl, sym, ap, append_assoc}
 use Rattle.std.specs.Prelude.{flat_map}
 use Rattle.std.specs.List.{join_with_byte}
-use Rattle.std.proofs.lemmas.List.{append-nil, drop_more}
-use Rattle.std.proofs.lemmas.Option.{get_or_from_slice_get, slice_get_within}
+use Rattle.std.proofs.lemmas.List.{append-nil}
 use Rattle.aeth_text.specs.Limits.{comma}
 use Rattle.aeth_text.specs.Spelling.{item}
 
@@ -42,12 +41,3 @@ items_end out true words total none so_far =
     sym (append-nil out) ∙ ap (λ ws. out ++ joined_on true ws) (sym none) ∙ so_far
 items_end out false words total none so_far =
     sym (append-nil out) ∙ ap (λ ws. out ++ joined_on false ws) (sym none) ∙ so_far
-
--- ---- Places
-
--- From a place on, a list has the item there and those after it.
-pub drop_from : {X : Type 0} (xs : List X) (i : ℕ) (x : X) → slice_get xs i ≡ Some x
-    → drop i xs ≡ x ∷ drop (i + 1) xs
-drop_from xs i x at =
-    drop_more xs i x (slice_get_within xs i x at)
-    ∙ ap (λ y. y ∷ drop (i + 1) xs) (get_or_from_slice_get xs i x x at)

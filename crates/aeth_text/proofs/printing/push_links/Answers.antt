@@ -1,6 +1,7 @@
 use Rattle.std.proofs.Common.{ap, map}
 use Rattle.aeth_text.specs.Spelling.{link_word}
-use Rattle.aeth_text.proofs.PrintLaws.{drop_from, item_step}
+use Rattle.aeth_text.proofs.PrintLaws.{item_step}
+use Rattle.aeth_base.proofs.Lists.{drop-slice_get}
 use Rattle.aeth_text.proofs.printing.push_links.Goals as goal
 
 -- One link more is printed.
@@ -8,5 +9,5 @@ pub loop-i-preserved : goal.loop-i-preserved
 loop-i-preserved c =
     item_step c.loop-i.out.items c.push_item.new.out.items c.loop-i.first _ _ _
     c.in_ok-push_item.ensures
-    (rw (ap (map link_word) (drop_from c.args.path.now c.loop-i.i c.link.result c.link.ensures))
+    (rw (ap (map link_word) (drop-slice_get c.args.path.now c.loop-i.i c.link.result c.link.ensures))
     at c.loop-i.invariant)
