@@ -1,0 +1,16 @@
+mod Walks
+mod UnitLists
+mod SlotLaws
+mod MaskLaws
+mod UseLaws
+mod MeetLaws
+mod TouchLaws
+mod ConflictLaws
+mod HoldLaws
+mod MeetingLaws
+mod FirstLaws
+mod RouteLaws
+mod SeatLaws
+mod ChannelLaws
+mod AcceptedLaws
+mod PlanParts

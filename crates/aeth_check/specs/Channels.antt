@@ -1,0 +1,123 @@
+-- What the grants of a plan are for: units with both sides, paths between the seats of the cores,
+-- and slots that suffice.
+--
+--   sender, receiver      the cores of a channel
+--   is_for, has_side, lacking_side, first_lacking      the grants of a unit's sides, and the first side without
+--   fits_path, IsOnPath      a grant's path leads from the sender's seat to the receiver's
+--   fits_slots, HasSlots      a grant's slots suffice for what the channel needs and wishes
+-- Connections: after Æthereal (2005). The rest: this project's own.
+use Rattle.std.specs.Prelude.{◌≡◌, ◌+◌, ◌-◌, ℕ, ◌==◌, ◌&&◌, Bool, true, false, List, [], ◌∷◌}
+use Rattle.std.specs.Prelude.{Option, Some, None, slice_get, if◌then◌else◌}
+use Rattle.std.specs.List.{list_any}
+use Rattle.aeth_base.specs.declared.ids.CoreId.{CoreId}
+use Rattle.aeth_base.specs.declared.ids.LinkId.{LinkId}
+use Rattle.aeth_base.specs.declared.ids.NiId.{NiId}
+use Rattle.aeth_base.specs.declared.ids.Side.{Side}
+use Rattle.aeth_base.specs.declared.ids.Side.TheVariants.{Fwd, Back}
+use Rattle.aeth_base.specs.declared.ids.Unit.{Unit as GroupUnit}
+use Rattle.aeth_slots.specs.Choice.{IsSuitable, is_suitable}
+use Rattle.aeth_chip.specs.Chip.{ChipData}
+use Rattle.aeth_chip.specs.Paths.{IsAdmissible, path_delay}
+use Rattle.aeth_app.specs.App.{AppData, wish_of}
+use Rattle.aeth_app.specs.Rates.{need_of}
+use Rattle.aeth_app.specs.declared.connection.Connection.{Connection}
+use Rattle.aeth_group.specs.declared.grant.Grant.{Grant}
+use Rattle.aeth_group.specs.declared.grant.SeatLine.{SeatLine}
+use Rattle.aeth_check.specs.Routes.{is_admissible}
+use Rattle.aeth_check.specs.Seats.{ni_of}
+
+-- The core that sends on a side of a connection.
+abbrev pub sender : Connection → Side → CoreId
+sender connection Fwd = connection.from
+sender connection Back = connection.to
+
+-- The core that receives on a side of a connection.
+abbrev pub receiver : Connection → Side → CoreId
+receiver connection Fwd = connection.to
+receiver connection Back = connection.from
+
+-- ---- Units
+
+-- Whether two sides are one.
+abbrev pub same_side : Side → Side → Bool
+same_side Fwd Fwd = true
+same_side Fwd Back = false
+same_side Back Fwd = false
+same_side Back Back = true
+
+-- Whether a grant is for a side of a unit.
+abbrev pub is_for : GroupUnit → Side → Grant → Bool
+is_for unit side grant = grant.unit.conn.0 == unit.conn.0
+    && (grant.unit.group.0 == unit.group.0 && same_side grant.side side)
+
+-- Whether some grant is for a side of a unit.
+abbrev pub has_side : List Grant → GroupUnit → Side → Bool
+has_side grants unit side = list_any (is_for unit side) grants
+
+-- The first side of a unit without a grant.
+abbrev pub lacking_side : List Grant → GroupUnit → Option Side
+lacking_side grants unit =
+    if has_side grants unit Fwd
+    then (if has_side grants unit Back then None else Some Back)
+    else Some Fwd
+
+-- A side of a unit, where there is one, and else what is found later.
+abbrev pub side_or : GroupUnit → Option Side → Option (GroupUnit × Side)
+    → Option (GroupUnit × Side)
+side_or unit None later = later
+side_or unit (Some side) later = Some (unit, side)
+
+-- The first side of the units that has no grant.
+abbrev pub first_lacking : List Grant → List GroupUnit → Option (GroupUnit × Side)
+first_lacking grants [] = None
+first_lacking grants (unit ∷ units) =
+    side_or unit (lacking_side grants unit) (first_lacking grants units)
+
+-- ---- Paths
+
+-- Whether a path may lead from an interface to an interface, both of which may be missing.
+abbrev pub leads : ChipData → ℕ → Option NiId → Option NiId → List LinkId → Bool
+leads chip detour None to path = false
+leads chip detour (Some a) None path = false
+leads chip detour (Some a) (Some b) path = is_admissible chip detour a b path
+
+-- Whether a grant of a connection, which may be missing, has a path from its sender's seat to its
+-- receiver's.
+abbrev pub fits_path : ChipData → AppData → List SeatLine → Grant → Option Connection → Bool
+fits_path chip app seats grant None = false
+fits_path chip app seats grant (Some connection) =
+    leads chip app.detour (ni_of seats (sender connection grant.side))
+    (ni_of seats (receiver connection grant.side)) grant.path
+
+-- The grant's path is admissible from the interface of its sender's seat to that of its receiver's,
+-- and both are seated.
+pub record IsOnPath (chip : ChipData) (app : AppData) (seats : List SeatLine) (grant : Grant)
+    : Type 0 where
+  pub connection : Connection
+  pub is : slice_get app.connections grant.unit.conn.0 ≡ Some connection
+  pub from : NiId
+  pub to : NiId
+  pub sends : ni_of seats (sender connection grant.side) ≡ Some from
+  pub receives : ni_of seats (receiver connection grant.side) ≡ Some to
+  pub admissible : IsAdmissible chip.links app.detour from to grant.path
+
+-- ---- Slots
+
+-- The gap that a channel's slots may have: the latency that it wishes and 1, without the delay of
+-- its path. Where the path alone takes longer it is 0, and no slots have so small a gap.
+abbrev pub gap_for : ChipData → Connection → Grant → ℕ
+gap_for chip connection grant =
+    (wish_of connection grant.side).latency + 1 - path_delay chip.links grant.path
+
+-- Whether the slots of a grant of a connection, which may be missing, suffice.
+abbrev pub fits_slots : ChipData → AppData → Grant → Option Connection → Bool
+fits_slots chip app grant None = false
+fits_slots chip app grant (Some connection) =
+    is_suitable (need_of app.slots connection grant.side) (gap_for chip connection grant) grant.slots
+
+-- The grant's slots are as many as the channel needs, and none is too far from the next.
+pub record HasSlots (chip : ChipData) (app : AppData) (grant : Grant) : Type 0 where
+  pub connection : Connection
+  pub is : slice_get app.connections grant.unit.conn.0 ≡ Some connection
+  pub suitable : IsSuitable (need_of app.slots connection grant.side)
+      (gap_for chip connection grant) grant.slots

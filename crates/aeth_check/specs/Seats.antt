@@ -1,0 +1,51 @@
+-- Where a plan seats cores. Seats: after UMARS (2005), which places cores on network interfaces.
+--
+--   IsOneSeat, is_one_seat      two lines seat cores on one seat
+--   ni_of, seat_line      the interface of a core's seat, and the seat's line
+--   is_misseated, first_misseated      cores that are fixed to an interface and not seated there
+use Rattle.std.specs.Prelude.{◌≡◌, ◌+◌, ◌==◌, ◌&&◌, ℕ, Bool, false, not, List, [], ◌∷◌, Option, Some}
+use Rattle.std.specs.Prelude.{None, unwrap_or, if◌then◌else◌}
+use Rattle.aeth_base.specs.declared.ids.CoreId.{CoreId}
+use Rattle.aeth_base.specs.declared.ids.NiId.{NiId}
+use Rattle.aeth_app.specs.App.{is_ni}
+use Rattle.aeth_app.specs.declared.connection.Core.{Core}
+use Rattle.aeth_group.specs.declared.grant.SeatLine.{SeatLine}
+use Rattle.aeth_plan.specs.Layout.{first_seat_line}
+use Rattle.aeth_check.specs.Firsts.{first_line}
+
+-- Two lines seat cores on one seat: the interface is one, and the seat there.
+pub record IsOneSeat (a b : SeatLine) : Type 0 where
+  pub ni : a.ni.0 ≡ b.ni.0
+  pub seat : a.seat ≡ b.seat
+
+-- The same as a test.
+abbrev pub is_one_seat : SeatLine → SeatLine → Bool
+is_one_seat a b = a.ni.0 == b.ni.0 && a.seat == b.seat
+
+-- The network interface of a core's seat; `None` where the core isn't seated.
+abbrev pub ni_of : List SeatLine → CoreId → Option NiId
+ni_of [] core = None
+ni_of (line ∷ lines) core = if line.core.0 == core.0 then Some line.ni else ni_of lines core
+
+-- The line of a core's seat; 0 where the core isn't seated.
+abbrev pub seat_line : List SeatLine → CoreId → ℕ
+seat_line seats core =
+    unwrap_or (first_line (λ line. line.core.0 == core.0) first_seat_line seats) 0
+
+-- Whether a core that may be fixed to an interface has its seat elsewhere, or none.
+abbrev pub is_elsewhere : Option NiId → Option NiId → Bool
+is_elsewhere None seated = false
+is_elsewhere (Some ni) seated = not (is_ni seated ni.0)
+
+-- Whether a core is fixed to an interface and not seated there.
+abbrev pub is_misseated : List SeatLine → CoreId → Core → Bool
+is_misseated seats core one = is_elsewhere one.fixed (ni_of seats core)
+
+-- The line of the first core that is fixed to an interface and not seated there. The first core of
+-- the list has this number.
+abbrev pub first_misseated : List SeatLine → ℕ → List Core → Option ℕ
+first_misseated seats number [] = None
+first_misseated seats number (one ∷ cores) =
+    if is_misseated seats (record { 0 = number }) one
+    then Some (seat_line seats (record { 0 = number }))
+    else first_misseated seats (number + 1) cores

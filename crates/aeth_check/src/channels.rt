@@ -1,0 +1,127 @@
+// Rules 3 and 4: units and their sides.
+ghost use Rattle.aeth_check.specs.Channels.{first_lacking, has_side, is_for, lacking_side};
+ghost use Rattle.aeth_check.specs.Channels.{same_side};
+ghost use Rattle.aeth_check.specs.Firsts.{first_line};
+ghost use Rattle.aeth_check.specs.Verdict.{lacking, stranger};
+ghost use Rattle.aeth_group.specs.Members.{is_member, units_of, units_with};
+ghost use Rattle.std.specs.Prelude.{◌≡◌, not};
+
+use crate::lines::grants_begin;
+use crate::verdict::Verdict;
+use aeth_base::{ConnId, GroupId, Side, Unit};
+use aeth_group::{Grant, Groups};
+use aeth_plan::Plan;
+use aeth_text::line_after;
+
+/// The line of the first grant whose connection is in no use case of its group.
+fn first_stranger(groups: &Groups, first: u32, grants: &[Grant]) -> Option<u32>
+    ensures { result ≡ first_line
+        (λ grant. not (is_member groups.now grant.unit.group.0 grant.unit.conn.0)) first
+        grants.now }
+{
+    let mut line = first;
+    for grant in grants {
+        if !groups.member(grant.unit.group, grant.unit.conn) {
+            return Some(line);
+        }
+        line = line_after(line, 1);
+    }
+    None
+}
+
+/// Rule 3: a grant's connection is in no use case of its group.
+#[tactic(auto, unfolding(crate::specs::Verdict::stranger))]
+pub(crate) fn stranger(groups: &Groups, plan: &Plan) -> Option<Verdict>
+    ensures { result ≡ stranger groups.now plan.now }
+{
+    let line = first_stranger(groups, grants_begin(plan), plan.grants())?;
+    Some(Verdict::Broken {
+        rule: 3,
+        line,
+        other: 0,
+    })
+}
+
+fn same_side(a: Side, b: Side) -> bool
+    ensures { result ≡ same_side a b }
+{
+    match a {
+        Side::Fwd => match b {
+            Side::Fwd => true,
+            Side::Back => false,
+        },
+        Side::Back => match b {
+            Side::Fwd => false,
+            Side::Back => true,
+        },
+    }
+}
+
+fn is_for(unit: Unit, side: Side, grant: &Grant) -> bool
+    ensures { result ≡ is_for unit side grant.now }
+{
+    grant.unit.conn.0 == unit.conn.0
+        && grant.unit.group.0 == unit.group.0
+        && same_side(grant.side, side)
+}
+
+/// Whether some grant is for a side of a unit.
+fn has_side(grants: &[Grant], unit: Unit, side: Side) -> bool
+    ensures { result ≡ has_side grants.now unit side }
+{
+    grants.iter().any(|grant| is_for(unit, side, grant))
+}
+
+/// The first side of a unit without a grant.
+fn lacking_side(grants: &[Grant], unit: Unit) -> Option<Side>
+    ensures { result ≡ lacking_side grants.now unit }
+{
+    if !has_side(grants, unit, Side::Fwd) {
+        return Some(Side::Fwd);
+    }
+    if !has_side(grants, unit, Side::Back) {
+        return Some(Side::Back);
+    }
+    None
+}
+
+/// The first side without a grant of the units of a connection.
+#[tactic(auto, using(aeth_base::proofs::Ranges::range_more))]
+fn lacking_with(grants: &[Grant], groups: &Groups, conn: ConnId) -> Option<(Unit, Side)>
+    ensures { result ≡ first_lacking grants.now (units_with groups.now conn.0) }
+{
+    for g in 0..groups.count() {
+        let group = GroupId(g);
+        if groups.member(group, conn) {
+            let unit = Unit { conn, group };
+            if let Some(side) = lacking_side(grants, unit) {
+                return Some((unit, side));
+            }
+        }
+    }
+    None
+}
+
+/// The first side of a unit without a grant.
+#[tactic(auto, using(aeth_base::proofs::Ranges::range_more))]
+fn first_lacking(grants: &[Grant], groups: &Groups, connections: u32) -> Option<(Unit, Side)>
+    requires { groups.now.connections ≡ connections }
+    ensures { result ≡ first_lacking grants.now (units_of groups.now) }
+{
+    for c in 0..connections {
+        if let Some(found) = lacking_with(grants, groups, ConnId(c)) {
+            return Some(found);
+        }
+    }
+    None
+}
+
+/// Rule 4: a unit lacks a side.
+#[tactic(auto, unfolding(crate::specs::Verdict::lacking))]
+pub(crate) fn lacking(groups: &Groups, connections: u32, plan: &Plan) -> Option<Verdict>
+    requires { groups.now.connections ≡ connections }
+    ensures { result ≡ lacking groups.now plan.now }
+{
+    let (unit, side) = first_lacking(plan.grants(), groups, connections)?;
+    Some(Verdict::Missing { unit, side })
+}

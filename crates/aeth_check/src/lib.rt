@@ -1,0 +1,14 @@
+//! The independent check of a plan: seven rules on a finished plan, without search and book.
+#![tactic(auto)]
+
+mod channels;
+mod conflicts;
+mod judging;
+mod lines;
+mod masks;
+mod routes;
+mod seats;
+mod verdict;
+
+pub use judging::check;
+pub use verdict::Verdict;

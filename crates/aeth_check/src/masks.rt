@@ -1,0 +1,110 @@
+// A mask for each use case and link: the slots that grants occupy there.
+ghost use Rattle.aeth_check.specs.Calls.{IsPlaced};
+ghost use Rattle.aeth_check.specs.Masks.{HasTable, IsTable, Puts, hits_row, hits_uses};
+ghost use Rattle.aeth_check.specs.Meetings.{meets, touches};
+ghost use Rattle.aeth_slots.specs.SlotSet.{common};
+ghost use Rattle.std.specs.Prelude.{◌≡◌, ◌≤◌, ◌+◌, ◌*◌, [], ℕ, Bool, All, IfOk};
+ghost use Rattle.std.specs.Prelude.{length, nat_lt};
+
+use aeth_base::{NoMemory, UseId};
+use aeth_chip::Chip;
+use aeth_group::{Grant, Groups};
+use aeth_slots::SlotSet;
+use std::alloc::Global;
+
+/// A mask without slots for each use case and link, row by row.
+pub(crate) fn no_masks(
+    alloc: Global,
+    chip: &Chip,
+    groups: &Groups,
+) -> Result<Vec<SlotSet>, NoMemory>
+    ensures rows { IfOk result (λ masks.
+        length masks.items ≡ length groups.now.uses * length chip.now.links) }
+    ensures empty { IfOk result (λ masks.
+        All (λ mask. mask ≡ record { size = chip.now.slots; slots = [] }) masks.items) }
+{
+    let size = chip.slots();
+    let count = groups.uses() * chip.links();
+    let mut masks = Vec::new(alloc);
+    for _i in 0..count {
+        masks.push(SlotSet::empty(size))?;
+    }
+    Ok(masks)
+}
+
+/// Whether two sets have a slot in common.
+fn have_common(mask: &SlotSet, other: &SlotSet) -> bool
+    requires { mask.now.size ≡ other.now.size }
+    ensures { result ≡ nat_lt 0 (length (common mask.now other.now).slots) }
+{
+    mask.meet(other).count() > 0
+}
+
+/// Whether flits of a grant meet the slots of a use case's masks.
+fn meets_row(chip: &Chip, u: u32, grant: &Grant, masks: &[SlotSet]) -> bool
+    requires row { u * length chip.now.links + length chip.now.links ≤ length masks.now }
+    requires grant { IsPlaced chip.now grant.now }
+    requires table { HasTable chip.now.slots (length chip.now.links) masks.now }
+    ensures { (test : ℕ → ℕ → ℕ → Bool)
+        → IsTable chip.now.slots (length chip.now.links) test masks.now
+        → result ≡ meets (test u) grant.now.slots chip.now.links 0 grant.now.path }
+{
+    for i in 0..grant.path.len() {
+        let link = grant.path.link(i);
+        let at = u as usize * chip.links() as usize + link.0 as usize;
+        let turned = grant.slots.rotate(chip.offset(&grant.path, i));
+        if have_common(&masks[at], &turned) {
+            return true;
+        }
+    }
+    false
+}
+
+/// Whether flits of a grant meet the slots of the masks of its use cases.
+pub(crate) fn meets(chip: &Chip, groups: &Groups, grant: &Grant, masks: &[SlotSet]) -> bool
+    requires rows { length masks.now ≡ length groups.now.uses * length chip.now.links }
+    requires grant { IsPlaced chip.now grant.now }
+    requires table { HasTable chip.now.slots (length chip.now.links) masks.now }
+    ensures { (test : ℕ → ℕ → ℕ → Bool)
+        → IsTable chip.now.slots (length chip.now.links) test masks.now
+        → result ≡ touches chip.now.links groups.now test grant.now }
+{
+    for u in 0..groups.uses() {
+        if groups.has_unit(UseId(u), grant.unit) && meets_row(chip, u, grant, masks) {
+            return true;
+        }
+    }
+    false
+}
+
+/// Puts the slots that flits of a grant take into the masks of a use case.
+fn put_row(chip: &Chip, u: u32, grant: &Grant, masks: &mut [SlotSet])
+    requires row { u * length chip.now.links + length chip.now.links ≤ length masks.old }
+    requires grant { IsPlaced chip.now grant.now }
+    requires table { HasTable chip.now.slots (length chip.now.links) masks.old }
+    ensures { Puts chip.now.slots (length chip.now.links)
+        (hits_row grant.now.slots chip.now.links u grant.now.path) masks.old masks.new }
+{
+    for i in 0..grant.path.len() {
+        let link = grant.path.link(i);
+        let at = u as usize * chip.links() as usize + link.0 as usize;
+        let turned = grant.slots.rotate(chip.offset(&grant.path, i));
+        masks[at] = masks[at].join(&turned);
+    }
+}
+
+/// Puts the slots that flits of a grant take into the masks of the first use cases.
+pub(crate) fn put(chip: &Chip, groups: &Groups, grant: &Grant, masks: &mut [SlotSet])
+    requires rows { length masks.old ≡ length groups.now.uses * length chip.now.links }
+    requires grant { IsPlaced chip.now grant.now }
+    requires table { HasTable chip.now.slots (length chip.now.links) masks.old }
+    ensures { Puts chip.now.slots (length chip.now.links)
+        (hits_uses grant.now.slots chip.now.links groups.now grant.now.unit grant.now.path
+        (length groups.now.uses)) masks.old masks.new }
+{
+    for u in 0..groups.uses() {
+        if groups.has_unit(UseId(u), grant.unit) {
+            put_row(chip, u, grant, masks);
+        }
+    }
+}
