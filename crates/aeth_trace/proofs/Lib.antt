@@ -1,0 +1,4 @@
+mod Steps
+mod Lefts
+mod RowLemmas
+pub mod KnownLemmas

@@ -1,0 +1,13 @@
+use Rattle.std.proofs.Common.{◌≡◌}
+use Rattle.aeth_trace.specs.Left.{IsReading, left}
+use Rattle.aeth_trace.specs.Rules.{rows_from}
+use Rattle.aeth_trace.proofs.RowLemmas.{with_front}
+use Rattle.aeth_trace.proofs.table.rows_of.Given as goal
+
+-- The rows that were read, and behind them those of the records that are left, are all rows.
+abbrev pub invariant-loop-row : goal.invariant-loop-row
+invariant-loop-row g l = record {
+  reading : IsReading l.reader;
+  walk : with_front l.rows.items (rows_from (g.R.Row.told l.app) l.row (left l.reader))
+      ≡ rows_from (g.R.Row.told l.fn.app) 1 (left l.fn.reader);
+}

@@ -1,0 +1,10 @@
+pub mod Limits
+pub mod Fault
+pub mod Left
+pub mod Records
+pub mod Fields
+pub mod Rules
+pub mod Words
+pub mod Receivers
+pub mod Spans
+pub mod Switches

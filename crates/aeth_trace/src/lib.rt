@@ -1,0 +1,19 @@
+//! Traces: the words, the receivers' pulls and the switches of a run, as files in CSV tell them.
+#![tactic(auto)]
+
+mod fault;
+mod fields;
+mod judging;
+mod receivers;
+mod records;
+mod row;
+mod spans;
+mod switches;
+mod table;
+mod words;
+
+pub use fault::TraceFault;
+pub use receivers::{MAX_PULL, PullRow, Receivers, pull, read_receivers};
+pub use spans::Spans;
+pub use switches::{MAX_SWITCH_ROWS, SwitchRow, Switches, read_switches};
+pub use words::{MAX_ROWS, MAX_VALUE, WordRow, Words, read_words};

@@ -1,0 +1,38 @@
+// What the rows of all trace files have.
+ghost use Rattle.std.specs.Prelude.{◌≡◌, ℕ, Bool, List, Option};
+ghost use Rattle.csv.specs.Records.{fields_of};
+ghost use Rattle.aeth_app.specs.App.{AppData};
+
+use aeth_app::App;
+use csv::ByteRecord;
+
+// A row of a trace file.
+pub(crate) trait Row: Copy {
+    // Whether the fields are the header of such a file.
+    ghost heads: { List (List ℕ) → Bool };
+
+    // What the fields tell.
+    ghost told: { AppData → List (List ℕ) → Option Self };
+
+    // The number of what the row names.
+    ghost names: { Self → ℕ };
+
+    // The row's cycle.
+    ghost at: { Self → ℕ };
+
+    // Whether a record is the header.
+    fn is_header(fields: &ByteRecord) -> bool
+        ensures { result ≡ heads (fields_of fields.now) };
+
+    // The row that a record tells.
+    fn tell(app: &App, fields: &ByteRecord) -> Option<Self>
+        ensures { result ≡ told app.now (fields_of fields.now) };
+
+    // The number of the connection or use case that the row names.
+    fn named(&self) -> u32
+        ensures { result ≡ names self.now };
+
+    // The cycle of the row.
+    fn cycle(&self) -> u32
+        ensures { result ≡ at self.now };
+}

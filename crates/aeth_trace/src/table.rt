@@ -1,0 +1,57 @@
+// Reading the rows of a file: the rule on their fields.
+ghost use Rattle.aeth_base.specs.Faults.{Reads};
+ghost use Rattle.aeth_trace.specs.Fault.{rule_of};
+ghost use Rattle.aeth_trace.specs.Left.{IsReading, left};
+ghost use Rattle.aeth_trace.specs.Records.{records_of};
+ghost use Rattle.aeth_trace.specs.Rules.{rows_from, table_of};
+
+use crate::fault::TraceFault;
+use crate::records::{next_row, open};
+use crate::row::Row;
+use aeth_app::App;
+use csv::{ByteRecord, Reader};
+use std::alloc::Global;
+
+// The rows under the header.
+fn rows_of<R: Row>(
+    alloc: Global,
+    app: &App,
+    reader: &mut Reader<&[u8]>,
+    fields: &mut ByteRecord,
+) -> Result<Vec<R>, TraceFault>
+    requires { IsReading reader.old }
+    ensures { Reads rule_of (λ rows. rows.items) result
+        (rows_from (R.told app.now) 1 (left reader.old)) }
+{
+    let mut rows = Vec::new(alloc);
+    for row in 1..u32::MAX {
+        if !next_row(reader, fields)? {
+            return Ok(rows);
+        }
+        match R::tell(app, fields) {
+            Some(told) => rows.push(told)?,
+            None => return Err(TraceFault::BadRow { row }),
+        }
+    }
+    Err(TraceFault::Memory)
+}
+
+// The rows of a file, where it has its header and each row has the fields of its columns.
+pub(crate) fn read_table<R: Row>(
+    alloc: Global,
+    bytes: &[u8],
+    app: &App,
+) -> Result<Vec<R>, TraceFault>
+    ensures { Reads rule_of (λ rows. rows.items) result
+        (table_of R.heads (R.told app.now) (records_of bytes.now)) }
+{
+    let mut reader = open(alloc, bytes);
+    let mut fields = ByteRecord::new(alloc);
+    if !next_row(&mut reader, &mut fields)? {
+        return Err(TraceFault::BadRow { row: 0 });
+    }
+    if !R::is_header(&fields) {
+        return Err(TraceFault::BadRow { row: 0 });
+    }
+    rows_of(alloc, app, &mut reader, &mut fields)
+}
