@@ -42,8 +42,16 @@ took a b f h r =
     let y = bytes_left a in
     let g = rows-more known a b f default_config a.state y y [] h.settings h.source
     (refl, refl) r in
-    record { rest = g.0; read = g.2.0; source = g.1; next = g.2.1; fields = g.2.2; state =
-    g.2.3.0; bytes = g.2.3.1 }
+    record {
+      rest = g.0;
+      read = g.2.0;
+      source = g.1;
+      next = g.2.1;
+      fields = g.2.2;
+      state =
+          g.2.3.0;
+      bytes = g.2.3.1;
+    }
 
 pub left-some : (a b : SliceReader) (f : List (List ℕ)) → IsReading a
     → ReadRecord known a b true f → left a ≡ f ∷ left b

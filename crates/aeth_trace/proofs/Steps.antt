@@ -69,17 +69,26 @@ ended : (s : State) (c : ℕ) (fields : List (List ℕ)) (field rest : List ℕ)
     → (next_record default_config (step default_config s c).0 (fields_after
     (step default_config s c).1 fields field) (field_after
     (step default_config s c).1 c field) rest ≡ Some p → Leaves p rest)
-    → (if b then Some (fields_after (step default_config s c).1 fields field,
-    (step default_config s c).0, rest) else next_record default_config (step default_config s c).0
+    → (if b then Some (
+      fields_after (step default_config s c).1 fields field,
+      (step default_config s c).0,
+      rest,
+    ) else next_record default_config (step default_config s c).0
     (fields_after (step default_config s c).1 fields field) (field_after
     (step default_config s c).1 c field) rest) ≡ Some p
     → Leaves p rest
 ended s c fields field rest p true is later h =
-    let e : (fields_after (step default_config s c).1 fields field,
-    (step default_config s c).0, rest) ≡ p = same_Some _ _ h in
+    let e : (
+      fields_after (step default_config s c).1 fields field,
+      (step default_config s c).0,
+      rest,
+    ) ≡ p = same_Some _ _ h in
     let same : length p.2 ≡ length rest = ap (λ (q : Read). length q.2) (sym e) in
-    record { between = ap (λ (q : Read). ends_at_end q.1) (sym e) ∙ step-EndsWell s c is; bytes =
-    omega arith }
+    record {
+      between = ap (λ (q : Read). ends_at_end q.1) (sym e) ∙ step-EndsWell s c is;
+      bytes =
+          omega arith;
+    }
 ended s c fields field rest p false is later h = later h
 
 longer : (p : Read) (c : ℕ) (rest : List ℕ) → Leaves p rest → Leaves p (c ∷ rest)
