@@ -1,0 +1,19 @@
+//! Tests of the program's commands, from the words and the files to the bytes and the status.
+#![tactic(auto)]
+
+#[cfg(test)]
+mod app_tests;
+#[cfg(test)]
+mod chip_tests;
+#[cfg(test)]
+mod designs;
+#[cfg(test)]
+mod fault_tests;
+#[cfg(test)]
+mod number_tests;
+#[cfg(test)]
+mod rows;
+#[cfg(test)]
+mod runs;
+#[cfg(test)]
+mod video;
