@@ -1,0 +1,96 @@
+-- The three causes for which a list is given up: no path that goes on from it changes the best.
+use Rattle.std.proofs.Common.{◌≡◌, ◌+◌, ◌<◌, ◌≤◌, ◌++◌, ℕ, Bool, true, false, cond, leb}
+use Rattle.std.proofs.Common.{List, [], ◌∷◌, length, Contains, Option, Some, sym, refl, subst, arith}
+use Rattle.std.proofs.Common.{length-append}
+use Rattle.std.specs.Prelude.{sum_by}
+use Rattle.std.proofs.lemmas.Bool.{and_left, and_right, cond-false, le-ltb, lt-leb, ne_eqb}
+use Rattle.std.proofs.lemmas.List.Sums.{sum_by-append, sum_by-cons}
+use Rattle.aeth_base.specs.declared.ids.LinkId.{LinkId}
+use Rattle.aeth_chip.specs.declared.node.Node.{Node}
+use Rattle.aeth_paths.specs.Search.{Field, Walks, better, completions, is_better}
+use Rattle.aeth_paths.specs.Search.{is_candidate, keep}
+use Rattle.aeth_paths.specs.Walk.{GainsNothing}
+use Rattle.aeth_paths.proofs.FirstLemmas.{first_from-stays}
+use Rattle.aeth_paths.proofs.WalkLemmas.{completion-walks}
+
+-- Each link that leaves a node costs something.
+abbrev pub AllCost : Field → Type 0
+AllCost f = (node : Node) (link : LinkId) → Contains (f.leaving node) link → 1 ≤ f.cost link
+
+-- A path that is no candidate changes nothing.
+keep-none : (f : Field) (best : Option (List LinkId)) (path : List LinkId)
+    → is_candidate f path ≡ false → keep f best path ≡ best
+keep-none f best path none = cond-false (is_candidate f path) (better f best path) best none
+
+module _ (f : Field) (best : Option (List LinkId)) (node : Node) (path : List LinkId) where
+  -- Where each list that walks on is no candidate, nothing is gained.
+  gains-none : ((rest : List LinkId) → Walks f node path rest
+      → keep f best (path ++ rest) ≡ best) → GainsNothing f best node path
+  gains-none each left =
+      first_from-stays f best (completions f left node path) (λ found has.
+      let on = completion-walks f left node path found has in
+      subst (λ (p : List LinkId). keep f best p ≡ best) (sym on.whole) (each on.rest on.walks))
+
+  -- No path leads to the goal.
+  pub nowhere-none : ((rest : List LinkId) → Walks f node path rest → ⊥)
+      → GainsNothing f best node path
+  nowhere-none never = gains-none (λ rest walks. absurd (never rest walks))
+
+  -- The free starts are dead.
+  pub dead-none : ((rest : List LinkId) → f.live (path ++ rest) ≡ false)
+      → GainsNothing f best node path
+  dead-none dead = gains-none (λ rest walks. keep-none f best (path ++ rest)
+      (and_right (leb (length (path ++ rest)) f.most) (f.live (path ++ rest)) (dead rest)))
+
+  -- The goal is too far.
+  pub far-none : (more : ℕ) → ((rest : List LinkId) → Walks f node path rest → more ≤ length rest)
+      → f.most < length path + more → GainsNothing f best node path
+  far-none more near far = gains-none (λ rest walks. keep-none f best (path ++ rest)
+      (and_left (leb (length (path ++ rest)) f.most) (f.live (path ++ rest))
+      (lt-leb (length (path ++ rest)) f.most
+      (omega (arith, length-append path rest, near rest walks)))))
+
+-- A list of links costs at least as much as it has links.
+cost-length : (f : Field) (node : Node) (path rest : List LinkId) → AllCost f
+    → Walks f node path rest → length rest ≤ sum_by f.cost rest
+cost-length f node path [] costs walks = absurd walks
+cost-length f node path (link ∷ []) costs (has, ends) =
+    omega (arith, costs node link has, sum_by-cons f.cost link [])
+cost-length f node path (link ∷ next ∷ rest) costs (has, new, walks) =
+    omega (
+      arith,
+      costs node link has,
+      sum_by-cons f.cost link (next ∷ rest),
+      cost-length f (f.to link) (path ++ link ∷ []) (next ∷ rest) costs walks,
+    )
+
+-- A path that costs more doesn't come before.
+dearer-after : (f : Field) (path other : List LinkId)
+    → sum_by f.cost other < sum_by f.cost path → is_better f path other ≡ false
+dearer-after f path other dearer =
+    rw (
+      le-ltb (sum_by f.cost path) (sum_by f.cost other) (omega arith),
+      ne_eqb (sum_by f.cost path) (sum_by f.cost other) (λ same. omega (arith, same)),
+    ) refl
+
+-- With the least cost of the links that are still needed it costs more than the best.
+pub dear-none : (f : Field) (best : List LinkId) (node : Node) (path : List LinkId) (more : ℕ)
+    → AllCost f → ((rest : List LinkId) → Walks f node path rest → more ≤ length rest)
+    → sum_by f.cost best < sum_by f.cost path + more → GainsNothing f (Some best) node path
+dear-none f best node path more costs near dear =
+    gains-none f (Some best) node path (λ rest walks.
+    let after : is_better f (path ++ rest) best ≡ false =
+    dearer-after f (path ++ rest) best (omega (
+      arith,
+      sum_by-append f.cost path rest,
+      near rest walks,
+      cost-length f node path rest costs walks,
+    )) in
+    let go : (b : Bool)
+    → cond b (cond (is_better f (path ++ rest) best) (Some (path ++ rest)) (Some best)) (Some best)
+    ≡ Some best =
+    elim [
+      | true ↦ cond-false (is_better f (path ++ rest) best) (Some (path ++ rest)) (Some best) after
+      | false ↦ refl
+    ]
+    in go (is_candidate f (path ++ rest)))

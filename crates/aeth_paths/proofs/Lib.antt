@@ -1,0 +1,14 @@
+pub mod FirstLemmas
+mod WalkLemmas
+mod JoinLemmas
+mod LiveLemmas
+mod GiveUpLemmas
+mod StepLemmas
+mod PrefixLemmas
+mod HopelessLemmas
+mod OrderLemmas
+mod CostLemmas
+mod TryLemmas
+mod EndLemmas
+pub mod CandidateLemmas
+pub mod UniqueLemmas

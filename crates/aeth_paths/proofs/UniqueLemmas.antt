@@ -1,0 +1,100 @@
+-- There is one first candidate.
+use Rattle.std.proofs.Common.{◌≡◌, ◌≢◌, ◌∙◌, ◌-◌, ℕ, List, [], ◌∷◌, length, get_or, map, Some, slice_get, sym}
+use Rattle.std.proofs.Common.{refl, ap, subst, arith}
+use Rattle.std.specs.Ordering.{ordering_reverse, ordering_then}
+use Rattle.std.specs.declared.cmp.Ordering.{Ordering}
+use Rattle.std.specs.declared.cmp.Ordering.TheVariants.{Equal, Greater, Less}
+use Rattle.std.proofs.lemmas.Map.Lookups.{exact_bytes}
+use Rattle.std.proofs.lemmas.Option.{same_Some, slice_get-get_or}
+use Rattle.aeth_base.specs.declared.ids.LinkId.{LinkId}
+use Rattle.aeth_base.specs.declared.ids.NiId.{NiId}
+use Rattle.aeth_chip.specs.declared.node.Link.{Link}
+use Rattle.aeth_chip.specs.declared.node.Node.{Node}
+use Rattle.aeth_chip.specs.declared.node.Node.TheVariants.{Ni, Router}
+use Rattle.aeth_chip.specs.Paths.{IsPath}
+use Rattle.aeth_book.specs.Book.{BookData}
+use Rattle.aeth_paths.specs.declared.request.Found.{Found}
+use Rattle.aeth_paths.specs.declared.request.Request.{Request}
+use Rattle.aeth_paths.specs.Candidates.{IsFirst, link_cost, path_order, slots_of}
+use Rattle.aeth_paths.proofs.EndLemmas.{joins-first, joins-last, joins-some}
+use Rattle.aeth_paths.proofs.FirstLemmas.{path_total}
+
+equal-from : (order turned : Ordering) → order ≡ ordering_reverse turned → order ≢ Less
+    → turned ≢ Less → order ≡ Equal
+equal-from Less turned is not_before not_after = absurd (not_before refl)
+equal-from Equal turned is not_before not_after = refl
+equal-from Greater Less is not_before not_after = absurd (not_after refl)
+equal-from Greater Equal is not_before not_after = cc
+equal-from Greater Greater is not_before not_after = cc
+
+then-equal : (first second : Ordering) → ordering_then first second ≡ Equal → second ≡ Equal
+then-equal Less second is = absurd (cc is)
+then-equal Equal second is = is
+then-equal Greater second is = absurd (cc is)
+
+links-back : (path : List LinkId)
+    → map (λ n. record { 0 = n }) (map (λ (link : LinkId). link.0) path) ≡ path
+links-back [] = refl
+links-back (link ∷ path) = ap (λ links. link ∷ links) (links-back path)
+
+same-links : (path other : List LinkId)
+    → map (λ (link : LinkId). link.0) path ≡ map (λ (link : LinkId). link.0) other → path ≡ other
+same-links path other same =
+    sym (links-back path) ∙ ap (map (λ n. record { 0 = n })) same ∙ links-back other
+
+-- Two paths of which neither comes before the other are one.
+pub one-path : (cost : LinkId → ℕ) (path other : List LinkId)
+    → path_order cost path other ≢ Less → path_order cost other path ≢ Less → path ≡ other
+one-path cost path other not_before not_after =
+    let equal = equal-from (path_order cost path other) (path_order cost other path)
+    ((path_total cost).antisymm path other) not_before not_after in
+    same-links path other (exact_bytes _ _ (then-equal _ _ (then-equal _ _ equal)))
+
+same-ni : (a b : NiId) → Ni a ≡ Ni b → a ≡ b
+same-ni a b same =
+    let number : Node → ℕ = elim [ Router r ↦ r.0 | Ni n ↦ n.0 ] in
+    ap (λ n. record { 0 = n }) (ap number same)
+
+-- A path leads from one interface to one.
+pub one-start : (links : List Link) (a b c d : NiId) (path : List LinkId)
+    → IsPath links a b path → IsPath links c d path → a ≡ c
+one-start links a b c d [] first second =
+    absurd (omega (arith, joins-some links (Ni a) first.routers (Ni b) [] first.joins))
+one-start links a b c d (link ∷ path) first second =
+    let one = joins-first links (Ni a) first.routers (Ni b) (link ∷ path) link first.joins refl in
+    let two = joins-first links (Ni c) second.routers (Ni d) (link ∷ path) link second.joins refl in
+    let same : one.1.link ≡ two.1.link = same_Some _ _ (sym one.1.is ∙ two.1.is) in
+    same-ni a c (sym one.1.begins ∙ ap (λ (l : Link). l.from) same ∙ two.1.begins)
+
+pub one-end : (links : List Link) (a b c d : NiId) (path : List LinkId)
+    → IsPath links a b path → IsPath links c d path → b ≡ d
+one-end links a b c d path first second =
+    let some = joins-some links (Ni a) first.routers (Ni b) path first.joins in
+    let last : LinkId = get_or path (length path - 1) (record { 0 = 0 }) in
+    let at : slice_get path (length path - 1) ≡ Some last =
+    slice_get-get_or path (length path - 1) (record { 0 = 0 }) (omega (arith, some)) in
+    let one = joins-last links (Ni a) first.routers (Ni b) path last first.joins at in
+    let two = joins-last links (Ni c) second.routers (Ni d) path last second.joins at in
+    let same : one.1.link ≡ two.1.link = same_Some _ _ (sym one.1.is ∙ two.1.is) in
+    same-ni b d (sym one.1.ends ∙ ap (λ (l : Link). l.to) same ∙ two.1.ends)
+
+-- There is one first candidate: so what is found is a function of the book, the costs, the request
+-- and the lists of interfaces.
+pub first-unique : (book : BookData) (prices : List ℕ) (ask : Request)
+    (from to crowded : List NiId) (found other : Found)
+    → IsFirst book prices ask from to crowded found → IsFirst book prices ask from to crowded other
+    → found ≡ other
+first-unique book prices ask from to crowded found other first second =
+    let one = first.candidate in
+    let two = second.candidate in
+    let paths : found.path ≡ other.path =
+    one-path (link_cost book prices ask.unit) found.path other.path (second.first found one)
+    (first.first other two) in
+    let its = subst (IsPath book.links other.from other.to) (sym paths) two.path.is_path in
+    let starts : found.from ≡ other.from =
+    one-start book.links found.from found.to other.from other.to found.path one.path.is_path its in
+    let ends : found.to ≡ other.to =
+    one-end book.links found.from found.to other.from other.to found.path one.path.is_path its in
+    let slots : found.slots ≡ other.slots =
+    same_Some _ _ (sym one.slots ∙ ap (slots_of book ask) paths ∙ two.slots) in
+    λ i. record { from = starts i; to = ends i; path = paths i; slots = slots i }

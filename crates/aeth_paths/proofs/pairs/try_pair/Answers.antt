@@ -1,0 +1,83 @@
+use Rattle.std.proofs.Common.{◌≡◌, ◌∙◌, false, eqb, List, [], Option, None, Some}
+use Rattle.std.proofs.Common.{sym, ap, subst}
+use Rattle.std.proofs.lemmas.Bool.{and_from, and_left, and_right, both_ways, eq-eqb, ne_eqb}
+use Rattle.aeth_base.specs.Limits.{max_path_links}
+use Rattle.aeth_base.specs.declared.ids.LinkId.{LinkId}
+use Rattle.aeth_chip.specs.declared.node.Link.{Link}
+use Rattle.aeth_chip.specs.declared.node.Node.{Node}
+use Rattle.aeth_chip.specs.declared.node.Node.TheVariants.{Ni}
+use Rattle.aeth_chip.specs.Chip.{IsNode}
+use Rattle.aeth_chip.specs.Paths.{IsDistance, IsLinkFrom}
+use Rattle.aeth_paths.specs.declared.search.Goal.{Goal}
+use Rattle.aeth_paths.specs.Open.{is_crowded}
+use Rattle.aeth_paths.specs.Pairs.{IsOffered, Tries}
+use Rattle.aeth_paths.specs.Search.{completions, first_from}
+use Rattle.aeth_paths.specs.Walk.{costs_of, field_of, path_in}
+use Rattle.aeth_paths.proofs.EndLemmas.{from-inside}
+use Rattle.aeth_paths.proofs.HopelessLemmas.{no-direct}
+use Rattle.aeth_paths.proofs.StepLemmas.{path_in-priced}
+use Rattle.aeth_paths.proofs.TryLemmas.{tries-none, tries-pair}
+use Rattle.aeth_paths.proofs.pairs.try_pair.Goals as goal
+use Rattle.aeth_paths.proofs.pairs.try_pair.Goals.{else-a-b-via-then-a-b+else-holds}
+use Rattle.aeth_paths.proofs.pairs.try_pair.Goals.{else-a-b-via-else-a-b}
+
+-- One crowded interface is no pair.
+pub returns-then-holds-clause-tries : goal.returns-then-holds-clause-tries
+returns-then-holds-clause-tries g c =
+    tries-none (costs_of c.args.task.now) (path_in c.args.best)
+    (IsOffered c.args.task.now.book.now c.args.task.now.ask c.args.crowded.now c.args.a c.args.b)
+    (λ path offered. both_ways _ offered.room
+    (and_from _ _ (eq-eqb c.args.a.0 c.args.b.0 c.if-a-b.true)
+    (sym c.holds.ensures ∙ c.if-holds.true)))
+
+-- No path leads there.
+pub returns-in_default-clause-tries : goal.returns-in_default-clause-tries
+returns-in_default-clause-tries g c =
+    let task = c.args.task.now in
+    tries-none (costs_of task) (path_in c.args.best)
+    (IsOffered task.book.now task.ask c.args.crowded.now c.args.a c.args.b)
+    (λ path offered.
+    let far = subst (λ (ls : List Link). IsDistance ls c.args.a c.args.b None)
+    (c.requires.task.far ∙ sym c.requires.task.book) c.in_default.ensures in
+    far path offered.admissible.is_path)
+
+-- The sender is an interface of the chip.
+pub extend-requires-clause-node : goal.extend-requires-clause-node
+extend-requires-clause-node g c =
+    let chip = c.args.task.now.chip.now in
+    let far = subst (λ (ls : List Link). IsDistance ls c.args.a c.args.b (Some c.in-Some.distance))
+    c.requires.task.far c.in-Some.ensures in
+    subst (IsNode chip.routers chip.nis) (sym c.start.ensures.end)
+    (from-inside chip c.args.a c.args.b far.path c.requires.task.is_chip far.has)
+
+-- All paths of the pair were tried.
+pub returns-clause-tries : goal.returns-clause-tries
+returns-clause-tries g c =
+    let task = c.args.task.now in
+    let ask = task.ask in
+    let pair : Goal = record { ni = c.args.b; most = c.min-most.result } in
+    let f = field_of task pair in
+    let far = subst (λ (ls : List Link). IsDistance ls c.args.a c.args.b (Some c.in-Some.distance))
+    (c.requires.task.far ∙ sym c.requires.task.book) c.in-Some.ensures in
+    let apart : (link : LinkId) → IsLinkFrom task.book.now.links link (Ni c.args.a) (Ni c.args.b) → ⊥ =
+    λ link. subst (λ (ls : List Link). IsLinkFrom ls link (Ni c.args.a) (Ni c.args.b) → ⊥)
+    (sym c.requires.task.book)
+    (no-direct task.chip.now c.requires.task.is_chip c.args.a c.args.b link) in
+    let room : is_crowded c.args.crowded.now c.args.a c.args.b ≡ false =
+    elim c.else-a-b.branch [
+      | else-a-b-via-then-a-b+else-holds w ↦
+          and_right (eqb c.args.a.0 c.args.b.0) _ (sym w.holds.ensures ∙ w.if-holds.false)
+      | else-a-b-via-else-a-b w ↦
+          and_left (eqb c.args.a.0 c.args.b.0) _ (ne_eqb c.args.a.0 c.args.b.0 w.if-a-b.false)
+    ] in
+    let all : path_in c.extend.result
+    ≡ first_from f (path_in c.args.best) (completions f max_path_links (Ni c.args.a) []) =
+    ap path_in c.extend.ensures.best ∙ path_in-priced (costs_of task) _
+    ∙ ap (λ (n : Node). first_from f (path_in c.args.best)
+    (completions f max_path_links n c.start.result.path)) c.start.ensures.end
+    ∙ ap (λ (p : List LinkId). first_from f (path_in c.args.best)
+    (completions f max_path_links (Ni c.args.a) p)) c.start.ensures.path in
+    subst (λ (o : Option (List LinkId)). Tries (costs_of task) (path_in c.args.best) o
+    (IsOffered task.book.now ask c.args.crowded.now c.args.a c.args.b)) (sym all)
+    (tries-pair task.book.now task.prices.now ask c.args.crowded.now c.args.a c.args.b
+    c.in-Some.distance c.min-most.result far c.min-most.ensures apart room (path_in c.args.best))

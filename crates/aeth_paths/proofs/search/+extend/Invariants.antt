@@ -1,0 +1,28 @@
+use Rattle.std.proofs.Common.{◌≡◌, ◌-◌, ◌+◌, ◌≤◌, ℕ, Option, length, take}
+use Rattle.std.specs.List.{flat_map}
+use Rattle.std.specs.Prelude.{sum_by}
+use Rattle.aeth_base.specs.declared.ids.NiId.{NiId}
+use Rattle.aeth_chip.specs.declared.node.Node.{Node}
+use Rattle.aeth_paths.specs.Open.{AreLeast}
+use Rattle.aeth_paths.specs.Search.{along, completions, first_from}
+use Rattle.aeth_paths.specs.Walk.{field_of, path_in, priced}
+use Rattle.aeth_paths.proofs.StepLemmas.{steps_over}
+use Rattle.aeth_paths.proofs.search.+extend.Given as goal
+
+-- One link fewer may follow.
+abbrev pub decreases-extend : goal.decreases-extend
+decreases-extend g l = l.left
+
+-- What is best over the links so far, and the steps that they took.
+abbrev pub invariant-loop-place : goal.invariant-loop-place
+invariant-loop-place g l =
+    let f = field_of l.task l.goal in
+    let links = f.leaving l.prefix.end in
+    record {
+      within : l.place ≤ length links;
+      best : l.best ≡ priced f.cost (first_from f (path_in l.fn.best)
+          (flat_map (along f l.prefix.path (completions f (l.left - 1))) (take l.place links)));
+      steps : (least : NiId → Node → Option ℕ) → AreLeast l.task.chip.now.links least
+          → l.steps ≤ l.fn.steps + l.place
+          + sum_by (steps_over f (least l.goal.ni) (l.left - 1) l.prefix.path) (take l.place links);
+    }

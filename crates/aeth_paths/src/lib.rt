@@ -1,0 +1,12 @@
+//! The first path of least cost for a channel, among all that are allowed.
+#![tactic(auto)]
+
+mod cost;
+mod ends;
+mod pairs;
+mod request;
+mod search;
+
+pub use cost::Cost;
+pub use pairs::{find, find_counted};
+pub use request::{Found, Request};

@@ -1,0 +1,226 @@
+// The search over all pairs of a sender and a receiver.
+ghost use Rattle.std.specs.Prelude.{◌≡◌, ◌+◌, ◌≤◌, ◌==◌, [], ℕ, Option, None, IfOk, MatchOption, sum_by};
+ghost use Rattle.std.specs.List.{list_any};
+ghost use Rattle.aeth_base.specs.declared.ids.NiId.{NiId};
+ghost use Rattle.aeth_chip.specs.declared.node.Node.{Node};
+ghost use Rattle.aeth_chip.specs.declared.node.Node.TheVariants.{Ni};
+ghost use Rattle.aeth_paths.specs.declared.request.Found.{Found};
+ghost use Rattle.aeth_paths.specs.Candidates.{IsCandidate, IsFirst};
+ghost use Rattle.aeth_paths.specs.Open.{AreLeast, all_steps, allowed_steps};
+ghost use Rattle.aeth_paths.specs.Pairs.{IsOffered, OfferedFrom, OfferedTo, Tries};
+ghost use Rattle.aeth_paths.specs.Walk.{IsPrefix, IsTask, costs_of, path_in, priced};
+
+use crate::cost::Cost;
+use crate::ends::found;
+use crate::request::{Found, Request};
+use crate::search::{Goal, Prefix, Priced, Task, extend};
+use aeth_base::{MAX_PATH_LINKS, NiId, NoMemory, Path, Steps};
+use aeth_book::Book;
+use aeth_chip::{Chip, Distances, Node};
+use std::marker::Brand;
+use std::sync::ledger::{Blank, Ledger};
+
+// Whether an interface is in a list.
+fn holds(list: &[NiId], ni: NiId) -> bool
+    ensures { result ≡ list_any (λ n. n.0 == ni.0) list.now }
+{
+    list.iter().any(|n| n.0 == ni.0)
+}
+
+// The list without links, which an interface begins.
+fn start(task: &Task, ni: NiId) -> Prefix
+    requires { IsTask task.now }
+    ensures prefix { IsPrefix task.now result }
+    ensures path { result.path ≡ [] }
+    ensures end { result.end ≡ Ni ni }
+{
+    let path = Path::empty();
+    Prefix {
+        path,
+        end: Node::Ni(ni),
+        passed: 0,
+        delay: 0,
+        cost: 0,
+        free: task.book.free(task.ask.unit, &path),
+    }
+}
+
+// The first of what was best and the candidates between a pair, where it isn't one crowded
+// interface.
+fn try_pair<L: Ledger>(
+    task: &Task,
+    a: NiId,
+    b: NiId,
+    crowded: &[NiId],
+    best: Option<Priced>,
+    steps: &mut Steps<L>,
+) -> Option<Priced>
+    requires task { IsTask task.now }
+    requires best { best ≡ priced (costs_of task.now) (path_in best) }
+    ensures best { result ≡ priced (costs_of task.now) (path_in result) }
+    ensures tries { Tries (costs_of task.now) (path_in best) (path_in result)
+        (IsOffered task.now.book.now task.now.ask crowded.now a b) }
+    ensures steps { (least : NiId → Node → Option ℕ) → AreLeast task.now.chip.now.links least
+        → steps.new ≤ steps.old + allowed_steps task.now.book.now task.now.prices.now task.now.ask
+        least crowded.now a b }
+{
+    if a.0 == b.0 && holds(crowded, a) {
+        return best;
+    }
+    let Some(distance) = task.far.between(a, b) else {
+        return best;
+    };
+    let most = (distance as u64 + task.ask.detour as u64).min(MAX_PATH_LINKS as u64) as u32;
+    let goal = Goal { ni: b, most };
+    extend(task, &goal, &start(task, a), best, MAX_PATH_LINKS, steps)
+}
+
+// The first of what was best and the candidates from one sender to some receivers.
+fn try_to<L: Ledger>(
+    task: &Task,
+    a: NiId,
+    to: &[NiId],
+    crowded: &[NiId],
+    best: Option<Priced>,
+    steps: &mut Steps<L>,
+) -> Option<Priced>
+    requires task { IsTask task.now }
+    requires best { best ≡ priced (costs_of task.now) (path_in best) }
+    ensures best { result ≡ priced (costs_of task.now) (path_in result) }
+    ensures tries { Tries (costs_of task.now) (path_in best) (path_in result)
+        (OfferedTo task.now.book.now task.now.ask crowded.now a to.now) }
+    ensures steps { (least : NiId → Node → Option ℕ) → AreLeast task.now.chip.now.links least
+        → steps.new ≤ steps.old + sum_by (allowed_steps task.now.book.now task.now.prices.now
+        task.now.ask least crowded.now a) to.now }
+{
+    let mut best = best;
+    for b in to {
+        best = try_pair(task, a, *b, crowded, best, steps);
+    }
+    best
+}
+
+// The first of the candidates from some senders to some receivers.
+fn try_from<L: Ledger>(
+    task: &Task,
+    from: &[NiId],
+    to: &[NiId],
+    crowded: &[NiId],
+    steps: &mut Steps<L>,
+) -> Option<Priced>
+    requires { IsTask task.now }
+    ensures best { result ≡ priced (costs_of task.now) (path_in result) }
+    ensures tries { Tries (costs_of task.now) None (path_in result)
+        (OfferedFrom task.now.book.now task.now.ask crowded.now from.now to.now) }
+    ensures steps { (least : NiId → Node → Option ℕ) → AreLeast task.now.chip.now.links least
+        → steps.new ≤ steps.old + all_steps task.now.book.now task.now.prices.now task.now.ask
+        least from.now to.now crowded.now }
+{
+    let mut best = None;
+    for a in from {
+        best = try_to(task, *a, to, crowded, best, steps);
+    }
+    best
+}
+
+// What a search reads.
+fn task_of<'a, F>(
+    chip: &'a Chip,
+    far: &'a Distances,
+    book: &'a Book,
+    ask: &Request,
+    cost: &'a Cost<F>,
+) -> Task<'a>
+    requires far { far.now ≡ chip.now.links }
+    requires book { book.now.links ≡ chip.now.links }
+    ensures task { IsTask result }
+    ensures chip { result.chip.now ≡ chip.now }
+    ensures book { result.book.now ≡ book.now }
+    ensures prices { result.prices.now ≡ cost.now }
+    ensures ask { result.ask ≡ ask.now }
+{
+    let _slots = chip.slots();
+    let _grants = book.list();
+    Task {
+        chip,
+        far,
+        book,
+        prices: cost.prices(),
+        ask: *ask,
+    }
+}
+
+/// What `find` gives, with the steps counted: at most one for each allowed pair, open list of links
+/// and link that leaves the list's end.
+pub fn find_counted<F: Fn(u32, u32) -> u32, L: Ledger>(
+    chip: &Chip,
+    far: &Distances,
+    book: &Book,
+    ask: &Request,
+    from: &[NiId],
+    to: &[NiId],
+    crowded: &[NiId],
+    cost: &Cost<F>,
+    steps: &mut Steps<L>,
+) -> Result<Option<Found>, NoMemory>
+    requires far { far.now ≡ chip.now.links }
+    requires book { book.now.links ≡ chip.now.links }
+    ensures found { IfOk result (λ found. MatchOption found
+        ((other : Found) → IsCandidate book.now ask.now from.now to.now crowded.now other → ⊥)
+        (IsFirst book.now cost.now ask.now from.now to.now crowded.now)) }
+    ensures steps { (least : NiId → Node → Option ℕ) → AreLeast chip.now.links least
+        → steps.new ≤ steps.old + all_steps book.now cost.now ask.now least from.now to.now
+        crowded.now }
+{
+    let task = task_of(chip, far, book, ask, cost);
+    match try_from(&task, from, to, crowded, steps) {
+        None => Ok(None),
+        Some(best) => Ok(Some(found(&task, &best.path))),
+    }
+}
+
+/// The first candidate over the pairs of a sender and a receiver, a pair of one crowded interface
+/// excepted; `None` exactly where there is no candidate. `Err` where there was no memory.
+pub fn find<F: Fn(u32, u32) -> u32>(
+    chip: &Chip,
+    far: &Distances,
+    book: &Book,
+    ask: &Request,
+    from: &[NiId],
+    to: &[NiId],
+    crowded: &[NiId],
+    cost: &Cost<F>,
+) -> Result<Option<Found>, NoMemory>
+    requires far { far.now ≡ chip.now.links }
+    requires book { book.now.links ≡ chip.now.links }
+    ensures { IfOk result (λ found. MatchOption found
+        ((other : Found) → IsCandidate book.now ask.now from.now to.now crowded.now other → ⊥)
+        (IsFirst book.now cost.now ask.now from.now to.now crowded.now)) }
+{
+    find_from::<F, Brand>(chip, far, book, ask, from, to, crowded, cost, Blank::new(1))
+}
+
+// The same, with a counter of its own.
+fn find_from<F: Fn(u32, u32) -> u32, L: Ledger>(
+    chip: &Chip,
+    far: &Distances,
+    book: &Book,
+    ask: &Request,
+    from: &[NiId],
+    to: &[NiId],
+    crowded: &[NiId],
+    cost: &Cost<F>,
+    blank: Blank,
+) -> Result<Option<Found>, NoMemory>
+    requires name { blank.name ≡ L.name }
+    requires parts { blank.parts ≡ L.parts }
+    requires one { L.parts ≡ 1 }
+    requires far { far.now ≡ chip.now.links }
+    requires book { book.now.links ≡ chip.now.links }
+    ensures { IfOk result (λ found. MatchOption found
+        ((other : Found) → IsCandidate book.now ask.now from.now to.now crowded.now other → ⊥)
+        (IsFirst book.now cost.now ask.now from.now to.now crowded.now)) }
+{
+    let mut steps = Steps::<L>::open(blank);
+    find_counted(chip, far, book, ask, from, to, crowded, cost, &mut steps)
+}

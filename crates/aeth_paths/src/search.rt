@@ -1,0 +1,305 @@
+// The search: it extends a list of links link by link, and gives up a list from which no better
+// path goes on.
+ghost use Rattle.std.specs.Prelude.{◌≡◌, ◌+◌, ◌*◌, ◌<◌, ◌≤◌, ◌++◌, ◌∷◌, ◌↔◌, ◌⊎◌, [], ℕ, Option, true, false};
+ghost use Rattle.std.specs.Prelude.{IsTrue, length, slice_get};
+ghost use Rattle.std.specs.Int.{bit_at};
+ghost use Rattle.aeth_base.specs.Limits.{max_path_links};
+ghost use Rattle.aeth_base.specs.declared.ids.NiId.{NiId};
+ghost use Rattle.aeth_base.specs.declared.ids.RouterId.{RouterId};
+ghost use Rattle.aeth_chip.specs.Limits.{max_routers};
+ghost use Rattle.aeth_chip.specs.declared.node.Node.TheVariants.{Router};
+ghost use Rattle.aeth_chip.specs.declared.node.Node.{Node};
+ghost use Rattle.aeth_chip.specs.Chip.{IsNode};
+ghost use Rattle.aeth_paths.specs.Candidates.{is_live};
+ghost use Rattle.aeth_paths.specs.Open.{AreLeast, is_open, open_steps};
+ghost use Rattle.aeth_paths.specs.Search.{completions, first_from, is_better, keep, turn_of};
+ghost use Rattle.aeth_paths.specs.Task.{end_of, links_from};
+ghost use Rattle.aeth_paths.specs.Walk.{GainsNothing, IsLeastFrom, IsPrefix, IsTask, Stands, field_of};
+ghost use Rattle.aeth_paths.specs.Walk.{costs_of, is_before, path_in, priced};
+
+use crate::cost::Prices;
+use crate::request::Request;
+use aeth_base::{LinkId, NiId, Path, Steps};
+use aeth_book::Book;
+use aeth_chip::{Chip, Distances, Link, MAX_PORTS, Node};
+use aeth_slots::SlotSet;
+use std::sync::ledger::Ledger;
+
+/// What a search reads.
+#[derive(Clone, Copy)]
+pub(crate) struct Task<'a> {
+    pub chip: &'a Chip,
+    pub far: &'a Distances,
+    pub book: &'a Book,
+    pub prices: &'a Prices,
+    pub ask: Request,
+}
+
+/// The interface that a path must lead to, and the most links that it may have.
+#[derive(Clone, Copy)]
+pub(crate) struct Goal {
+    pub ni: NiId,
+    pub most: u32,
+}
+
+/// A list of links from a sender, the node that it leads to, and what the search knows of it: the
+/// routers that it passes, a bit for each, its delay, its cost and its free starts.
+#[derive(Clone, Copy)]
+pub(crate) struct Prefix {
+    pub path: Path,
+    pub end: Node,
+    pub passed: u64,
+    pub delay: u32,
+    pub cost: u32,
+    pub free: SlotSet,
+}
+
+/// A path with its cost.
+#[derive(Clone, Copy)]
+pub(crate) struct Priced {
+    pub path: Path,
+    pub cost: u32,
+}
+
+/// What a link is for a search with the links that led to it: one to no new router, the last one of
+/// a path, or one to a new router.
+#[derive(Clone, Copy)]
+pub(crate) enum Turn {
+    Away,
+    Ends,
+    Goes,
+}
+
+/// A link that leaves a node, by its place among these links; `None` where there is none.
+fn leaving(chip: &Chip, node: Node, place: u8) -> Option<LinkId>
+    requires { IsNode chip.now.routers chip.now.nis node }
+    ensures { result ≡ slice_get (links_from chip.now.links node) place }
+{
+    match node {
+        Node::Router(router) => chip.exit(router, place),
+        Node::Ni(ni) => {
+            let link = chip.leaving(ni);
+            if place == 0 { Some(link) } else { None }
+        }
+    }
+}
+
+/// What a link is for a search with the links that led to it.
+fn turn_at(task: &Task, goal: &Goal, prefix: &Prefix, link: LinkId) -> Turn
+    requires task { IsTask task.now }
+    requires prefix { IsPrefix task.now prefix.now }
+    requires link { link.0 < length task.now.chip.now.links }
+    ensures { result ≡ turn_of (field_of task.now goal.now) prefix.now.path link }
+{
+    let _routers = task.chip.routers();
+    match task.chip.link(link).to {
+        Node::Ni(ni) => {
+            if ni.0 == goal.ni.0 {
+                Turn::Ends
+            } else {
+                Turn::Away
+            }
+        }
+        Node::Router(router) => {
+            if prefix.passed >> router.0 & 1 == 1 {
+                Turn::Away
+            } else {
+                Turn::Goes
+            }
+        }
+    }
+}
+
+/// A list with one more link. Counts one step.
+fn grown<L: Ledger>(task: &Task, prefix: &Prefix, link: LinkId, steps: &mut Steps<L>) -> Prefix
+    requires task { IsTask task.now }
+    requires prefix { IsPrefix task.now prefix.now }
+    requires short { length prefix.now.path < max_path_links }
+    requires link { link.0 < length task.now.chip.now.links }
+    ensures prefix { IsPrefix task.now result }
+    ensures path { result.path ≡ prefix.now.path ++ link ∷ [] }
+    ensures end { result.end ≡ end_of task.now.book.now.links link }
+    ensures node { IsNode task.now.chip.now.routers task.now.chip.now.nis result.end }
+    ensures steps { steps.new ≡ steps.old + 1 }
+{
+    let Link { to, delay, .. } = task.chip.link(link);
+    let unit = task.ask.unit;
+    let free = task
+        .book
+        .narrow(unit, link, prefix.delay, &prefix.free, steps);
+    let mut path = prefix.path;
+    path.push(link);
+    Prefix {
+        path,
+        end: to,
+        passed: with_node(task.chip, prefix.passed, to),
+        delay: prefix.delay + delay,
+        cost: prefix.cost + task.prices.of(delay, task.book.used(unit, link)),
+        free,
+    }
+}
+
+/// The routers that are passed, with that of a further node.
+fn with_node(chip: &Chip, passed: u64, node: Node) -> u64
+    requires { IsNode chip.now.routers chip.now.nis node }
+    ensures { (r : RouterId) → r.0 < max_routers
+        → (bit_at result r.0 ≡ 1) ↔ ((bit_at passed r.0 ≡ 1) ⊎ (node ≡ Router r)) }
+{
+    let _routers = chip.routers();
+    match node {
+        Node::Router(router) => passed | 1 << router.0,
+        Node::Ni(_) => passed,
+    }
+}
+
+/// Whether a list's free starts have suitable slots.
+fn is_live(task: &Task, prefix: &Prefix) -> bool
+    requires task { IsTask task.now }
+    requires prefix { IsPrefix task.now prefix.now }
+    ensures { result ≡ is_live task.now.book.now task.now.ask prefix.now.path }
+{
+    let gap = (task.ask.latency as u64 + 1).saturating_sub(prefix.delay as u64);
+    prefix
+        .free
+        .suitable(task.ask.need, gap.min(u32::MAX as u64) as u32)
+}
+
+/// Whether a path comes before another: by cost, then by number of links, then by link numbers.
+fn comes_before(path: &Path, cost: u32, other: &Priced) -> bool
+    ensures { result ≡ is_before cost path.now other.now.cost other.now.path }
+{
+    if cost != other.cost {
+        return cost < other.cost;
+    }
+    if path.len() != other.path.len() {
+        return path.len() < other.path.len();
+    }
+    for i in 0..path.len() {
+        let (link, its) = (path.link(i), other.path.link(i));
+        if link.0 != its.0 {
+            return link.0 < its.0;
+        }
+    }
+    false
+}
+
+/// The first of what was best and a path, if it is a candidate.
+fn consider(task: &Task, goal: &Goal, prefix: &Prefix, best: Option<Priced>) -> Option<Priced>
+    requires task { IsTask task.now }
+    requires prefix { IsPrefix task.now prefix.now }
+    requires best { best ≡ priced (costs_of task.now) (path_in best) }
+    ensures { result ≡ priced (costs_of task.now)
+        (keep (field_of task.now goal.now) (path_in best) prefix.now.path) }
+{
+    if prefix.path.len() > goal.most || !is_live(task, prefix) {
+        return best;
+    }
+    match best {
+        None => Some(with_cost(prefix)),
+        Some(other) => {
+            if comes_before(&prefix.path, prefix.cost, &other) {
+                Some(with_cost(prefix))
+            } else {
+                Some(other)
+            }
+        }
+    }
+}
+
+/// A list as a path with its cost.
+fn with_cost(prefix: &Prefix) -> Priced
+    ensures { result ≡ record { path = prefix.now.path; cost = prefix.now.cost } }
+{
+    Priced {
+        path: prefix.path,
+        cost: prefix.cost,
+    }
+}
+
+/// The least number of links from a node to the goal.
+fn onward(task: &Task, goal: &Goal, node: Node) -> Option<u32>
+    ensures { IsLeastFrom task.now.far.now goal.now.ni node result }
+{
+    match node {
+        Node::Router(router) => task.far.onward(router, goal.ni),
+        Node::Ni(ni) => task.far.between(ni, goal.ni),
+    }
+}
+
+/// Whether no better path goes on from a list: its free starts are dead, its end is too far from the
+/// goal, or with the least cost of the links that are still needed it costs more than the best.
+fn is_hopeless(task: &Task, goal: &Goal, prefix: &Prefix, best: &Option<Priced>) -> bool
+    requires task { IsTask task.now }
+    requires prefix { IsPrefix task.now prefix.now }
+    requires stands { Stands (end_of task.now.book.now.links) prefix.now.end prefix.now.path }
+    requires best { best.now ≡ priced (costs_of task.now) (path_in best.now) }
+    ensures none { IsTrue result → GainsNothing (field_of task.now goal.now) (path_in best.now)
+        prefix.now.end prefix.now.path }
+    ensures open { result ≡ false → (least : NiId → Node → Option ℕ)
+        → AreLeast task.now.chip.now.links least
+        → is_open (field_of task.now goal.now) (least goal.now.ni) prefix.now.end prefix.now.path
+        ≡ true }
+{
+    let Some(more) = onward(task, goal, prefix.end) else {
+        return true;
+    };
+    if prefix.path.len() as u64 + more as u64 > goal.most as u64 {
+        return true;
+    }
+    if let Some(best) = best {
+        // A path that may cost as much is followed, since it may have fewer links or come first.
+        if prefix.cost as u64 + more as u64 > best.cost as u64 {
+            return true;
+        }
+    }
+    !is_live(task, prefix)
+}
+
+/// The first of what was best and the candidates among the paths that go on from a list over at most
+/// so many links.
+pub(crate) fn extend<L: Ledger>(
+    task: &Task,
+    goal: &Goal,
+    prefix: &Prefix,
+    best: Option<Priced>,
+    left: u32,
+    steps: &mut Steps<L>,
+) -> Option<Priced>
+    requires task { IsTask task.now }
+    requires prefix { IsPrefix task.now prefix.now }
+    requires node { IsNode task.now.chip.now.routers task.now.chip.now.nis prefix.now.end }
+    requires stands { Stands (end_of task.now.book.now.links) prefix.now.end prefix.now.path }
+    requires best { best ≡ priced (costs_of task.now) (path_in best) }
+    requires room { length prefix.now.path + left ≤ max_path_links }
+    ensures best { result ≡ priced (costs_of task.now)
+        (first_from (field_of task.now goal.now) (path_in best)
+        (completions (field_of task.now goal.now) left prefix.now.end prefix.now.path)) }
+    ensures steps { (least : NiId → Node → Option ℕ) → AreLeast task.now.chip.now.links least
+        → steps.new ≤ steps.old + open_steps (field_of task.now goal.now) (least goal.now.ni) left
+        prefix.now.end prefix.now.path }
+{
+    if left == 0 {
+        return best;
+    }
+    if is_hopeless(task, goal, prefix, &best) {
+        return best;
+    }
+    let mut best = best;
+    for place in 0..MAX_PORTS as u8 {
+        let Some(link) = leaving(task.chip, prefix.end, place) else {
+            return best;
+        };
+        best = match turn_at(task, goal, prefix, link) {
+            Turn::Away => best,
+            Turn::Ends => {
+                let path = grown(task, prefix, link, steps);
+                consider(task, goal, &path, best)
+            }
+            Turn::Goes => {
+                let longer = grown(task, prefix, link, steps);
+                extend(task, goal, &longer, best, left - 1, steps)
+            }
+        };
+    }
+    best
+}
