@@ -31,26 +31,20 @@ fn chip(alloc: Global, routers: u32, nis: u32, loops: u32) -> Result<String, All
 /// Numbers of routers, of interfaces and of loops, and the rule that the chip breaks, if it breaks one.
 const CHIPS: [(u32, u32, u32, Option<ShownRule>); 8] = [
     (64, 64, 7, None),
-    (64, 64, 8, Some((6, "TooManyPorts", 0, Shown::Number(9)))),
-    (0, 1, 0, Some((3, "OutOfRange", 3, Shown::Number(0)))),
-    (65, 1, 0, Some((3, "OutOfRange", 3, Shown::Number(65)))),
-    (1, 0, 0, Some((3, "OutOfRange", 4, Shown::Number(0)))),
-    (64, 65, 0, Some((3, "OutOfRange", 4, Shown::Number(65)))),
-    (
-        64,
-        64,
-        896,
-        Some((6, "TooManyPorts", 0, Shown::Number(897))),
-    ),
-    (64, 64, 897, Some((3, "OutOfRange", 5, Shown::Number(1025)))),
+    (64, 64, 8, Some((6, 0, Shown::Number(9)))),
+    (0, 1, 0, Some((3, 3, Shown::Number(0)))),
+    (65, 1, 0, Some((3, 3, Shown::Number(65)))),
+    (1, 0, 0, Some((3, 4, Shown::Number(0)))),
+    (64, 65, 0, Some((3, 4, Shown::Number(65)))),
+    (64, 64, 896, Some((6, 0, Shown::Number(897)))),
+    (64, 64, 897, Some((3, 5, Shown::Number(1025)))),
 ];
 
 #[test]
 fn chips_of_each_size(rt: HostRuntime) -> Result<(), Fail> {
     for (routers, nis, loops, rule) in CHIPS {
         let text = chip(rt.alloc(), routers, nis, loops)?;
-        let place = (routers, nis, loops);
-        assert_eq!(rt; broken_rule(rt.alloc(), text.as_bytes()), rule, "{place:?}");
+        assert_eq!(rt; broken_rule(rt.alloc(), text.as_bytes()), rule);
     }
     Ok(())
 }

@@ -1,4 +1,6 @@
 // What no clause says of chips: that reading succeeds where memory is left, and what a pair has.
+ghost use Rattle.std.specs.Prelude.{◌<◌, All, length};
+
 use aeth_base::{LinkId, Name, NiId, Path, RouterId};
 use aeth_chip::{Chip, Link, Node, read_chip};
 use std::alloc::Global;
@@ -108,7 +110,11 @@ fn interfaces_are_found_by_name(rt: HostRuntime) -> Result<(), Fail> {
 
 /// The wire so many places behind a link.
 fn wire_of(chip: &Chip, link: u32, place: u32) -> Option<u32> {
-    if place < link_of(chip, link)?.delay {
+    if link >= chip.links() {
+        return None;
+    }
+    let delay = chip.link(LinkId(link)).delay;
+    if place < delay {
         Some(chip.wire(LinkId(link), place).0)
     } else {
         None
@@ -134,6 +140,17 @@ fn wires_stand_behind_their_links(rt: HostRuntime) -> Result<(), Fail> {
     Ok(())
 }
 
+/// The offset at a place of a path, 0 past its end.
+fn offset_at(chip: &Chip, path: &Path, place: u32) -> u32
+    requires { All (λ link. link.0 < length chip.now.links) path.now }
+{
+    if place <= path.len() {
+        chip.offset(path, place)
+    } else {
+        0
+    }
+}
+
 /// The offsets at the places of a path, and its delay.
 fn offsets_of(chip: &Chip, links: [u32; 3]) -> Option<[u32; 5]> {
     let mut path = Path::empty();
@@ -143,10 +160,10 @@ fn offsets_of(chip: &Chip, links: [u32; 3]) -> Option<[u32; 5]> {
         }
     }
     Some([
-        chip.offset(&path, 0),
-        chip.offset(&path, 1),
-        chip.offset(&path, 2),
-        chip.offset(&path, 3),
+        offset_at(chip, &path, 0),
+        offset_at(chip, &path, 1),
+        offset_at(chip, &path, 2),
+        offset_at(chip, &path, 3),
         chip.path_delay(&path),
     ])
 }
