@@ -9,19 +9,21 @@ use Rattle.std.proofs.lemmas.Bool.Decides.{Decides-eqb}
 use Rattle.std.proofs.lemmas.List.{drop-replicate, length-append, length-replicate}
 use Rattle.std.proofs.lemmas.Slice.Eq.{bytes_eq-Decides}
 use Rattle.std.proofs.Math.Seq.{drop-append_seam, take-append_seam}
+use Rattle.aeth_base.specs.Limits.{max_name_bytes}
 use Rattle.aeth_base.specs.Name.{is_name}
 use Rattle.aeth_base.specs.NameBytes.{IsPadded, padded}
 use Rattle.aeth_base.specs.contracts.name.NamePartialEq.TheImpl.{eq-value}
 
 -- A name that is written into zeros is padded.
-pub is_padded-written : (name zeros : List ℕ) → zeros ≡ replicate 32 0 → length name ≤ 32
+pub is_padded-written : (name zeros : List ℕ) → zeros ≡ replicate max_name_bytes 0
+    → length name ≤ max_name_bytes
     → is_name name ≡ true → IsPadded (name ++ drop (length name) zeros) (length name)
 is_padded-written name zeros are_zeros short named =
-    let rest : drop (length name) zeros ≡ replicate (32 - length name) 0 =
-    rw are_zeros (drop-replicate (length name) 32 0) in
+    let rest : drop (length name) zeros ≡ replicate (max_name_bytes - length name) 0 =
+    rw are_zeros (drop-replicate (length name) max_name_bytes 0) in
     record {
       size = length-append name (drop (length name) zeros)
-          ∙ rw (rest, length-replicate {A = ℕ} (32 - length name) 0) (omega arith);
+          ∙ rw (rest, length-replicate {A = ℕ} (max_name_bytes - length name) 0) (omega arith);
       within = short;
       rest = drop-append_seam name (drop (length name) zeros) ∙ rest;
       named = rw (take-append_seam name (drop (length name) zeros)) named;
@@ -30,8 +32,8 @@ is_padded-written name zeros are_zeros short named =
 -- Names of one length that are equal with their zeros are equal.
 padded-same : (a b : List ℕ) → padded a ≡ padded b → length a ≡ length b → a ≡ b
 padded-same a b same len =
-    sym (take-append_seam a (replicate (32 - length a) 0)) ∙ ap (take (length a)) same
-    ∙ rw len (take-append_seam b (replicate (32 - length b) 0))
+    sym (take-append_seam a (replicate (max_name_bytes - length a) 0)) ∙ ap (take (length a)) same
+    ∙ rw len (take-append_seam b (replicate (max_name_bytes - length b) 0))
 
 bytes_eq-from_padded : (a b : List ℕ)
     → (bytes_eq (padded a) (padded b) && eqb (length a) (length b)) ≡ true → bytes_eq a b ≡ true
