@@ -1,7 +1,7 @@
 -- What holds of the application that tables tell where no rule is broken.
 use Rattle.std.proofs.Common.{◌≡◌, ◌++◌, ◌∙◌, ◌*◌, ℕ, List, [], ◌∷◌, length, map, None, refl, sym}
 use Rattle.std.proofs.Common.{subst, true}
-use Rattle.std.specs.Prelude.{All, codes, flat_map}
+use Rattle.std.specs.Prelude.{◌≤◌, All, codes, flat_map}
 use Rattle.std.specs.List.{filter_map}
 use Rattle.std.proofs.lemmas.List.{length-map}
 use Rattle.std.proofs.lemmas.List.Elements.{All-cons, All-contains, All-head, All-nil, All-tail}
@@ -15,7 +15,7 @@ use Rattle.aeth_document.proofs.WalkLemmas.{first_broken-head}
 use Rattle.aeth_app.specs.App.{AreNames, IsApp, IsAppOf, IsConnection, IsUse}
 use Rattle.aeth_app.specs.AppFile.{told_app}
 use Rattle.aeth_app.specs.Demands.{IsWithinDemands, above}
-use Rattle.aeth_app.specs.Limits.{seats_per_ni}
+use Rattle.aeth_app.specs.Limits.{max_cores, seats_per_ni}
 use Rattle.aeth_app.specs.Parts.{connection_of, core_of, use_of}
 use Rattle.aeth_app.specs.Ranges.{IsInRange, IsNamed}
 use Rattle.aeth_app.specs.Repeats.{HasDistinctNames}
@@ -76,6 +76,12 @@ are_names chip root =
       use_case = sym (names_kept (λ one. one.name) (use_of connections uses) (uses_in root)
           (λ table. refl));
     }
+
+-- Tables whose numbers are in their ranges tell few cores.
+pub told_cores-few : (chip : ChipData) (root : Members) → IsInRange root
+    → length (told_app chip root).cores ≤ max_cores
+unfolding told_app
+told_cores-few chip root range = rw (length-map (cores_in root) (core_of chip.nis)) range.few_cores
 
 -- The application of tables that break no rule is one.
 pub is_app : (chip : ChipData) (root : Members) → IsChip chip → IsInRange root

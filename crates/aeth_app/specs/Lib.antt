@@ -7,6 +7,7 @@ pub mod Ranges
 pub mod Repeats
 pub mod Unknown
 pub mod Parts
+pub mod AppParts
 pub mod Names
 pub mod Demands
 pub mod Fault

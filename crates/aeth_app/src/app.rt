@@ -4,6 +4,7 @@ ghost use Rattle.std.specs.Prelude.{◌^◌, count_by, slice_get, IfSome, IsSome
 ghost use Rattle.std.specs.Str.{bytes_eq};
 ghost use Rattle.aeth_app.specs.App.{AreNames, IsApp, IsConnection, has_connection, is_end};
 ghost use Rattle.aeth_app.specs.App.{is_marked, is_smooth, position_of, wish_of};
+ghost use Rattle.aeth_app.specs.AppParts.{app_with};
 ghost use Rattle.aeth_app.specs.Limits.{max_connections, max_core_connections, max_cores};
 ghost use Rattle.aeth_app.specs.Limits.{max_detour, max_uses, min_uses};
 ghost use Rattle.aeth_app.specs.Rates.{need_of};
@@ -44,81 +45,56 @@ pub(crate) struct Names {
     pub uses: IndexSet<Name>,
 }
 
+/// What an application says beside its parts.
+#[derive(Clone, Copy)]
+pub(crate) struct Settings {
+    pub slots: u32,
+    pub detour: u32,
+    pub price: Price,
+}
+
+/// An application's cores, connections and use cases, in file order.
+#[derive(Drop)]
+pub(crate) struct Parts {
+    pub cores: Vec<Core>,
+    pub connections: Vec<Connection>,
+    pub uses: Vec<UseCase>,
+}
+
 /// An application: cores, the connections between them, and the use cases in which these run.
 ///
 /// All are numbered from 0 in the order of the file. After Æthereal (2005) and UMARS (2005).
 #[derive(Drop)]
 pub struct App {
-    slots: u32,
-    detour: u32,
-    price: Price,
-    cores: Vec<Core>,
-    connections: Vec<Connection>,
-    uses: Vec<UseCase>,
+    settings: Settings,
+    parts: Parts,
     names: Names,
 }
 
 impl Model for App {
     ghost use Rattle.std.specs.Prelude.{◌≡◌, map};
     ghost use Rattle.aeth_app.specs.App.{AppData, AreNames, IsApp};
+    ghost use Rattle.aeth_app.specs.AppParts.{app_with};
 
     ghost Value = { AppData };
 
-    ghost view = { λ app. record {
-      slots = app.slots;
-      detour = app.detour;
-      price = app.price;
-      cores = app.cores.items;
-      connections = app.connections.items;
-      uses = app.uses.items;
-    } };
+    ghost view = { λ app. app_with app.settings app.parts };
 
-    ghost invariant = { λ app. IsApp (record {
-      slots = app.slots;
-      detour = app.detour;
-      price = app.price;
-      cores = app.cores.items;
-      connections = app.connections.items;
-      uses = app.uses.items;
-    }) × AreNames app.names.cores.keys app.names.connections.keys app.names.uses.keys
-        app.cores.items app.connections.items app.uses.items };
+    ghost invariant = { λ app. IsApp (app_with app.settings app.parts)
+        × AreNames app.names.cores.keys app.names.connections.keys app.names.uses.keys
+        app.parts.cores.items app.parts.connections.items app.parts.uses.items };
 }
 
 impl App {
-    pub(crate) fn new(
-        tables: (u32, u32, Price),
-        cores: Vec<Core>,
-        connections: Vec<Connection>,
-        uses: Vec<UseCase>,
-        names: Names,
-    ) -> App
-        requires app { IsApp (record {
-          slots = tables.0;
-          detour = tables.1;
-          price = tables.2;
-          cores = cores.items;
-          connections = connections.items;
-          uses = uses.items;
-        }) }
+    pub(crate) fn new(settings: Settings, parts: Parts, names: Names) -> App
+        requires app { IsApp (app_with settings parts) }
         requires names { AreNames names.cores.keys names.connections.keys names.uses.keys
-            cores.items connections.items uses.items }
-        ensures { result ≡ record {
-          slots = tables.0;
-          detour = tables.1;
-          price = tables.2;
-          cores = cores.items;
-          connections = connections.items;
-          uses = uses.items;
-        } }
+            parts.cores.items parts.connections.items parts.uses.items }
+        ensures { result ≡ app_with settings parts }
     {
-        let (slots, detour, price) = tables;
         App {
-            slots,
-            detour,
-            price,
-            cores,
-            connections,
-            uses,
+            settings,
+            parts,
             names,
         }
     }
@@ -128,7 +104,7 @@ impl App {
         ensures slots { result ≡ self.now.slots }
         ensures app { IsApp self.now }
     {
-        self.slots
+        self.settings.slots
     }
 
     /// How many links more than the least number a path may have.
@@ -136,14 +112,14 @@ impl App {
         ensures detour { result ≡ self.now.detour }
         ensures most { result ≤ max_detour }
     {
-        self.detour
+        self.settings.detour
     }
 
     /// What a link costs when paths are compared.
     pub fn price(&self) -> Price
         ensures { result ≡ self.now.price }
     {
-        self.price
+        self.settings.price
     }
 
     /// The number of cores.
@@ -151,7 +127,7 @@ impl App {
         ensures cores { result ≡ length self.now.cores }
         ensures most { result ≤ max_cores }
     {
-        self.cores.len() as u32
+        self.parts.cores.len() as u32
     }
 
     /// The number of connections.
@@ -159,7 +135,7 @@ impl App {
         ensures connections { result ≡ length self.now.connections }
         ensures most { result ≤ max_connections }
     {
-        self.connections.len() as u32
+        self.parts.connections.len() as u32
     }
 
     /// The number of use cases.
@@ -168,7 +144,7 @@ impl App {
         ensures some { min_uses ≤ result }
         ensures most { result ≤ max_uses }
     {
-        self.uses.len() as u32
+        self.parts.uses.len() as u32
     }
 
     /// A core by its number.
@@ -176,7 +152,7 @@ impl App {
         requires { core.0 < length self.now.cores }
         ensures { slice_get self.now.cores core.0 ≡ Some result }
     {
-        self.cores[core.0 as usize]
+        self.parts.cores[core.0 as usize]
     }
 
     /// A connection by its number.
@@ -185,7 +161,7 @@ impl App {
         ensures connection { slice_get self.now.connections connection.0 ≡ Some result }
         ensures joined { IsConnection (length self.now.cores) result }
     {
-        self.connections[connection.0 as usize]
+        self.parts.connections[connection.0 as usize]
     }
 
     /// What a channel wishes.
@@ -209,7 +185,11 @@ impl App {
         ensures some { 1 ≤ result }
         ensures most { result ≤ self.now.slots }
     {
-        need_of(self.slots, &self.connection(channel.conn), channel.side)
+        need_of(
+            self.settings.slots,
+            &self.connection(channel.conn),
+            channel.side,
+        )
     }
 
     /// The position of a connection at one of its ends: how many connections of the core stand
@@ -220,7 +200,7 @@ impl App {
         ensures position { result ≡ position_of self.now.connections core connection.0 }
         ensures few { result < max_core_connections }
     {
-        count_ends(&self.connections[..connection.0 as usize], core) as u32
+        count_ends(&self.parts.connections[..connection.0 as usize], core) as u32
     }
 
     /// Whether a use case has a connection.
@@ -228,7 +208,7 @@ impl App {
         requires { u.0 < length self.now.uses }
         ensures { result ≡ has_connection self.now.uses u.0 connection.0 }
     {
-        is_marked(&self.uses[u.0 as usize].has, connection.0)
+        is_marked(&self.parts.uses[u.0 as usize].has, connection.0)
     }
 
     /// Whether a switch between two use cases is smooth: one of them names the other.
@@ -237,8 +217,8 @@ impl App {
         requires v { v.0 < length self.now.uses }
         ensures { result ≡ is_smooth self.now.uses u.0 v.0 }
     {
-        is_marked(&self.uses[u.0 as usize].smooth, v.0)
-            || is_marked(&self.uses[v.0 as usize].smooth, u.0)
+        is_marked(&self.parts.uses[u.0 as usize].smooth, v.0)
+            || is_marked(&self.parts.uses[v.0 as usize].smooth, u.0)
     }
 
     /// The name of a use case.
@@ -246,7 +226,7 @@ impl App {
         requires { u.0 < length self.now.uses }
         ensures { IfSome (slice_get self.now.uses u.0) (λ one. result ≡ one.name) }
     {
-        self.uses[u.0 as usize].name
+        self.parts.uses[u.0 as usize].name
     }
 
     /// The core of this name; `None` exactly where no core has it.

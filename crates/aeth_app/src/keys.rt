@@ -12,98 +12,35 @@ use aeth_document::{Field, Kind, Tables, Walk, table_at, tables_at, wrong_key};
 use toml::Table;
 
 const ROOT: [Field; 6] = [
-    Field {
-        key: "connection",
-        kind: Kind::Tables,
-    },
-    Field {
-        key: "core",
-        kind: Kind::Tables,
-    },
-    Field {
-        key: "cost",
-        kind: Kind::OptionalText,
-    },
-    Field {
-        key: "detour",
-        kind: Kind::Integer,
-    },
-    Field {
-        key: "use",
-        kind: Kind::Tables,
-    },
-    Field {
-        key: "version",
-        kind: Kind::Integer,
-    },
+    Field("connection", Kind::Tables),
+    Field("core", Kind::Tables),
+    Field("cost", Kind::OptionalText),
+    Field("detour", Kind::Integer),
+    Field("use", Kind::Tables),
+    Field("version", Kind::Integer),
 ];
 
-const CORE: [Field; 2] = [
-    Field {
-        key: "name",
-        kind: Kind::Text,
-    },
-    Field {
-        key: "ni",
-        kind: Kind::OptionalText,
-    },
-];
+const CORE: [Field; 2] = [Field("name", Kind::Text), Field("ni", Kind::OptionalText)];
 
 const CONNECTION: [Field; 5] = [
-    Field {
-        key: "back",
-        kind: Kind::Table,
-    },
-    Field {
-        key: "from",
-        kind: Kind::Text,
-    },
-    Field {
-        key: "fwd",
-        kind: Kind::Table,
-    },
-    Field {
-        key: "name",
-        kind: Kind::Text,
-    },
-    Field {
-        key: "to",
-        kind: Kind::Text,
-    },
+    Field("back", Kind::Table),
+    Field("from", Kind::Text),
+    Field("fwd", Kind::Table),
+    Field("name", Kind::Text),
+    Field("to", Kind::Text),
 ];
 
 const WISH: [Field; 4] = [
-    Field {
-        key: "delay",
-        kind: Kind::Integer,
-    },
-    Field {
-        key: "latency",
-        kind: Kind::Integer,
-    },
-    Field {
-        key: "per",
-        kind: Kind::Integer,
-    },
-    Field {
-        key: "words",
-        kind: Kind::Integer,
-    },
+    Field("delay", Kind::Integer),
+    Field("latency", Kind::Integer),
+    Field("per", Kind::Integer),
+    Field("words", Kind::Integer),
 ];
 
 const USE: [Field; 3] = [
-    Field {
-        key: "connections",
-        kind: Kind::Texts,
-    },
-    Field {
-        key: "name",
-        kind: Kind::Text,
-    },
-    Field {
-        key: "smooth",
-        kind: Kind::OptionalTexts,
-    },
+    Field("connections", Kind::Texts),
+    Field("name", Kind::Text),
+    Field("smooth", Kind::OptionalTexts),
 ];
 
 // Where no table stands, the least of its keys is missing.

@@ -1,20 +1,19 @@
 // Reading an application file: its rules one after the other.
-ghost use Rattle.std.specs.Prelude.{◌≡◌, ◌≤◌, codes, length, IfOk, None};
+ghost use Rattle.std.specs.Prelude.{◌≡◌, length, IfOk, None};
 ghost use Rattle.aeth_base.specs.Faults.{Reads};
+ghost use Rattle.aeth_chip.specs.Chip.{IsChip};
 ghost use Rattle.aeth_app.specs.App.{IsAppOf};
 ghost use Rattle.aeth_app.specs.AppFile.{app_in, app_of, demanded, told_app};
+ghost use Rattle.aeth_app.specs.AppParts.{app_with};
 ghost use Rattle.aeth_app.specs.Demands.{IsWithinDemands};
 ghost use Rattle.aeth_app.specs.Fault.{rule_of};
-ghost use Rattle.aeth_app.specs.Limits.{max_detour};
 ghost use Rattle.aeth_app.specs.Names.{AreNamesOf};
 ghost use Rattle.aeth_app.specs.Ranges.{IsInRange};
 ghost use Rattle.aeth_app.specs.Repeats.{HasDistinctNames};
 ghost use Rattle.aeth_app.specs.Unknown.{unknown_name};
-ghost use Rattle.aeth_document.specs.Values.{integer_at};
-ghost use Rattle.aeth_document.specs.Walks.{size_of};
 ghost use Rattle.toml.specs.View.{table_view};
 
-use crate::app::{App, Names};
+use crate::app::{App, Names, Parts, Settings};
 use crate::demands::judge_demands;
 use crate::fault::AppFault;
 use crate::keys::wrong_keys;
@@ -23,21 +22,41 @@ use crate::parts::{connections_of, cores_of, price_of, uses_of};
 use crate::ranges::out_of_range;
 use crate::repeats::name_twice;
 use crate::unknown::unknown_name;
+use aeth_base::NoMemory;
 use aeth_chip::Chip;
 use aeth_document::{integer_at, read_document, size, tables_at, text_if};
 use std::alloc::Global;
 use toml::Table;
 
-fn detour_of(root: &Table) -> u32
-    requires { size_of (integer_at (codes "detour") (table_view root.now)) ≤ max_detour }
-    ensures { result ≡ size_of (integer_at (codes "detour") (table_view root.now)) }
+// The settings and parts that the tables tell, whose names these are.
+#[tactic(auto, unfolding(crate::specs::AppFile::told_app))]
+fn told_parts(
+    alloc: Global,
+    chip: &Chip,
+    root: &Table,
+    names: &Names,
+) -> Result<(Settings, Parts), NoMemory>
+    requires names { AreNamesOf (table_view root.now) names.now }
+    requires range { IsInRange (table_view root.now) }
+    ensures told { IfOk result (λ told.
+        app_with told.0 told.1 ≡ told_app chip.now (table_view root.now)) }
+    ensures chip { IsChip chip.now }
 {
-    size(integer_at(root, "detour")) as u32
+    let settings = Settings {
+        slots: chip.slots(),
+        detour: size(integer_at(root, "detour")) as u32,
+        price: price_of(text_if(root, "cost")),
+    };
+    let parts = Parts {
+        cores: cores_of(alloc, chip, tables_at(root, "core"))?,
+        connections: connections_of(alloc, &names.cores, tables_at(root, "connection"))?,
+        uses: uses_of(alloc, names, tables_at(root, "use"))?,
+    };
+    Ok((settings, parts))
 }
 
 // The application of tables in which all names are known, or the first rule on what it asks
 // for that it breaks.
-#[tactic(auto, unfolding(crate::specs::AppFile::told_app))]
 fn told_app(alloc: Global, chip: &Chip, root: &Table, names: Names) -> Result<App, AppFault>
     requires names { AreNamesOf (table_view root.now) names }
     requires range { IsInRange (table_view root.now) }
@@ -47,16 +66,9 @@ fn told_app(alloc: Global, chip: &Chip, root: &Table, names: Names) -> Result<Ap
         (demanded (length chip.now.nis) (told_app chip.now (table_view root.now))) }
     ensures chip { IfOk result (IsAppOf chip.now) }
 {
-    let tables = (
-        chip.slots(),
-        detour_of(root),
-        price_of(text_if(root, "cost")),
-    );
-    let cores = cores_of(alloc, chip, tables_at(root, "core"))?;
-    let connections = connections_of(alloc, &names.cores, tables_at(root, "connection"))?;
-    let uses = uses_of(alloc, &names, tables_at(root, "use"))?;
-    judge_demands(chip.nis(), &cores, &connections)?;
-    Ok(App::new(tables, cores, connections, uses, names))
+    let (settings, parts) = told_parts(alloc, chip, root, &names)?;
+    judge_demands(chip.nis(), &parts.cores, &parts.connections)?;
+    Ok(App::new(settings, parts, names))
 }
 
 #[tactic(auto, unfolding(crate::specs::AppFile::app_in))]

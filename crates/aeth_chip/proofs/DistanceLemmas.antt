@@ -1,5 +1,5 @@
 -- Levels of places are least numbers of links of paths.
-use Rattle.std.proofs.Common.{◌≡◌, ◌⊎◌, ◌∙◌, ◌+◌, ◌<◌, ◌≤◌, ◌++◌, ℕ, zero, suc, List, [], ◌∷◌}
+use Rattle.std.proofs.Common.{◌≡◌, ◌⊎◌, ◌∙◌, ◌+◌, ◌<◌, ◌≤◌, ◌++◌, ℕ, suc, List, [], ◌∷◌}
 use Rattle.std.proofs.Common.{Option, Some, None, length, slice_get, refl, sym, subst, inl, inr}
 use Rattle.std.proofs.Common.{arith}
 use Rattle.std.specs.declared.vec.Vec.{Vec}
@@ -13,17 +13,18 @@ use Rattle.aeth_chip.specs.declared.node.Node.{Node}
 use Rattle.aeth_chip.specs.declared.node.Node.TheVariants.{Router, Ni}
 use Rattle.aeth_chip.specs.Paths.{Joins, AreDistinct, IsPath, IsOnward, IsLeast, IsDistance}
 use Rattle.aeth_chip.specs.Paths.{IsOnwardDistance}
-use Rattle.aeth_chip.specs.Levels.{At, Within, Passes, Reaches, AreLevels, AreOrigins, HasPlace}
-use Rattle.aeth_chip.specs.Levels.{HasPlaces, IsOrigin, Leads, place_of}
+use Rattle.aeth_chip.specs.Levels.{AreLevels, AreOrigins, HasLevel, HasLevelWithin, HasLinkStep}
+use Rattle.aeth_chip.specs.Levels.{HasPlace, HasPlaces, IsOrigin, ReachesGoal, node_place}
 use Rattle.aeth_chip.specs.Distances.{AreRows, entry_in, entry_of}
+use Rattle.aeth_chip.proofs.JoinedLaws.{joined-by, joins-first, joins-more, joins-none}
 use Rattle.aeth_chip.proofs.PathLemmas.{IsShortest, shortest_distinct}
 use Rattle.aeth_chip.proofs.Pushes.{slice_get-push}
 use Rattle.aeth_chip.proofs.WalkLemmas.{Walk, begins_placed, ends_placed, path_reaches}
 use Rattle.aeth_chip.proofs.WalkLemmas.{reaches_path}
 
 -- A level of a place is at most each bound of it.
-at_least : (levels : List (Option ℕ)) (place k bound : ℕ) → At levels place k
-    → Within levels place bound → k ≤ bound
+at_least : (levels : List (Option ℕ)) (place k bound : ℕ) → HasLevel levels place k
+    → HasLevelWithin levels place bound → k ≤ bound
 at_least levels place k bound at (least, has, low) =
     let same : Some k ≡ Some least = same_Some (Some k) (Some least) (sym at ∙ has) in
     let equal : k ≡ least = same_Some k least same in
@@ -32,8 +33,8 @@ at_least levels place k bound at (least, has, low) =
 -- A row's entry is a least number of links, where each list with a property has at least the level
 -- of the place, and some list has as many links as that.
 row_least : (P : List LinkId → Type 0) (levels : List (Option ℕ)) (place : ℕ)
-    → ((path : List LinkId) → P path → Within levels place (length path))
-    → ((k : ℕ) → At levels place k → (path : List LinkId) × P path × (length path ≡ k))
+    → ((path : List LinkId) → P path → HasLevelWithin levels place (length path))
+    → ((k : ℕ) → HasLevel levels place k → (path : List LinkId) × P path × (length path ≡ k))
     → IsLeast P (entry_in (slice_get levels place))
 row_least P levels place bounds found =
     let go : (o : Option (Option ℕ)) → slice_get levels place ≡ o → IsLeast P (entry_in o) =
@@ -62,22 +63,25 @@ row_least P levels place bounds found =
 module _ (links : List Link) (routers places : ℕ) (placed : HasPlaces links routers places)
     (b : NiId)
     (levels : List (Option ℕ))
-    (row : AreLevels (Leads links routers) routers (routers + b.0) places levels)
+    (row : AreLevels (HasLinkStep links routers) routers (routers + b.0) places levels)
     (goal : routers + b.0 < places) where
   -- Each joined list has at least as many links as the level of the node where it begins.
   walk_bound : (a : Node) (rs : List RouterId) (path : List LinkId) → Joins links a rs (Ni b) path
-      → (place_of routers a < routers) ⊎ (1 ≤ length rs)
-      → Within levels (place_of routers a) (length path)
+      → (node_place routers a < routers) ⊎ (1 ≤ length rs)
+      → HasLevelWithin levels (node_place routers a) (length path)
   walk_bound a rs path joins some =
-      row.least (place_of routers a) (length path)
+      row.least (node_place routers a) (length path)
       (path_reaches links routers places placed a rs (Ni b) path joins some)
 
   -- A level is the number of links of some joined list.
-  walk_found : (a : Node) → HasPlace routers places a → (k : ℕ) → At levels (place_of routers a) k
+  walk_found : (a : Node) → HasPlace routers places a → (k : ℕ)
+      → HasLevel levels (node_place routers a) k
       → Walk links routers places placed a (Ni b) k
   walk_found a here k at =
-      reaches_path links routers places placed (Ni b) goal (omega arith) k a here
-      (row.reached (place_of routers a) k at)
+      let reached = row.reached (node_place routers a) k at in
+      subst (λ (n : ℕ). Walk links routers places placed a (Ni b) n) (sym reached.count)
+      (reaches_path links routers places placed (Ni b) goal (omega arith) reached.between
+      reached.are_routers a here reached.joined)
 
   -- The entry of a router.
   row_onward : (r : RouterId) → r.0 < routers
@@ -103,15 +107,18 @@ module _ (links : List Link) (routers places : ℕ) (placed : HasPlaces links ro
       ))
 
   -- The routers of a shortest joined list from an interface are distinct.
-  route_distinct : (a : NiId) (k : ℕ) → At levels (routers + a.0) k → (rs : List RouterId)
+  route_distinct : (a : NiId) (k : ℕ) → HasLevel levels (routers + a.0) k → (rs : List RouterId)
       (path : List LinkId) → Joins links (Ni a) rs (Ni b) path → length path ≡ k → 1 ≤ length rs
       → AreDistinct rs
   route_distinct a k at [] path joins long some = tt
-  route_distinct a k at (r ∷ rs) [] joins long some = absurd joins
+  route_distinct a k at (r ∷ rs) [] joins long some =
+      joins-none links (Ni a) (r ∷ rs) (Ni b) joins
   route_distinct a k at (r ∷ rs) (l ∷ path) joins long some =
-      shortest_distinct links r rs (Ni b) path joins.1 (λ others other joined.
+      let (goes, rest) = joins-first links (Ni a) r rs (Ni b) l path joins in
+      shortest_distinct links r rs (Ni b) path rest (λ others other joined.
       let low = at_least levels (routers + a.0) k (suc (length other)) at
-      (walk_bound (Ni a) (r ∷ others) (l ∷ other) (joins.0, joined) (inr (omega arith))) in
+      (walk_bound (Ni a) (r ∷ others) (l ∷ other)
+      (joins-more links (Ni a) r others (Ni b) l other goes joined) (inr (omega arith))) in
       omega arith)
 
   -- The entry of an interface.
@@ -136,17 +143,15 @@ module _ (links : List Link) (routers places : ℕ) (placed : HasPlaces links ro
       ))
 
 -- The same steps give the same levels.
-passes_by : (S T : ℕ → ℕ → Type 0) (routers goal : ℕ) → ((p q : ℕ) → S p q → T p q)
-    → (n place : ℕ) → Passes S routers goal n place → Passes T routers goal n place
-passes_by S T routers goal steps zero place passes = passes
-passes_by S T routers goal steps (suc n) place (router, (next, step, rest)) =
-    (router, (next, steps place next step, passes_by S T routers goal steps n next rest))
-
 reaches_by : (S T : ℕ → ℕ → Type 0) (routers goal : ℕ) → ((p q : ℕ) → S p q → T p q)
-    → (n place : ℕ) → Reaches S routers goal n place → Reaches T routers goal n place
-reaches_by S T routers goal steps zero place reaches = reaches
-reaches_by S T routers goal steps (suc n) place (next, step, rest) =
-    (next, steps place next step, passes_by S T routers goal steps n next rest)
+    → (n place : ℕ) → ReachesGoal S routers goal n place → ReachesGoal T routers goal n place
+reaches_by S T routers goal steps n place reaches = record {
+  between = reaches.between;
+  are_routers = reaches.are_routers;
+  joined = joined-by (λ q p. S p q) (λ p. p) (λ q p. T p q) (λ q p step. steps p q step) place
+      (reaches.between ++ goal ∷ []) reaches.joined;
+  count = reaches.count;
+}
 
 levels_by : (S T : ℕ → ℕ → Type 0) (routers goal places : ℕ) (levels : List (Option ℕ))
     → ((p q : ℕ) → S p q → T p q) → ((p q : ℕ) → T p q → S p q)
@@ -168,9 +173,9 @@ pub rows_least : (links : List Link) (routers places : ℕ) (origins : List (Vec
     → AreRows links routers rows
 rows_least links routers places origins rows placed are_origins size each =
     let level_row : (b : ℕ) (row : Vec (Option ℕ) Global) → slice_get rows b ≡ Some row
-    → AreLevels (Leads links routers) routers (routers + b) places row.items =
-    λ b row is. levels_by (IsOrigin origins) (Leads links routers) routers (routers + b) places
-    row.items are_origins.only are_origins.each (each b row is) in
+    → AreLevels (HasLinkStep links routers) routers (routers + b) places row.items =
+    λ b row is. levels_by (IsOrigin origins) (HasLinkStep links routers) routers (routers + b)
+    places row.items are_origins.only are_origins.each (each b row is) in
     record {
       between = λ a b. elim ((slice_get_cases rows b.0).1) [
         | inl (row, within, is, at) ↦

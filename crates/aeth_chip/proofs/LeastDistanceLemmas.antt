@@ -1,160 +1,137 @@
 -- Laws of the least number of links between interfaces as a function: it is the least number that
 -- the relation `IsDistance` tells, and the only one.
 use Rattle.std.proofs.Common.{◌≡◌, ◌∙◌, ◌+◌, ◌<◌, ◌≤◌, ℕ, zero, suc, Bool, true, false, cond, List}
-use Rattle.std.proofs.Common.{[], ◌∷◌, Option, Some, None, length, refl, sym, ap, inl, inr, arith}
-use Rattle.std.specs.Prelude.{find}
+use Rattle.std.proofs.Common.{[], ◌∷◌, Option, Some, None, length, map, Contains, refl, sym, ap}
+use Rattle.std.proofs.Common.{inl, inr, arith}
 use Rattle.std.specs.List.{range_with_len}
-use Rattle.std.proofs.lemmas.Bool.{cases_eq, false≢true}
-use Rattle.std.proofs.lemmas.Option.{none-some, same_Some}
+use Rattle.std.proofs.lemmas.Bool.{both_ways, cases_lt, le-ltb, lt-ltb}
+use Rattle.std.proofs.lemmas.List.Folds.{Any-from_list_any, list_any-from_Any}
+use Rattle.std.proofs.lemmas.Option.{slice_get_within}
+use Rattle.aeth_base.specs.Extremes.{least_below}
+use Rattle.aeth_base.proofs.ExtremeLemmas.{least_below-first, least_below-passes}
+use Rattle.aeth_base.proofs.Members.{Contains-cases, Contains-flat_map, Contains-here, Contains-map}
+use Rattle.aeth_base.proofs.Members.{Contains-nil, Contains-there, flat_map-Contains, map-Contains}
+use Rattle.aeth_base.proofs.Ranges.{Contains-range}
 use Rattle.aeth_base.specs.declared.ids.LinkId.{LinkId}
 use Rattle.aeth_base.specs.declared.ids.NiId.{NiId}
-use Rattle.aeth_base.specs.declared.ids.RouterId.{RouterId}
 use Rattle.aeth_chip.specs.declared.node.Link.{Link}
 use Rattle.aeth_chip.specs.declared.node.Node.{Node}
 use Rattle.aeth_chip.specs.declared.node.Node.TheVariants.{Router, Ni}
 use Rattle.aeth_chip.specs.Chip.{ChipData, IsChip, IsNode}
-use Rattle.aeth_chip.specs.LeastDistance.{is_joined, least_distance}
-use Rattle.aeth_chip.specs.Paths.{Joins, AreDistinct, IsPath, IsLeast, IsDistance}
-use Rattle.aeth_chip.proofs.JoinedLemmas.{AreBelow, IsBelow, is_joined-from_list}
-use Rattle.aeth_chip.proofs.JoinedLemmas.{length-distinct_routers, length-joins}
-use Rattle.aeth_chip.proofs.JoinedLemmas.{list_from_is_joined}
-use Rattle.aeth_chip.proofs.PathLemmas.{shortest_distinct}
+use Rattle.aeth_chip.specs.Distances.{AreBelow}
+use Rattle.aeth_chip.specs.LeastDistance.{below, has_path, least_distance, link_ids, lists_of}
+use Rattle.aeth_chip.specs.Nodes.{IsBelow}
+use Rattle.aeth_chip.specs.PathTests.{is_path_between}
+use Rattle.aeth_chip.specs.Paths.{BeginsAt, IsPath, IsLeast, IsDistance, to_of}
+use Rattle.aeth_chip.proofs.JoinedLaws.{joined-each, joins-length}
+use Rattle.aeth_chip.proofs.PathTestLemmas.{is_path_between-Decides}
+use Rattle.aeth_chip.proofs.RouterLemmas.{length-distinct_routers}
 
--- ---- the first number of a range that passes a test
+-- ---- lists of so many elements
 
--- A number of the range passes the test, and none before it does.
-record IsFirst (test : ℕ → Bool) (start size first : ℕ) : Type 0 where
-  above : start ≤ first
-  below : first < start + size
-  passes : test first ≡ true
-  least : (k : ℕ) → start ≤ k → test k ≡ true → first ≤ k
+-- A list of so many elements, all in another list, is one of its lists.
+Contains-lists_of : {X : Type 0} (xs ys : List X) → ((y : X) → Contains ys y → Contains xs y)
+    → Contains (lists_of (length ys) xs) ys
+Contains-lists_of xs [] each = Contains-here [] []
+Contains-lists_of xs (y ∷ ys) each =
+    Contains-flat_map (λ x. map (λ rest. x ∷ rest) (lists_of (length ys) xs)) xs y (y ∷ ys)
+    (each y (Contains-here y ys))
+    (Contains-map (λ rest. y ∷ rest) (lists_of (length ys) xs) ys
+    (Contains-lists_of xs ys (λ z has. each z (Contains-there y ys z has))))
 
--- What `find` gives over a range is the first number that passes.
-find_some : (test : ℕ → Bool) (start size first : ℕ)
-    → find test (range_with_len start size) ≡ Some first → IsFirst test start size first
-find_some test start zero first found = absurd (none-some first found)
-find_some test start (suc size) first found =
-    let split : (passed : Bool) → test start ≡ passed
-    → cond passed (Some start) (find test (range_with_len (start + 1) size)) ≡ Some first
-    → IsFirst test start (suc size) first =
-    elim [
-      | true ↦ λ passes here.
-          let same : start ≡ first = same_Some start first here in
-          record {
-            above = omega arith;
-            below = omega arith;
-            passes = sym (ap test same) ∙ passes;
-            least = λ k from also. omega arith;
-          }
-      | false ↦ λ fails later.
-          let rest = find_some test (start + 1) size first later in
-          let above = rest.above in
-          let below = rest.below in
-          record {
-            above = omega arith;
-            below = omega arith;
-            passes = rest.passes;
-            least = λ k from also. elim (cases_eq k start) [
-              | inl same ↦ absurd (false≢true (sym fails ∙ sym (ap test same) ∙ also))
-              | inr other ↦ rest.least k (omega arith) also
-            ];
-          }
-    ] in
-    split (test start) refl found
-
--- Where `find` gives nothing over a range, no number of it passes.
-find_none : (test : ℕ → Bool) (start size : ℕ)
-    → find test (range_with_len start size) ≡ None → (k : ℕ) → start ≤ k → k < start + size
-    → test k ≡ true → ⊥
-find_none test start zero none k from to passes = absurd (omega arith)
-find_none test start (suc size) none k from to passes =
-    let split : (passed : Bool) → test start ≡ passed
-    → cond passed (Some start) (find test (range_with_len (start + 1) size)) ≡ None → ⊥ =
-    elim [
-      | true ↦ λ first here. none-some start (sym here)
-      | false ↦ λ first later. elim (cases_eq k start) [
-        | inl same ↦ false≢true (sym first ∙ sym (ap test same) ∙ passes)
-        | inr other ↦ find_none test (start + 1) size later k (omega arith) (omega arith) passes
-      ]
-    ] in
-    split (test start) refl none
+-- Each list of so many elements has so many.
+length-lists_of : {X : Type 0} (count : ℕ) (xs ys : List X) → Contains (lists_of count xs) ys
+    → length ys ≡ count
+length-lists_of zero xs ys has = elim (Contains-cases [] [] ys has) [
+  | inl same ↦ ap (λ zs. length zs) (sym same)
+  | inr none ↦ Contains-nil none
+]
+length-lists_of (suc count) xs ys has =
+    let (x, among, later) =
+    flat_map-Contains (λ x. map (λ rest. x ∷ rest) (lists_of count xs)) xs ys has in
+    let (rest, same, is_in) = map-Contains (λ rest. x ∷ rest) (lists_of count xs) ys later in
+    ap (λ zs. length zs) (sym same) ∙ ap suc (length-lists_of count xs rest is_in)
 
 -- ---- the function gives what the relation says
 
--- The routers of a shortest joined list from an interface, of those over two links and more, are
--- distinct.
-pub shortest_from_ni : (links : List Link) (a : Node) (routers : List RouterId) (b : Node)
-    (path : List LinkId) → Joins links a routers b path
-    → ((others : List RouterId) (other : List LinkId) → Joins links a others b other
-    → 2 ≤ length other → length path ≤ length other)
-    → AreDistinct routers
-shortest_from_ni links a [] b path joins shortest = tt
-shortest_from_ni links a (r ∷ routers) b [] joins shortest = absurd joins
-shortest_from_ni links a (r ∷ routers) b (l ∷ path) joins shortest =
-    shortest_distinct links r routers b path joins.1 (λ others other joined.
-    let one_more = length-joins links (Router r) others b other joined in
-    let longer : suc (length path) ≤ suc (length other) =
-    shortest (r ∷ others) (l ∷ other) (joins.0, joined) (omega arith) in
-    omega arith)
-
--- So many links lead from an interface to an interface.
-abbrev leads : List Link → NiId → NiId → ℕ → Bool
-leads links a b count = is_joined links count (Ni a) (Ni b)
-
--- A path has at least two links, and so many lead from the one interface to the other.
-route_leads : (links : List Link) (a b : NiId) (path : List LinkId) → IsPath links a b path
-    → (2 ≤ length path) × (leads links a b (length path) ≡ true)
-route_leads links a b path route =
-    let one_more = length-joins links (Ni a) route.routers (Ni b) path route.joins in
-    let some = route.some in (
-      omega arith,
-      is_joined-from_list links (Ni a) route.routers (Ni b) path route.joins,
+-- Where some list of so many links passes the test, a path has so many.
+path_from : (links : List Link) (a b : NiId) (count : ℕ) → has_path links a b count ≡ true
+    → (path : List LinkId) × IsPath links a b path × (length path ≡ count)
+unfolding has_path
+path_from links a b count found =
+    let (k, path, within, at, passes) =
+    Any-from_list_any (is_path_between links a b) (lists_of count (link_ids links)) found in (
+      path,
+      (is_path_between-Decides links a b path).0 passes,
+      length-lists_of count (link_ids links) path (k, within, at),
     )
 
--- The first number from 2 on of links that lead on is the least of a path.
-first_is_distance : (links : List Link) (a b : NiId) (size first : ℕ)
-    → IsFirst (leads links a b) 2 size first → IsDistance links a b (Some first)
-first_is_distance links a b size first is_first =
-    let joined = list_from_is_joined links first (Ni a) (Ni b) is_first.passes in
-    let one_more = length-joins links (Ni a) joined.routers (Ni b) joined.path joined.joins in
-    let long = joined.length_is in
-    let above = is_first.above in
-    record {
-      path = joined.path;
-      has = record {
-        routers = joined.routers;
-        joins = joined.joins;
-        distinct =
-            shortest_from_ni links (Ni a) joined.routers (Ni b) joined.path joined.joins
-            (λ others other joins two.
-            let low = is_first.least (length other) two
-            (is_joined-from_list links (Ni a) others (Ni b) other joins) in
-            omega arith);
-        some = omega arith;
-      };
-      length_is = long;
-      none_shorter = λ other route.
-          let leading = route_leads links a b other route in
-          is_first.least (length other) leading.0 leading.1;
-    }
+-- A path passes it at its number of links.
+from_path : (links : List Link) (a b : NiId) (path : List LinkId) → IsPath links a b path
+    → has_path links a b (length path) ≡ true
+unfolding has_path
+from_path links a b path is =
+    let (k, within, at) = Contains-lists_of (link_ids links) path (λ l has.
+    let (from, goes) =
+    joined-each (BeginsAt links) (to_of links) (Ni a) path is.joins.joined l has in
+    Contains-map (λ n. record { 0 = n }) (range_with_len 0 (length links)) l.0
+    (let low = slice_get_within links l.0 goes.link goes.is in
+    Contains-range 0 (length links) l.0 (omega arith) (omega arith))) in
+    list_any-from_Any (is_path_between links a b) (lists_of (length path) (link_ids links))
+    (k, path, within, at, (is_path_between-Decides links a b path).1 is)
+
+-- A path has at least two links, and at most one more than there are routers.
+pub path-within : (links : List Link) (count : ℕ) → AreBelow links count → (a b : NiId)
+    (path : List LinkId) → IsPath links a b path
+    → (2 ≤ length path) × (length path ≤ count + 1)
+path-within links count below a b path is =
+    let one_more = joins-length links (Ni a) is.routers (Ni b) path is.joins in
+    let some = is.some in
+    let few = length-distinct_routers links count below (Ni a) is.routers (Ni b) path is.joins
+    is.distinct in
+    (omega arith, omega arith)
+
+-- The least number below a bound that passes a test, where it is below the bound, passes.
+least_below-holds : (test : ℕ → Bool) (bound : ℕ) → least_below test bound < bound
+    → test (least_below test bound) ≡ true
+least_below-holds test zero = λ low. absurd (omega arith)
+least_below-holds test (suc n) =
+    let split : (v : Bool) → test 0 ≡ v
+    → cond v 0 (suc (least_below (λ j. test (suc j)) n)) < suc n
+    → test (cond v 0 (suc (least_below (λ j. test (suc j)) n))) ≡ true = elim [
+      | true ↦ λ first low. first
+      | false ↦ λ fails low. least_below-holds (λ j. test (suc j)) n (omega arith)
+    ] in
+    split (test 0) refl
 
 -- The least number of links by the function is that of the relation.
-pub distance-least : (links : List Link) (count : ℕ) → AreBelow links count → (a b : NiId)
-    → IsDistance links a b (find (leads links a b) (range_with_len 2 count))
-distance-least links count below a b =
-    let split : (least : Option ℕ) → find (leads links a b) (range_with_len 2 count) ≡ least
-    → IsDistance links a b least =
-    elim [
-      | Some first ↦ λ found.
-          first_is_distance links a b count first (find_some (leads links a b) 2 count first found)
-      | None ↦ λ none path route.
-          let leading = route_leads links a b path route in
-          let one_more = length-joins links (Ni a) route.routers (Ni b) path route.joins in
-          let few = length-distinct_routers links count below (Ni a) route.routers (Ni b) path
-          route.joins route.distinct in
-          find_none (leads links a b) 2 count none (length path) leading.0 (omega arith) leading.1
-    ] in
-    split (find (leads links a b) (range_with_len 2 count)) refl
+distance-least : (links : List Link) (count : ℕ) → AreBelow links count → (a b : NiId)
+    → IsDistance links a b (below (count + 2) (least_below (has_path links a b) (count + 2)))
+distance-least links count are_below a b =
+    let test : ℕ → Bool = has_path links a b in
+    let first : ℕ = least_below test (count + 2) in
+    elim (cases_lt first (count + 2)) [
+      | inl low ↦
+          let (path, is, long) =
+          path_from links a b first (least_below-holds test (count + 2) low) in
+          rw (lt-ltb first (count + 2) low) (record {
+            path = path;
+            has = is;
+            length_is = long;
+            none_shorter = λ other route. elim (cases_lt (length other) first) [
+              | inl shorter ↦ absurd (both_ways (test (length other))
+                  (least_below-first test (count + 2) (length other) shorter)
+                  (from_path links a b other route))
+              | inr longer ↦ longer
+            ];
+          })
+      | inr high ↦ rw (le-ltb first (count + 2) high) (λ path route.
+          let few = (path-within links count are_below a b path route).1 in
+          let found = least_below-passes test (count + 2) (length path) (omega arith)
+          (from_path links a b path route) in
+          let low = found.within in
+          omega arith)
+    ]
 
 -- There is one least number of links at most.
 pub IsLeast-unique : (P : List LinkId → Type 0) (x y : Option ℕ) → IsLeast P x → IsLeast P y
@@ -190,17 +167,3 @@ pub distance_is_least_distance : (chip : ChipData) → IsChip chip → (a b : Ni
 distance_is_least_distance chip is_chip a b least distance =
     IsLeast-unique (IsPath chip.links a b) least (least_distance chip a b) distance
     (least_distance_is_distance chip is_chip a b)
-
--- The number is from 2 to the number of routers plus 1.
-pub record IsWithin (chip : ChipData) (least : ℕ) : Type 0 where
-  pub above : 2 ≤ least
-  pub below : least ≤ length chip.routers + 1
-
--- A least number of links is from 2 to the number of routers plus 1.
-pub least_distance-within : (chip : ChipData) (a b : NiId) (least : ℕ)
-    → least_distance chip a b ≡ Some least → IsWithin chip least
-unfolding least_distance
-least_distance-within chip a b least is =
-    let first = find_some (leads chip.links a b) 2 (length chip.routers) least is in
-    let below = first.below in
-    record { above = first.above; below = omega arith }

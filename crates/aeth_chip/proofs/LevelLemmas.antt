@@ -5,63 +5,66 @@ use Rattle.std.proofs.Common.{inl, inr, arith}
 use Rattle.std.specs.Prelude.{replicate}
 use Rattle.std.proofs.lemmas.List.{length-replicate}
 use Rattle.std.proofs.lemmas.Bool.{cases_eq, cases_lt}
-use Rattle.aeth_chip.specs.Levels.{At, Within, Lists, Spreads, Passes, Reaches, AreLevels}
-use Rattle.aeth_chip.specs.Levels.{count_none}
+use Rattle.aeth_chip.specs.Levels.{AreLevels, AreRoutersOfLevel, HasLevel, HasLevelWithin}
+use Rattle.aeth_chip.specs.Levels.{ReachesGoal, SpreadsLevel, count_none}
+use Rattle.aeth_chip.proofs.ReachLemmas.{PassesRouters, reaches-none, reaches-step, step-reaches}
 
 -- After some rounds: each place within so many steps of the goal has its level, and the frontier
--- has
--- those to go on from.
+-- has those to go on from.
 pub record Found (Step : ℕ → ℕ → Type 0) (routers goal places rounds : ℕ) (frontier : List ℕ)
     (levels : List (Option ℕ)) : Type 0 where
   pub size : length levels ≡ places
-  pub reached : (place level : ℕ) → At levels place level → Reaches Step routers goal level place
-  pub bound : (place level : ℕ) → At levels place level → level ≤ rounds
-  pub least : (place level : ℕ) → level ≤ rounds → Reaches Step routers goal level place
-      → Within levels place level
-  pub front : (place : ℕ) → Contains frontier place → Passes Step routers goal rounds place
+  pub reached : (place level : ℕ) → HasLevel levels place level
+      → ReachesGoal Step routers goal level place
+  pub bound : (place level : ℕ) → HasLevel levels place level → level ≤ rounds
+  pub least : (place level : ℕ) → level ≤ rounds → ReachesGoal Step routers goal level place
+      → HasLevelWithin levels place level
+  pub front : (place : ℕ) → Contains frontier place → PassesRouters Step routers goal rounds place
   pub start : rounds ≡ 0 → Contains frontier goal
-  pub full : (place : ℕ) → place < routers → At levels place rounds → Contains frontier place
+  pub full : (place : ℕ) → place < routers → HasLevel levels place rounds → Contains frontier place
   pub room : rounds + count_none levels + length frontier ≤ places + 1
 
 -- A router that is reached may be passed.
 passes_from : (Step : ℕ → ℕ → Type 0) (routers goal steps place : ℕ) → place < routers
-    → Reaches Step routers goal steps place → Passes Step routers goal steps place
-passes_from Step routers goal zero place router reaches = absurd reaches
+    → ReachesGoal Step routers goal steps place → PassesRouters Step routers goal steps place
+passes_from Step routers goal zero place router reaches = reaches-none reaches
 passes_from Step routers goal (suc steps) place router reaches = (router, reaches)
 
 -- A place a step before a router with a level has a level itself, or the router is in the frontier.
 before_router : (Step : ℕ → ℕ → Type 0) (routers goal places rounds : ℕ) (frontier : List ℕ)
     (levels : List (Option ℕ)) → Found Step routers goal places rounds frontier levels
-    → (place next level : ℕ) → Step place next → next < routers → At levels next level
-    → Within levels place (suc level) ⊎ Contains frontier next
+    → (place next level : ℕ) → Step place next → next < routers → HasLevel levels next level
+    → HasLevelWithin levels place (suc level) ⊎ Contains frontier next
 before_router Step routers goal places rounds frontier levels found place next level step router
     at =
     elim (cases_eq level rounds) [
-      | inl same ↦ inr (found.full next router (subst (λ (n : ℕ). At levels next n) same at))
+      | inl same ↦ inr (found.full next router (subst (λ (n : ℕ). HasLevel levels next n) same at))
       | inr other ↦
           let bound = found.bound next level at in
           let passes = passes_from Step routers goal level next router (found.reached next level
           at) in
-          inl (found.least place (suc level) (omega arith) (next, step, passes))
+          inl (found.least place (suc level) (omega arith)
+          (step-reaches Step routers goal level place next step passes))
     ]
 
 within-more : (levels : List (Option ℕ)) (place less more : ℕ) → less ≤ more
-    → Within levels place less → Within levels place more
+    → HasLevelWithin levels place less → HasLevelWithin levels place more
 within-more levels place less more le (least, at, low) = (least, at, omega arith)
 
 -- A place some steps before the goal has a level, or one step on is a place of the frontier.
 before_frontier : (Step : ℕ → ℕ → Type 0) (routers goal places rounds : ℕ) (frontier : List ℕ)
     (levels : List (Option ℕ)) → Found Step routers goal places rounds frontier levels
-    → (place steps next : ℕ) → Step place next → Passes Step routers goal steps next
-    → ((level : ℕ) → level ≡ steps → Reaches Step routers goal level next
-    → Within levels next level)
-    → Within levels place (suc steps) ⊎ Contains frontier next
+    → (place steps next : ℕ) → Step place next → PassesRouters Step routers goal steps next
+    → ((level : ℕ) → level ≡ steps → ReachesGoal Step routers goal level next
+    → HasLevelWithin levels next level)
+    → HasLevelWithin levels place (suc steps) ⊎ Contains frontier next
 before_frontier Step routers goal places zero frontier levels found place zero next step passes
     within =
     inr (subst (λ (p : ℕ). Contains frontier p) (sym passes) (found.start refl))
 before_frontier Step routers goal places (suc rounds) frontier levels found place zero next step
     passes within =
-    inl (found.least place 1 (omega arith) (next, step, passes))
+    inl (found.least place 1 (omega arith)
+    (step-reaches Step routers goal 0 place next step passes))
 before_frontier Step routers goal places rounds frontier levels found place (suc steps) next step
     passes within =
     let near = within (suc steps) refl passes.1 in
@@ -76,28 +79,30 @@ before_frontier Step routers goal places rounds frontier levels found place (suc
 pub found-more : (Step : ℕ → ℕ → Type 0) (routers goal places rounds : ℕ)
     (frontier next : List ℕ) (levels new : List (Option ℕ))
     → Found Step routers goal places rounds frontier levels → 0 < length frontier
-    → Spreads (λ from. (to : ℕ) × Contains frontier to × Step from to) (suc rounds) routers levels
-    new [] next
+    → SpreadsLevel (λ from. (to : ℕ) × Contains frontier to × Step from to) (suc rounds) routers
+    levels new [] next
     → Found Step routers goal places (suc rounds) next new
 found-more Step routers goal places rounds frontier next levels new found some spreads =
-    let lists : Lists (suc rounds) routers new next =
+    let lists : AreRoutersOfLevel (suc rounds) routers new next =
     spreads.lists (λ p. (
       (λ (k, within, at). absurd (omega arith)),
       (λ has. let high = found.bound p (suc rounds) has.1 in absurd (omega arith)),
     )) in
-    let reached : (place level : ℕ) → At new place level → Reaches Step routers goal level place =
+    let reached : (place level : ℕ) → HasLevel new place level
+    → ReachesGoal Step routers goal level place =
     λ place level at. elim (spreads.fresh place level at) [
       | inl was ↦ found.reached place level was
       | inr (same, (to, has, step)) ↦
-          subst (λ (n : ℕ). Reaches Step routers goal n place) (sym same)
-          (to, step, found.front to has)
+          subst (λ (n : ℕ). ReachesGoal Step routers goal n place) (sym same)
+          (step-reaches Step routers goal rounds place to step (found.front to has))
     ] in
-    let bound : (place level : ℕ) → At new place level → level ≤ suc rounds =
+    let bound : (place level : ℕ) → HasLevel new place level → level ≤ suc rounds =
     λ place level at. elim (spreads.fresh place level at) [
       | inl was ↦ let low = found.bound place level was in omega arith
       | inr (same, (to, has, step)) ↦ omega arith
     ] in
-    let kept : (place level : ℕ) → Within levels place level → Within new place level =
+    let kept : (place level : ℕ) → HasLevelWithin levels place level
+    → HasLevelWithin new place level =
     λ place level (least, at, low). (least, spreads.kept place least at, low) in
     record {
       size = spreads.size ∙ found.size;
@@ -107,7 +112,8 @@ found-more Step routers goal places rounds frontier next levels new found some s
         | inr low ↦ kept place level (found.least place level low reaches)
         | inl high ↦
             let same : level ≡ suc rounds = omega arith in
-            let on = subst (λ (n : ℕ). Reaches Step routers goal n place) same reaches in
+            let on = reaches-step Step routers goal rounds place
+            (subst (λ (n : ℕ). ReachesGoal Step routers goal n place) same reaches) in
             elim (before_frontier Step routers goal places rounds frontier levels found place rounds
             on.0 on.1 on.2
             (λ n e. found.least on.0 n (omega arith))) [
@@ -129,14 +135,15 @@ found-more Step routers goal places rounds frontier next levels new found some s
 -- With nothing left to go on from, each place that reaches the goal has its level.
 all-least : (Step : ℕ → ℕ → Type 0) (routers goal places rounds : ℕ) (levels : List (Option ℕ))
     → Found Step routers goal places rounds [] levels → (level place : ℕ)
-    → Reaches Step routers goal level place → Within levels place level
-all-least Step routers goal places rounds levels found zero place reaches = absurd reaches
+    → ReachesGoal Step routers goal level place → HasLevelWithin levels place level
+all-least Step routers goal places rounds levels found zero place reaches = reaches-none reaches
 all-least Step routers goal places rounds levels found (suc level) place reaches =
-    elim (before_frontier Step routers goal places rounds [] levels found place level reaches.0
-    reaches.1 reaches.2
-    (λ n e on. subst (λ (m : ℕ). Within levels reaches.0 m) (sym e)
-    (all-least Step routers goal places rounds levels found level reaches.0
-    (subst (λ (m : ℕ). Reaches Step routers goal m reaches.0) e on)))) [
+    let (next, step, passes) = reaches-step Step routers goal level place reaches in
+    elim (before_frontier Step routers goal places rounds [] levels found place level next step
+    passes
+    (λ n e on. subst (λ (m : ℕ). HasLevelWithin levels next m) (sym e)
+    (all-least Step routers goal places rounds levels found level next
+    (subst (λ (m : ℕ). ReachesGoal Step routers goal m next) e on)))) [
       | inl near ↦ near
       | inr (k, within, at) ↦ absurd (omega arith)
     ]
@@ -179,7 +186,7 @@ found-start Step routers goal places = record {
   bound = λ place level at. absurd (replicate-none places place level at);
   least = λ place level low reaches.
       let none : level ≡ 0 = omega arith in
-      absurd (subst (λ (n : ℕ). Reaches Step routers goal n place) none reaches);
+      reaches-none (subst (λ (n : ℕ). ReachesGoal Step routers goal n place) none reaches);
   front = λ place (k, within, at). goal_only goal place k within at;
   start = λ same. (0, omega arith, refl);
   full = λ place router at. absurd (replicate-none places place 0 at);
@@ -191,7 +198,7 @@ pub front-below : {Step : ℕ → ℕ → Type 0} {routers goal places rounds : 
     {levels : List (Option ℕ)} → Found Step routers goal places rounds frontier levels
     → goal < places → routers ≤ goal → (place : ℕ) → Contains frontier place → place < places
 front-below {Step} {routers} {goal} {places} {rounds} found within before place has =
-    let go : (n : ℕ) → Passes Step routers goal n place → place < places =
+    let go : (n : ℕ) → PassesRouters Step routers goal n place → place < places =
     elim [
       | zero ↦ λ same. omega arith
       | suc n ↦ λ passes. let low = passes.0 in omega arith
@@ -202,24 +209,25 @@ front-below {Step} {routers} {goal} {places} {rounds} found within before place 
 pub found-round : {Step : ℕ → ℕ → Type 0} {routers goal places rounds more : ℕ}
     {frontier read start next : List ℕ} {levels seen new : List (Option ℕ)}
     → Found Step routers goal places rounds frontier levels → (length frontier ≡ 0 → ⊥)
-    → Spreads (λ from. (to : ℕ) × Contains read to × Step from to) more routers seen new start next
+    → SpreadsLevel (λ from. (to : ℕ) × Contains read to × Step from to) more routers seen new start
+    next
     → read ≡ frontier → more ≡ rounds + 1 → seen ≡ levels → start ≡ []
     → Found Step routers goal places more next new
 found-round {Step} {routers} {goal} {places} {rounds} {more} {frontier} {read} {start} {next}
     {levels} {seen} {new} found some spreads reads counts sees starts =
     let one : more ≡ suc rounds = omega arith in
     let with_read = subst (λ (xs : List ℕ).
-    Spreads (λ from. (to : ℕ) × Contains xs to × Step from to) more routers seen new start next)
-    reads spreads in
+    SpreadsLevel (λ from. (to : ℕ) × Contains xs to × Step from to) more routers seen new start
+    next) reads spreads in
     let with_level = subst (λ (n : ℕ).
-    Spreads (λ from. (to : ℕ) × Contains frontier to × Step from to) n routers seen new start
+    SpreadsLevel (λ from. (to : ℕ) × Contains frontier to × Step from to) n routers seen new start
     next) one with_read in
     let with_seen = subst (λ (ls : List (Option ℕ)).
-    Spreads (λ from. (to : ℕ) × Contains frontier to × Step from to) (suc rounds) routers ls new
-    start next) sees with_level in
+    SpreadsLevel (λ from. (to : ℕ) × Contains frontier to × Step from to) (suc rounds) routers ls
+    new start next) sees with_level in
     let with_start = subst (λ (xs : List ℕ).
-    Spreads (λ from. (to : ℕ) × Contains frontier to × Step from to) (suc rounds) routers levels
-    new xs next) starts with_seen in
+    SpreadsLevel (λ from. (to : ℕ) × Contains frontier to × Step from to) (suc rounds) routers
+    levels new xs next) starts with_seen in
     subst (λ (n : ℕ). Found Step routers goal places n next new) (sym one)
     (found-more Step routers goal places rounds frontier next levels new found (omega arith)
     with_start)

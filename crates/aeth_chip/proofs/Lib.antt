@@ -1,4 +1,5 @@
 mod Pushes
+pub mod NameLemmas
 mod RangeLemmas
 mod PortLemmas
 mod LinkLemmas
@@ -6,12 +7,18 @@ pub mod NodeLemmas
 mod IndexLemmas
 pub mod OffsetLemmas
 pub mod WireLemmas
-pub mod PathLemmas
+pub mod JoinedLaws
+mod PathLemmas
+mod RouterLemmas
+pub mod PathTestLemmas
 mod SpreadLemmas
+mod ReachLemmas
 mod LevelLemmas
 mod OriginLemmas
 mod WalkLemmas
 mod DistanceLemmas
-pub mod JoinedLemmas
 pub mod LeastDistanceLemmas
+mod DistanceBounds
 pub mod SummaryLemmas
+mod ValueLemmas
+mod VersionLemmas

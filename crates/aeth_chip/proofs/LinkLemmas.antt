@@ -14,6 +14,7 @@ use Rattle.aeth_chip.specs.Chip.{ChipData, IsChip, IsLinkOf, IsNode}
 use Rattle.aeth_chip.specs.ChipFile.{ends_are_known, is_in_range, keys_fit, names_differ}
 use Rattle.aeth_chip.specs.ChipFile.{nis_are_single, ports_are_few, unknown_end}
 use Rattle.aeth_chip.specs.Limits.{max_links}
+use Rattle.aeth_chip.specs.Nodes.{IsBelow}
 use Rattle.aeth_chip.specs.Told.{known, link_of, link_tables, nis_of, node_at, node_of, routers_of}
 use Rattle.aeth_chip.specs.Told.{HasDelay, told_chip, told_links}
 use Rattle.aeth_chip.proofs.PortLemmas.{each_has_few_ports, each_is_single}
@@ -130,3 +131,17 @@ told_is_chip root keeps =
       ports = each_has_few_ports (length (routers_of root)) (told_links root) keeps.ports;
       single = each_is_single (nis_of root) (told_links root) keeps.single;
     }
+
+node_below : (routers nis : List (List ℕ)) (node : Node) → IsNode routers nis node
+    → IsBelow (length routers) node
+node_below routers nis (Router r) within = within
+node_below routers nis (Ni n) within = tt
+
+-- The links of a chip have its routers at their ends.
+pub have_nodes : (chip : ChipData) → IsChip chip → (l : ℕ) (link : Link)
+    → slice_get chip.links l ≡ Some link
+    → IsBelow (length chip.routers) link.from × IsBelow (length chip.routers) link.to
+have_nodes chip is_chip l link at = (
+  node_below chip.routers chip.nis link.from (is_chip.links l link at).from,
+  node_below chip.routers chip.nis link.to (is_chip.links l link at).to,
+)

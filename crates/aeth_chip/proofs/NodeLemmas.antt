@@ -1,9 +1,10 @@
 -- Laws of nodes and of the numbers of links.
-use Rattle.std.proofs.Common.{◌≡◌, ◌<◌, ◌≤◌, ◌+◌, ◌-◌, ◌∙◌, ◌++◌, ℕ, zero, suc, true, false, List, [], ◌∷◌}
+use Rattle.std.proofs.Common.{◌≡◌, ◌<◌, ◌≤◌, ◌+◌, ◌-◌, ◌∙◌, ◌++◌, ℕ, zero, suc, true, false}
+use Rattle.std.proofs.Common.{List, [], ◌∷◌}
 use Rattle.std.proofs.Common.{Bool, Some, None, length, map, take, drop, append_assoc, refl}
 use Rattle.std.proofs.Common.{ap, inl, inr, arith}
-use Rattle.std.specs.Prelude.{count_by, slice_get, IsSome, IfSome}
-use Rattle.std.proofs.lemmas.Bool.{cases_Bool, eq-eqb, eqb-true}
+use Rattle.std.specs.Prelude.{count_by, slice_get, IsSome, IfSome, if◌then◌else◌}
+use Rattle.std.proofs.lemmas.Bool.{cases_Bool, eq-eqb, eqb-true, false≢true}
 use Rattle.std.proofs.lemmas.List.{drop_more, map-append}
 use Rattle.std.proofs.lemmas.Option.{get_or_from_slice_get, same_Some, slice_get_within}
 use Rattle.aeth_base.proofs.Lists.{count_by-before, count_by-no, count_by-yes}
@@ -15,13 +16,21 @@ use Rattle.aeth_chip.specs.declared.node.Node.TheVariants.{Router, Ni}
 use Rattle.aeth_chip.specs.Chip.{ChipData, IsChip}
 use Rattle.aeth_chip.specs.Index.{IsPort}
 use Rattle.aeth_chip.specs.Limits.{max_ports}
-use Rattle.aeth_chip.specs.Nodes.{begins_at, ends_at, numbers_from, receives_on, router_of, same_node, sender_of}
-use Rattle.aeth_chip.specs.Nodes.{sends_on}
+use Rattle.aeth_chip.specs.Nodes.{begins_at, ends_at, numbers_from, receives_on, router_of}
+use Rattle.aeth_chip.specs.Nodes.{same_node, sender_of, sends_on}
 
 -- A node is the same as itself.
 pub same_node-refl : (node : Node) → same_node node node ≡ true
 same_node-refl (Router r) = eq-eqb r.0 r.0 refl
 same_node-refl (Ni n) = eq-eqb n.0 n.0 refl
+
+-- Nodes that pass the test are one node.
+pub same_node-true : (a b : Node) → same_node a b ≡ true → a ≡ b
+same_node-true (Router r) (Router q) same =
+    ap (λ n. Router (record { 0 = n })) (eqb-true r.0 q.0 same)
+same_node-true (Router r) (Ni m) same = absurd (false≢true same)
+same_node-true (Ni n) (Router q) same = absurd (false≢true same)
+same_node-true (Ni n) (Ni m) same = ap (λ k. Ni (record { 0 = k })) (eqb-true n.0 m.0 same)
 
 -- A link that passes a test stands in the list of numbers behind the links before it that pass.
 pub numbers_from-at : (test : Link → Bool) (number : ℕ) (links : List Link) (i : ℕ) (link : Link)
@@ -56,8 +65,8 @@ found_behind test first links number found (after, is_found) =
       record { link = is_found.link; at = rw more (is_found.at); passes = is_found.passes },
     )
 
-found_first : (test : Link → Bool) (number : ℕ) (first : Link) (links : List Link) (numbers : List ℕ)
-    (place found : ℕ) → test first ≡ true
+found_first : (test : Link → Bool) (number : ℕ) (first : Link) (links : List Link)
+    (numbers : List ℕ) (place found : ℕ) → test first ≡ true
     → ((p f : ℕ) → slice_get numbers p ≡ Some f
     → (number + 1 ≤ f) × IsFound test links (f - (number + 1)))
     → slice_get (number ∷ numbers) place ≡ Some found
@@ -110,6 +119,38 @@ sender_of-found links router place link at =
     let found = sends_on-found links (Router router) place link at in
     rw found.at (sender_is found.link.from router found.passes)
 
+once_first : (number : ℕ) (numbers : List ℕ) (i j found : ℕ)
+    → ((p f : ℕ) → slice_get numbers p ≡ Some f → number + 1 ≤ f)
+    → ((p q f : ℕ) → slice_get numbers p ≡ Some f → slice_get numbers q ≡ Some f → p ≡ q)
+    → slice_get (number ∷ numbers) i ≡ Some found → slice_get (number ∷ numbers) j ≡ Some found
+    → i ≡ j
+once_first number numbers zero zero found after once here there = refl
+once_first number numbers zero (suc j) found after once here there =
+    let same : number ≡ found = same_Some number found here in
+    let later = after j found there in
+    absurd (omega arith)
+once_first number numbers (suc i) zero found after once here there =
+    let same : number ≡ found = same_Some number found there in
+    let later = after i found here in
+    absurd (omega arith)
+once_first number numbers (suc i) (suc j) found after once here there =
+    ap suc (once i j found here there)
+
+-- A number stands once in the list.
+pub numbers_from-once : (test : Link → Bool) (number : ℕ) (links : List Link) (i j found : ℕ)
+    → slice_get (numbers_from number test links) i ≡ Some found
+    → slice_get (numbers_from number test links) j ≡ Some found → i ≡ j
+numbers_from-once test number [] i j found here there = absurd (cc here)
+numbers_from-once test number (first ∷ links) i j found here there =
+    let later = numbers_from-found test (number + 1) links in
+    let rest = numbers_from-once test (number + 1) links in
+    elim (cases_Bool (test first)) [
+      | inl passes ↦ once_first number (numbers_from (number + 1) test links) i j found
+          (λ p f at. (later p f at).0) (λ p q f at also. rest p q f at also)
+          (rw passes at here) (rw passes at there)
+      | inr fails ↦ rest i j found (rw fails at here) (rw fails at there)
+    ]
+
 -- There are as many numbers as links that pass.
 pub length-numbers_from : (test : Link → Bool) (number : ℕ) (links : List Link)
     → length (numbers_from number test links) ≡ count_by test links
@@ -129,6 +170,22 @@ numbers_from-none test number [] fails = refl
 numbers_from-none test number (link ∷ links) fails =
     rw (fails 0 link refl)
     (numbers_from-none test (number + 1) links (λ i other at. fails (suc i) other at))
+
+-- One more link at the end adds its number where it passes.
+pub numbers_from-push : (test : Link → Bool) (number : ℕ) (links : List Link) (link : Link)
+    → numbers_from number test (links ++ link ∷ [])
+    ≡ numbers_from number test links
+    ++ (if test link then (number + length links) ∷ [] else [])
+numbers_from-push test number [] link =
+    let same : number + 0 ≡ number = omega arith in
+    rw same refl
+numbers_from-push test number (first ∷ links) link =
+    let more : number + suc (length links) ≡ (number + 1) + length links = omega arith in
+    let rest = numbers_from-push test (number + 1) links link in
+    elim (cases_Bool (test first)) [
+      | inl here ↦ rw (here, more) (ap (λ numbers. number ∷ numbers) rest)
+      | inr other ↦ rw (other, more) rest
+    ]
 
 -- The numbers of the links before one, and from it on, are those of all: what one more link adds.
 module _ (test : Link → Bool) (links : List Link) (front : List LinkId) (all : List ℕ)
@@ -161,7 +218,8 @@ no_sender some = absurd (cc some)
 -- The port of a link that begins at this node, where it is a router.
 port_from : (chip : ChipData) (l : ℕ) (link : Link) (port : ℕ) (from : Node) → IsChip chip
     → slice_get chip.links l ≡ Some link → link.from ≡ from → IsSome (router_of from)
-    → port ≡ count_by (begins_at from) (take l chip.links)
+    → ((router : RouterId) → router_of from ≡ Some router
+    → port ≡ count_by (begins_at (Router router)) (take l chip.links))
     → (port < max_ports) × IfSome (router_of from) (λ router.
     slice_get (sends_on (Router router) chip.links) port ≡ Some l)
 port_from chip l link port (Ni n) is_chip at begins some counts = absurd (no_sender some)
@@ -172,8 +230,9 @@ port_from chip l link port (Router r) is_chip at begins some counts =
     let inside : r.0 < length chip.routers =
     let ends = (is_chip.links l link at).from in rw begins at ends in
     let few = (is_chip.ports r inside).sends in
+    let is_port = counts r refl in
     let place : 0 + l ≡ l = omega arith in
-    let stands = rw (← counts, place) at (numbers_from-at (begins_at node) 0 chip.links l link at
+    let stands = rw (← is_port, place) at (numbers_from-at (begins_at node) 0 chip.links l link at
     here) in
     (omega arith, stands)
 
@@ -191,4 +250,4 @@ pub port_at : (chip : ChipData) (l port : ℕ) → IsChip chip → IsSome (sende
     slice_get (sends_on (Router router) chip.links) port ≡ Some l)
 port_at chip l port is_chip some is_port =
     let (link, at) = sender_link chip.links l some in
-    rw at (port_from chip l link port link.from is_chip at refl (rw at at some) (is_port link at))
+    rw at (port_from chip l link port link.from is_chip at refl (rw at at some) (rw at at is_port))

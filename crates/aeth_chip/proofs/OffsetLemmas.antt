@@ -1,7 +1,7 @@
 -- What may be known of offsets and delays: the offset of place 0 is 0, each further one adds a
 -- link's delay, and a delay is at least 1 and at most the greatest.
-use Rattle.std.proofs.Common.{◌≡◌, ◌≤◌, ◌<◌, ◌+◌, ◌∙◌, ℕ, zero, suc, List, [], ◌∷◌, Option, None}
-use Rattle.std.proofs.Common.{Some, length, take, refl, ap, arith}
+use Rattle.std.proofs.Common.{◌≡◌, ◌≤◌, ◌<◌, ◌+◌, ◌*◌, ◌∙◌, ℕ, zero, suc, List, [], ◌∷◌, Option}
+use Rattle.std.proofs.Common.{None, Some, length, take, refl, ap, arith}
 use Rattle.std.specs.Prelude.{slice_get}
 use Rattle.std.proofs.lemmas.List.Sums.{sum_by-cons}
 use Rattle.std.proofs.lemmas.Option.{same_Some, slice_get-get_or}
@@ -69,3 +69,23 @@ pub delay_of-range : (chip : ChipData) (link : LinkId) → IsChip chip
     → (1 ≤ delay_of chip.links link) × (delay_of chip.links link ≤ max_link_delay)
 delay_of-range chip link is_chip within =
     delay_of-is chip link (slice_get chip.links link.0) is_chip refl within
+
+-- A link that isn't there takes no time, and one that is at most the greatest delay.
+delay_most : (chip : ChipData) (found : Option Link) (l : ℕ) → IsChip chip
+    → slice_get chip.links l ≡ found → delay_in found ≤ max_link_delay
+delay_most chip None l is_chip is = omega arith
+delay_most chip (Some link) l is_chip is = (is_chip.links l link is).within
+
+-- The offset of a place is at most the greatest delay for each link before it.
+pub offset-most : (chip : ChipData) → IsChip chip → (path : List LinkId) (i : ℕ)
+    → offset chip.links path i ≤ i * max_link_delay
+offset-most chip is_chip [] zero = omega arith
+offset-most chip is_chip [] (suc i) =
+    let none : offset chip.links [] (suc i) ≡ 0 = refl in
+    omega arith
+offset-most chip is_chip (l ∷ path) zero = omega arith
+offset-most chip is_chip (l ∷ path) (suc i) =
+    let rest = offset-most chip is_chip path i in
+    let one = path_delay-cons chip.links l (take i path) in
+    let within = delay_most chip (slice_get chip.links l.0) l.0 is_chip refl in
+    omega arith

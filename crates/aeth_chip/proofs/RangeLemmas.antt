@@ -37,6 +37,7 @@ most_slots-within version =
 
 -- What holds where every number and every name is in its range.
 pub record IsInRange (root : Members) : Type 0 where
+  pub numbers : first_broken 1 (numbers root) ≡ None
   pub some_slots : 1 ≤ size_of (slots_of root)
   pub few_slots : size_of (slots_of root) ≤ max_slots
   pub some_routers : 1 ≤ length (routers_of root)
@@ -58,7 +59,8 @@ in_range root kept =
     let none = judged-none 3 (codes "OutOfRange") (first_broken 1 (ns ++ rs ++ is ++ ds)) tt kept in
     let names = first_broken-before 1 (ns ++ rs ++ is) ds none in
     let front = first_broken-before 1 (ns ++ rs) is names in
-    let checks = first_broken-none 1 ns (first_broken-before 1 ns rs front) in
+    let number_checks = first_broken-before 1 ns rs front in
+    let checks = first_broken-none 1 ns number_checks in
     let most = most_slots (version_of root) in
     let slots = outside-size 1 most (slots_of root) checks.1.0 in
     let few = most_slots-within (version_of root) in
@@ -67,6 +69,7 @@ in_range root kept =
     let nis = outside-within 1 max_nis (length (nis_of root)) checks.1.1.1.0 in
     let links = outside-within 0 max_links (length (link_tables root)) checks.1.1.1.1.0 in
     record {
+      numbers = number_checks;
       some_slots = slots.0;
       few_slots = omega arith;
       some_routers = routers.0;
@@ -128,7 +131,8 @@ delays_given place (link ∷ links) none =
     (map (λ table. outside 1 max_link_delay (delay_at table)) (link ∷ links)) none in
     let rest = first_broken-tail place (outside 1 max_link_delay (delay_at link))
     (map (λ table. outside 1 max_link_delay (delay_at table)) links) none in
-    (outside-size 1 max_link_delay (delay_at link) checks.0, delays_given (next_place place) links rest)
+    let here = outside-size 1 max_link_delay (delay_at link) checks.0 in
+    (here, delays_given (next_place place) links rest)
 
 -- A link's table without the key has delay 1.
 delay_absent : (link : Members) → wrong_key end_fields link ≡ None → delay_at link ≡ pos 1
@@ -141,8 +145,8 @@ delays_absent : (place : ℕ) (links : List Members)
 delays_absent place [] none = tt
 delays_absent place (link ∷ links) none =
     let checks = first_broken-none place (map (wrong_key end_fields) (link ∷ links)) none in
-    let rest = first_broken-tail place (wrong_key end_fields link) (map (wrong_key end_fields) links)
-    none in
+    let rest = first_broken-tail place (wrong_key end_fields link)
+    (map (wrong_key end_fields) links) none in
     (delay_absent link checks.0, delays_absent (next_place place) links rest)
 
 has_delay_1 : (links : List Members) → AllByRecursion (λ link. delay_at link ≡ pos 1) links

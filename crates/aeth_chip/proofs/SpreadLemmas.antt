@@ -12,11 +12,12 @@ use Rattle.std.proofs.lemmas.Option.{same_Some, slice_get-get_or}
 use Rattle.aeth_base.proofs.Lists.{slice_get-slice_set_same, slice_get-slice_set_other}
 use Rattle.std.specs.declared.vec.Vec.{Vec}
 use Rattle.std.specs.declared.alloc.Global.{Global}
-use Rattle.aeth_chip.specs.Levels.{At, Spreads, count_none, items_at, items_in}
+use Rattle.aeth_chip.specs.Levels.{HasLevel, SpreadsLevel, count_none, items_at, items_in}
 
 -- Nothing has changed, and no place was to get a level.
 pub spreads-none : (P : ℕ → Type 0) (level routers : ℕ) (levels : List (Option ℕ))
-    (next : List ℕ) → ((place : ℕ) → P place → ⊥) → Spreads P level routers levels levels next next
+    (next : List ℕ) → ((place : ℕ) → P place → ⊥)
+    → SpreadsLevel P level routers levels levels next next
 spreads-none P level routers levels next none = record {
   size = refl;
   kept = λ place k at. at;
@@ -28,10 +29,11 @@ spreads-none P level routers levels next none = record {
 
 -- Some places got a level, and then some others.
 pub spreads-then : (P Q R : ℕ → Type 0) (level routers : ℕ) (old mid new : List (Option ℕ))
-    (before between after : List ℕ) → Spreads P level routers old mid before between
-    → Spreads Q level routers mid new between after → ((place : ℕ) → R place → P place ⊎ Q place)
+    (before between after : List ℕ) → SpreadsLevel P level routers old mid before between
+    → SpreadsLevel Q level routers mid new between after
+    → ((place : ℕ) → R place → P place ⊎ Q place)
     → ((place : ℕ) → P place → R place) → ((place : ℕ) → Q place → R place)
-    → Spreads R level routers old new before after
+    → SpreadsLevel R level routers old new before after
 spreads-then P Q R level routers old mid new before between after first second cases left right =
     record {
       size = second.size ∙ first.size;
@@ -53,19 +55,20 @@ spreads-then P Q R level routers old mid new before between after first second c
 
 -- The place has a level already.
 pub spreads-kept : (place level routers k : ℕ) (levels : List (Option ℕ)) (next : List ℕ)
-    → At levels place k → Spreads (λ p. p ≡ place) level routers levels levels next next
+    → HasLevel levels place k → SpreadsLevel (λ p. p ≡ place) level routers levels levels next next
 spreads-kept place level routers k levels next at = record {
   size = refl;
   kept = λ p n was. was;
   fresh = λ p n was. inl was;
-  all = λ p same. (k, subst (λ (q : ℕ). At levels q k) (sym same) at);
+  all = λ p same. (k, subst (λ (q : ℕ). HasLevel levels q k) (sym same) at);
   lists = λ lists. lists;
   count = omega arith;
 }
 
 -- The levels after a place got one.
 at-set : (levels : List (Option ℕ)) (place level p k : ℕ) → place < length levels
-    → At (slice_set levels place (Some level)) p k → At levels p k ⊎ ((k ≡ level) × (p ≡ place))
+    → HasLevel (slice_set levels place (Some level)) p k
+    → HasLevel levels p k ⊎ ((k ≡ level) × (p ≡ place))
 at-set levels place level p k within at = elim (cases_eq p place) [
   | inl same ↦ inr (
     same_Some k level (same_Some (Some k) (Some level) (
@@ -77,7 +80,7 @@ at-set levels place level p k within at = elim (cases_eq p place) [
 ]
 
 at-kept : (levels : List (Option ℕ)) (place level p k : ℕ) → slice_get levels place ≡ Some None
-    → At levels p k → At (slice_set levels place (Some level)) p k
+    → HasLevel levels p k → HasLevel (slice_set levels place (Some level)) p k
 at-kept levels place level p k was at = elim (cases_eq p place) [
   | inl same ↦
       let none : None ≡ Some k =
@@ -106,7 +109,8 @@ count-set (Some k ∷ levels) (suc place) level was = count-set levels place lev
 pub spreads-set : (place level routers : ℕ) (levels : List (Option ℕ)) (next after : List ℕ)
     → place < length levels → slice_get levels place ≡ Some None
     → ((place < routers) × (after ≡ next ++ place ∷ [])) ⊎ ((routers ≤ place) × (after ≡ next))
-    → Spreads (λ p. p ≡ place) level routers levels (slice_set levels place (Some level)) next after
+    → SpreadsLevel (λ p. p ≡ place) level routers levels (slice_set levels place (Some level)) next
+    after
 spreads-set place level routers levels next after within was put = record {
   size = length-slice_set levels place (Some level);
   kept = λ p k at. at-kept levels place level p k was at;
@@ -181,10 +185,10 @@ take_last xs i within =
 
 -- What a test for a level says.
 pub level_there : (levels : List (Option ℕ)) (place : ℕ) (test : Bool) → place < length levels
-    → test ≡ true → test ≡ is_some (get_or levels place None) → (k : ℕ) × At levels place k
+    → test ≡ true → test ≡ is_some (get_or levels place None) → (k : ℕ) × HasLevel levels place k
 level_there levels place test within passed is =
     let go : (o : Option ℕ) → get_or levels place None ≡ o → is_some o ≡ true
-    → (k : ℕ) × At levels place k =
+    → (k : ℕ) × HasLevel levels place k =
     elim [
       | None ↦ λ here none. absurd (false≢true none)
       | Some k ↦ λ here some. (k, slice_get-get_or levels place None within ∙ ap Some here)

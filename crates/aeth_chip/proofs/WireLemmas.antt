@@ -1,7 +1,9 @@
 -- Laws of wires: how many there are, and that those of different links differ.
 use Rattle.std.proofs.Common.{◌≡◌, ◌≢◌, ◌≤◌, ◌<◌, ◌+◌, ◌-◌, ◌*◌, ℕ, zero, suc, List, []}
 use Rattle.std.proofs.Common.{◌∷◌, Option, Some, None, length, take, refl, arith}
+use Rattle.std.proofs.Common.{ap, inl, inr}
 use Rattle.std.specs.Prelude.{slice_get, sum_by}
+use Rattle.std.proofs.lemmas.Bool.{cases_lt}
 use Rattle.std.proofs.lemmas.List.Sums.{sum_by-cons}
 use Rattle.std.proofs.lemmas.Option.{same_Some}
 use Rattle.aeth_base.specs.Limits.{max_link_delay}
@@ -103,3 +105,63 @@ pub wire_in_chip : (chip : ChipData) → IsChip chip → (link : LinkId) (place 
     → wire_at chip.links link.0 place < wires_of chip.links
 wire_in_chip chip is_chip link place within short =
     wire_found chip is_chip link place (slice_get chip.links link.0) refl within short
+
+-- The further wires of a link come before those of each later one.
+further_wires-before : (links : List Link) (l m : ℕ) (link : Link)
+    → slice_get links l ≡ Some link → l < m
+    → further_wires (take l links) + (link.delay - 1) ≤ further_wires (take m links)
+further_wires-before [] l m link at less = absurd (cc at)
+further_wires-before (first ∷ links) l zero link at less = absurd (omega arith)
+further_wires-before (first ∷ links) zero (suc m) link at less =
+    let same : first ≡ link = same_Some first link at in
+    let all = sum_by-cons (λ (k : Link). k.delay - 1) first (take m links) in
+    rw (← same) (omega arith)
+further_wires-before (first ∷ links) (suc l) (suc m) link at less =
+    let rest = further_wires-before links l m link at (omega arith) in
+    let front = sum_by-cons (λ (k : Link). k.delay - 1) first (take l links) in
+    let all = sum_by-cons (λ (k : Link). k.delay - 1) first (take m links) in
+    omega arith
+
+-- Wires of two links, by the links, are one only where the links and the places are.
+wires_apart : (links : List Link) → (l m i j : ℕ) (link other : Link)
+    → slice_get links l ≡ Some link → slice_get links m ≡ Some other
+    → l < length links → m < length links → i < link.delay → j < other.delay
+    → wire_at links l i ≡ wire_at links m j → (l ≡ m) × (i ≡ j)
+wires_apart links l m zero zero link other here there first second short long same = (same, refl)
+wires_apart links l m zero (suc j) link other here there first second short long same =
+    absurd (omega arith)
+wires_apart links l m (suc i) zero link other here there first second short long same =
+    absurd (omega arith)
+wires_apart links l m (suc i) (suc j) link other here there first second short long same =
+    elim (cases_lt l m) [
+      | inl less ↦
+          let before = further_wires-before links l m link here less in
+          absurd (omega arith)
+      | inr not_less ↦ elim (cases_lt m l) [
+        | inl less ↦
+            let before = further_wires-before links m l other there less in
+            absurd (omega arith)
+        | inr no_less ↦
+            let one : l ≡ m = omega arith in
+            let furthers = ap (λ k. further_wires (take k links)) one in
+            (one, omega arith)
+      ]
+    ]
+
+found_apart : (links : List Link) (l m : LinkId) (i j : ℕ) (here there : Option Link)
+    → slice_get links l.0 ≡ here → slice_get links m.0 ≡ there
+    → l.0 < length links → m.0 < length links → i < delay_in here → j < delay_in there
+    → wire_at links l.0 i ≡ wire_at links m.0 j → (l.0 ≡ m.0) × (i ≡ j)
+found_apart links l m i j None there at also first second short long same = absurd (omega arith)
+found_apart links l m i j (Some link) None at also first second short long same =
+    absurd (omega arith)
+found_apart links l m i j (Some link) (Some other) at also first second short long same =
+    wires_apart links l.0 m.0 i j link other at also first second short long same
+
+-- No two wires of links are one.
+pub wire_at-apart : (links : List Link) (l m : LinkId) (i j : ℕ)
+    → l.0 < length links → m.0 < length links → i < delay_of links l → j < delay_of links m
+    → wire_at links l.0 i ≡ wire_at links m.0 j → (l.0 ≡ m.0) × (i ≡ j)
+wire_at-apart links l m i j first second short long same =
+    found_apart links l m i j (slice_get links l.0) (slice_get links m.0) refl refl first second
+    short long same

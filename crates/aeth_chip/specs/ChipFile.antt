@@ -1,9 +1,10 @@
 -- The rules of chip files, in the order in which they are judged, and the chip of a file.
 --
--- A rule is a walk over checks. It is broken at the first check that shows a value: then its number,
--- its name, the place of the check in the walk and the value are told.
+-- A rule is a walk over checks. It is broken at the first check that shows a value: then its
+-- number, its name, the place of the check in the walk and the value are told.
 --   toml_of    rule 1
---   keys_fit, is_in_range, names_differ, ends_are_known, ports_are_few, nis_are_single    rules 2 to 7
+--   keys_fit, is_in_range, names_differ, ends_are_known    rules 2 to 5
+--   ports_are_few, nis_are_single    rules 6 and 7
 --   chip_in, chip_of    the chip of a root table, and of a file's bytes
 -- This project's own.
 use Rattle.std.specs.Prelude.{ℕ, ◌+◌, ℤ, pos, codes, Bool, false, List, [], ◌∷◌, ◌++◌, map, length}
@@ -67,8 +68,8 @@ wrong_keys root =
     wrong_key root_fields root
     ∷ map (wrong_key (link_fields (version_of root))) (link_tables root)
 
--- Rule 2, WrongKey: each table has the keys that it should have, and values of their types. The root
--- is place 0, and the links follow; the value is the least such key.
+-- Rule 2, WrongKey: each table has the keys that it should have, and values of their types. The
+-- root is place 0, and the links follow; the value is the least such key.
 unfoldable pub keys_fit : Members → Result (Unit {0}) BrokenRule
 keys_fit root = judged 2 (codes "WrongKey") (first_broken 0 (wrong_keys root))
 
@@ -92,9 +93,9 @@ delays root =
     if allows_delays (version_of root)
     then map (λ link. outside 1 max_link_delay (delay_at link)) (link_tables root) else []
 
--- Rule 3, OutOfRange: each number is in its range, and each text is a name. Places count from 1: the
--- five numbers, the routers, the interfaces, then the delays; the value is the number, or an odd one
--- for a text.
+-- Rule 3, OutOfRange: each number is in its range, and each text is a name. Places count from 1:
+-- the five numbers, the routers, the interfaces, then the delays; the value is the number, or an
+-- odd one for a text.
 unfoldable pub is_in_range : Members → Result (Unit {0}) BrokenRule
 is_in_range root = judged 3 (codes "OutOfRange") (first_broken 1
     (numbers root ++ map no_name (routers_of root) ++ map no_name (nis_of root) ++ delays root))

@@ -1,11 +1,13 @@
 -- What the table of least numbers of links has.
 -- This project's own.
-use Rattle.std.specs.Prelude.{◌+◌, ◌<◌, ◌≤◌, ℕ, List, Option, Some, None, slice_get}
+use Rattle.std.specs.Prelude.{◌≡◌, ◌+◌, ◌<◌, ◌≤◌, ℕ, List, Option, Some, None, slice_get}
 use Rattle.std.specs.declared.vec.Vec.{Vec}
 use Rattle.std.specs.declared.alloc.Global.{Global}
 use Rattle.aeth_base.specs.declared.ids.NiId.{NiId}
 use Rattle.aeth_base.specs.declared.ids.RouterId.{RouterId}
 use Rattle.aeth_chip.specs.declared.node.Link.{Link}
+use Rattle.aeth_chip.specs.Limits.{max_routers}
+use Rattle.aeth_chip.specs.Nodes.{IsBelow}
 use Rattle.aeth_chip.specs.Paths.{IsDistance, IsOnwardDistance}
 
 -- An entry that may be beyond the row.
@@ -29,3 +31,15 @@ pub record AreRows (links : List Link) (routers : ℕ) (rows : List (Vec (Option
   pub onward : (r : RouterId) (b : NiId) → r.0 < routers
       → IsOnwardDistance links r b (entry_at rows b.0 r.0)
   pub beyond : (r : RouterId) (b : NiId) → routers ≤ r.0 → IsOnwardDistance links r b None
+
+-- The links lead to routers of so few, or to interfaces.
+abbrev pub AreBelow : List Link → ℕ → Type 0
+AreBelow links routers = (l : ℕ) (link : Link) → slice_get links l ≡ Some link
+    → IsBelow routers link.to
+
+-- The rows for the links of a chip with so many routers.
+pub record IsDistanceTable (links : List Link) (routers : ℕ)
+    (rows : List (Vec (Option ℕ) Global)) : Type 0 where
+  pub rows_are : AreRows links routers rows
+  pub below : AreBelow links routers
+  pub few : routers ≤ max_routers

@@ -1,16 +1,21 @@
 -- What the index of a chip's links has, by which the links of a node are found without a walk.
 -- This project's own.
-use Rattle.std.specs.Prelude.{◌≡◌, ℕ, List, [], ◌∷◌, Option, Some, None, length, map, slice_get, take, count_by}
+use Rattle.std.specs.Prelude.{◌≡◌, ◌<◌, ℕ, List, [], ◌∷◌, Option, Some, None, length, map}
+use Rattle.std.specs.Prelude.{slice_get, take, count_by, if◌then◌else◌}
 use Rattle.std.specs.declared.vec.Vec.{Vec}
 use Rattle.std.specs.declared.alloc.Global.{Global}
 use Rattle.aeth_base.specs.declared.ids.LinkId.{LinkId}
-use Rattle.aeth_chip.specs.Nodes.{begins_at, has_end, numbers_from, receives_on, sends_on}
+use Rattle.aeth_base.specs.declared.ids.RouterId.{RouterId}
+use Rattle.aeth_chip.specs.Nodes.{begins_at, has_end, numbers_from, receives_on, same_node}
+use Rattle.aeth_chip.specs.Nodes.{sender_of, sends_on}
 use Rattle.aeth_chip.specs.Wires.{further_wires, wires_of}
 use Rattle.aeth_chip.specs.declared.index.Ends.{Ends}
 use Rattle.aeth_chip.specs.declared.index.Index.{Index}
+use Rattle.aeth_chip.specs.declared.index.RouterLinks.{RouterLinks}
 use Rattle.aeth_chip.specs.declared.node.End.{End}
 use Rattle.aeth_chip.specs.declared.node.End.TheVariants.{From, To}
 use Rattle.aeth_chip.specs.declared.node.Link.{Link}
+use Rattle.aeth_chip.specs.declared.node.Node.{Node}
 use Rattle.aeth_chip.specs.declared.node.Node.TheVariants.{Router, Ni}
 
 -- A list has an entry for each number below a count, and each entry what is asked at its place.
@@ -26,16 +31,29 @@ list_in (Some list) = list.items
 abbrev pub list_at : List (Vec LinkId Global) → ℕ → List LinkId
 list_at lists place = list_in (slice_get lists place)
 
--- The links that have a router at this end.
-abbrev pub AreLinksAt : End → List Link → ℕ → Vec LinkId Global → Type 0
-AreLinksAt end links router numbers =
-    map (λ link. link.0) numbers.items
-    ≡ numbers_from 0 (has_end end (Router (record { 0 = router }))) links
+-- The lists have, for each router, the links that have it at this end.
+pub record AreListed (end : End) (links : List Link) (routers : ℕ)
+    (lists : List (Vec LinkId Global)) : Type 0 where
+  pub size : length lists ≡ routers
+  pub each : (router : ℕ) → router < routers
+      → map (λ (link : LinkId). link.0) (list_at lists router)
+      ≡ numbers_from 0 (has_end end (Router (record { 0 = router }))) links
 
--- How many links before a link begin where it does: its place among the links of its sender.
+-- What a link adds to the list of a router, where the node at its end is that router.
+abbrev pub entry_for : Node → LinkId → ℕ → List LinkId
+entry_for node link router =
+    if same_node node (Router (record { 0 = router })) then link ∷ [] else []
+
+-- How many links before a link its router sends on: the port.
 abbrev pub IsPort : List Link → ℕ → ℕ → Type 0
-IsPort links l port = (link : Link) → slice_get links l ≡ Some link
-    → port ≡ count_by (begins_at link.from) (take l links)
+IsPort links l port = (router : RouterId) → sender_of links l ≡ Some router
+    → port ≡ count_by (begins_at (Router router)) (take l links)
+
+-- The links of each router, and their ports.
+pub record AreRouterLinks (links : List Link) (routers : ℕ) (its : RouterLinks) : Type 0 where
+  pub outgoing : AreListed From links routers its.outgoing.items
+  pub incoming : AreListed To links routers its.incoming.items
+  pub ports : IsTable (IsPort links) (length links) its.ports.items
 
 -- The one link on which a network interface sends, and the one on which it receives.
 pub record IsEnds (links : List Link) (ni : ℕ) (ends : Ends) : Type 0 where
@@ -48,9 +66,7 @@ IsFurther links l count = count ≡ further_wires (take l links)
 
 -- The index of links between so many routers and network interfaces.
 pub record IsIndex (links : List Link) (routers nis : ℕ) (index : Index) : Type 0 where
-  pub outgoing : IsTable (AreLinksAt From links) routers index.outgoing.items
-  pub incoming : IsTable (AreLinksAt To links) routers index.incoming.items
-  pub ports : IsTable (IsPort links) (length links) index.ports.items
+  pub listed : AreRouterLinks links routers index.routers
   pub ends : IsTable (IsEnds links) nis index.ends.items
   pub further : IsTable (IsFurther links) (length links) index.further.items
   pub wires : index.wires ≡ wires_of links

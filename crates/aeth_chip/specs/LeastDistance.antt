@@ -1,35 +1,40 @@
 -- The least number of links between network interfaces as a function.
 --
---   is_router      whether a node is a router
---   is_joined      whether so many links lead from a node to a node
---   least_distance      the least number of links from an interface to an interface
+--   lists_of      all lists of so many elements
+--   has_path      whether some list of so many links is a path
+--   below, least_distance      the least number of links from an interface to an interface
 -- This project's own.
-use Rattle.std.specs.Prelude.{ℕ, ◌&&◌, zero, suc, Bool, true, false, List, Option, length, find}
-use Rattle.std.specs.List.{list_any, range_with_len}
+use Rattle.std.specs.Prelude.{ℕ, zero, suc, ◌+◌, Bool, List, [], ◌∷◌, Option, Some, None, length}
+use Rattle.std.specs.Prelude.{map, nat_lt, if◌then◌else◌}
+use Rattle.std.specs.List.{flat_map, list_any, range_with_len}
+use Rattle.aeth_base.specs.Extremes.{least_below}
+use Rattle.aeth_base.specs.declared.ids.LinkId.{LinkId}
 use Rattle.aeth_base.specs.declared.ids.NiId.{NiId}
 use Rattle.aeth_chip.specs.declared.node.Link.{Link}
-use Rattle.aeth_chip.specs.declared.node.Node.{Node}
-use Rattle.aeth_chip.specs.declared.node.Node.TheVariants.{Router, Ni}
 use Rattle.aeth_chip.specs.Chip.{ChipData}
-use Rattle.aeth_chip.specs.Nodes.{begins_at, ends_at}
+use Rattle.aeth_chip.specs.PathTests.{is_path_between}
 
--- Whether a node is a router.
-abbrev pub is_router : Node → Bool
-is_router (Router r) = true
-is_router (Ni n) = false
+-- All lists of so many elements of a list.
+abbrev pub lists_of : {X : Type 0} → ℕ → List X → List (List X)
+lists_of zero xs = [] ∷ []
+lists_of (suc count) xs = flat_map (λ x. map (λ rest. x ∷ rest) (lists_of count xs)) xs
 
--- Whether exactly so many links, at least one, lead from a node to a node through routers alone:
--- one link leads from the one to the other, or one leads to a router, from which one fewer lead on.
-unfoldable pub is_joined : List Link → ℕ → Node → Node → Bool
-is_joined links zero a b = false
-is_joined links (suc zero) a b = list_any (λ link. begins_at a link && ends_at b link) links
-is_joined links (suc (suc more)) a b = list_any
-    (λ link. begins_at a link && (is_router link.to && is_joined links (suc more) link.to b)) links
+-- The numbers of links.
+abbrev pub link_ids : List Link → List LinkId
+link_ids links = map (λ l. record { 0 = l }) (range_with_len 0 (length links))
 
--- The least number of links that lead from an interface to an interface through routers alone, at
--- least one; `None` where there is none. Since a shortest way passes no router twice, it is at most
--- the number of routers plus 1.
+-- Whether some list of so many links is a path from an interface to an interface.
+unfoldable pub has_path : List Link → NiId → NiId → ℕ → Bool
+has_path links a b count =
+    list_any (is_path_between links a b) (lists_of count (link_ids links))
+
+-- A number that is below a bound.
+abbrev pub below : ℕ → ℕ → Option ℕ
+below bound number = if nat_lt number bound then Some number else None
+
+-- The least number of links of a path from an interface to an interface; `None` where there is
+-- none. A path passes no router twice: it has at most one link more than there are routers.
 unfoldable pub least_distance : ChipData → NiId → NiId → Option ℕ
 least_distance chip a b =
-    find (λ count. is_joined chip.links count (Ni a) (Ni b))
-    (range_with_len 2 (length chip.routers))
+    below (length chip.routers + 2)
+    (least_below (has_path chip.links a b) (length chip.routers + 2))

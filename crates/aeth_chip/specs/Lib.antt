@@ -3,11 +3,14 @@ pub mod ChipFile
 pub mod Distances
 pub mod Faults
 pub mod Index
+pub mod Joined
 pub mod LeastDistance
 pub mod Levels
 pub mod Limits
 pub mod Nodes
+pub mod PathTests
 pub mod Paths
 pub mod Summary
 pub mod Told
+pub mod Versions
 pub mod Wires

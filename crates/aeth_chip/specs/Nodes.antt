@@ -2,10 +2,11 @@
 --
 --   same_node, begins_at, ends_at, has_end    what is one node, and where a link begins and ends
 --   numbers_from, sends_on, receives_on    the numbers of the links of a node
---   router_of, sender_of    the router that a node is, and that sends on a link
+--   router_of, is_router, sender_of    the router that a node is, and that sends on a link
+--   IsBelow    whether a node's router is one of so many
 -- This project's own.
-use Rattle.std.specs.Prelude.{ℕ, ◌+◌, ◌==◌, Bool, false, List, [], ◌∷◌, Option, Some, None}
-use Rattle.std.specs.Prelude.{option_and_then, slice_get, if◌then◌else◌}
+use Rattle.std.specs.Prelude.{ℕ, ◌+◌, ◌<◌, ◌==◌, Bool, true, false, List, [], ◌∷◌, Option, Some}
+use Rattle.std.specs.Prelude.{None, option_and_then, slice_get, if◌then◌else◌}
 use Rattle.aeth_base.specs.declared.ids.RouterId.{RouterId}
 use Rattle.aeth_chip.specs.declared.node.End.{End}
 use Rattle.aeth_chip.specs.declared.node.End.TheVariants.{From, To}
@@ -53,6 +54,16 @@ abbrev pub router_of : Node → Option RouterId
 router_of (Router r) = Some r
 router_of (Ni n) = None
 
+-- Whether a node is a router.
+abbrev pub is_router : Node → Bool
+is_router (Router r) = true
+is_router (Ni n) = false
+
 -- The router that sends on a link.
 abbrev pub sender_of : List Link → ℕ → Option RouterId
 sender_of links link = option_and_then (λ l. router_of l.from) (slice_get links link)
+
+-- The node is an interface, or a router whose number is below this.
+abbrev pub IsBelow : ℕ → Node → Type 0
+IsBelow routers (Router r) = r.0 < routers
+IsBelow routers (Ni n) = Unit {0}

@@ -1,20 +1,23 @@
 -- Paths over the links of a chip: joined lists of links, least numbers of links, admissible paths,
 -- offsets and delays. The links are those of the chip in file order; a path is a list of their
 -- numbers.
---   IsLinkFrom, Joins      the link leads from a node to a node; the links of a list do so one by one
+--   IsLinkFrom, to_of, BeginsAt, ends_of      from where to where links lead
+--   Joins      the links of a list join a node to a node through routers
 --   AreDistinct      no router stands twice in a list
+--   IsOpen      links with which a path may begin
 --   IsPath, IsOnward      a path from an interface, from a router, without limits
 --   IsLeast      the least number of links of the lists with some property
 --   IsDistance, IsOnwardDistance      that of the paths from an interface, from a router
 --   IsAdmissible      a path that a flit may take
 --   delay_of, path_delay, offset      delays, and when a flit enters each link
 -- Paths and slots: after UMARS (2005). Detours over the least number: this project's own.
-use Rattle.std.specs.Prelude.{◌≡◌, ◌+◌, ◌≤◌, ℕ, List, [], ◌∷◌, Option, Some, None, length}
-use Rattle.std.specs.Prelude.{slice_get, take, sum_by, Contains}
+use Rattle.std.specs.Prelude.{◌≡◌, ◌+◌, ◌≤◌, ◌++◌, ℕ, List, [], ◌∷◌, Option, Some, None, length}
+use Rattle.std.specs.Prelude.{map, slice_get, take, sum_by, Contains}
 use Rattle.aeth_base.specs.declared.ids.LinkId.{LinkId}
 use Rattle.aeth_base.specs.declared.ids.NiId.{NiId}
 use Rattle.aeth_base.specs.declared.ids.RouterId.{RouterId}
 use Rattle.aeth_base.specs.Limits.{max_path_links}
+use Rattle.aeth_chip.specs.Joined.{IsJoined}
 use Rattle.aeth_chip.specs.declared.node.Link.{Link}
 use Rattle.aeth_chip.specs.declared.node.Node.{Node}
 use Rattle.aeth_chip.specs.declared.node.Node.TheVariants.{Router, Ni}
@@ -26,20 +29,41 @@ pub record IsLinkFrom (links : List Link) (l : LinkId) (from to : Node) : Type 0
   pub begins : link.from ≡ from
   pub ends : link.to ≡ to
 
--- The links of a list join a node to a node through these routers: the first link begins at the
--- one, each link ends at the router where the next begins, and the last ends at the other.
-abbrev pub Joins : List Link → Node → List RouterId → Node → List LinkId → Type 0
-Joins links a [] b [] = ⊥
-Joins links a [] b (l ∷ []) = IsLinkFrom links l a b
-Joins links a [] b (l ∷ k ∷ path) = ⊥
-Joins links a (r ∷ routers) b [] = ⊥
-Joins links a (r ∷ routers) b (l ∷ path) =
-    IsLinkFrom links l a (Router r) × Joins links (Router r) routers b path
+-- The node where a link ends that may be missing; router 0 then.
+abbrev pub to_in : Option Link → Node
+to_in (Some link) = link.to
+to_in None = Router (record { 0 = 0 })
+
+-- The node where a link ends.
+abbrev pub to_of : List Link → LinkId → Node
+to_of links l = to_in (slice_get links l.0)
+
+-- The link with this number begins at a node.
+abbrev pub BeginsAt : List Link → LinkId → Node → Type 0
+BeginsAt links l a = IsLinkFrom links l a (to_of links l)
+
+-- The nodes where the links of a list end, one by one.
+abbrev pub ends_of : List Link → List LinkId → List Node
+ends_of links path = map (to_of links) path
+
+-- The links of a list join a node to a node through these routers: they are joined from the one
+-- node on, and end at the routers and then at the other node.
+pub record Joins (links : List Link) (a : Node) (routers : List RouterId) (b : Node)
+    (path : List LinkId) : Type 0 where
+  pub joined : IsJoined (BeginsAt links) (to_of links) a path
+  pub ends : ends_of links path ≡ map (λ r. Router r) routers ++ b ∷ []
 
 -- No router stands twice in the list.
 abbrev pub AreDistinct : List RouterId → Type 0
 AreDistinct [] = Unit {0}
 AreDistinct (r ∷ routers) = (Contains routers r → ⊥) × AreDistinct routers
+
+-- Links that are joined from a node on and end at distinct routers. Paths begin with such links.
+pub record IsOpen (links : List Link) (a : Node) (path : List LinkId) : Type 0 where
+  pub routers : List RouterId
+  pub joined : IsJoined (BeginsAt links) (to_of links) a path
+  pub ends : ends_of links path ≡ map (λ r. Router r) routers
+  pub distinct : AreDistinct routers
 
 -- A path from an interface to an interface: joined links, whose inner nodes are distinct routers,
 -- at least one. From an interface to itself, such a path leads to a router and back.

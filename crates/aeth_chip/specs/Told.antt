@@ -3,8 +3,8 @@
 --   version_of, allows_delays, slots_of, routers_of, nis_of, link_tables    the root's keys
 --   node_of, link_of, told_chip    nodes and links by the names of their ends
 -- This project's own.
-use Rattle.std.specs.Prelude.{◌≤◌, ℕ, ℤ, pos, negsuc, ◌==◌, codes, Bool, false, List, map, Option, Some}
-use Rattle.std.specs.Prelude.{None, unwrap_or}
+use Rattle.std.specs.Prelude.{◌≤◌, ℕ, ℤ, pos, negsuc, ◌==◌, codes, Bool, false, List, map}
+use Rattle.std.specs.Prelude.{Option, Some, None, unwrap_or}
 use Rattle.toml.specs.Data.{Members}
 use Rattle.aeth_base.specs.Limits.{max_link_delay}
 use Rattle.aeth_chip.specs.declared.node.Link.{Link}

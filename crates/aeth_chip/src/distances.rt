@@ -1,6 +1,7 @@
 // Least numbers of links, found by levels from each interface backwards over the links.
-ghost use Rattle.std.specs.Prelude.{◌≡◌, ◌+◌, IfOk, length};
+ghost use Rattle.std.specs.Prelude.{◌≡◌, ◌+◌, ◌≤◌, IfOk, IfSome, length};
 ghost use Rattle.aeth_chip.specs.Distances.{entry_at};
+ghost use Rattle.aeth_chip.specs.Limits.{max_routers};
 ghost use Rattle.aeth_chip.specs.Levels.{HasPlaces};
 ghost use Rattle.aeth_chip.specs.Paths.{IsDistance, IsOnwardDistance};
 
@@ -25,14 +26,14 @@ pub struct Distances {
 impl Model for Distances {
     ghost use Rattle.std.specs.Prelude.{List};
     ghost use Rattle.aeth_chip.specs.declared.node.Link.{Link};
-    ghost use Rattle.aeth_chip.specs.Distances.{AreRows};
+    ghost use Rattle.aeth_chip.specs.Distances.{IsDistanceTable};
 
     ghost Value = { List Link };
 
     ghost view = { λ distances. distances.links.items };
 
     ghost invariant = { λ distances.
-        AreRows distances.links.items distances.routers distances.rows.items };
+        IsDistanceTable distances.links.items distances.routers distances.rows.items };
 }
 
 impl Distances {
@@ -62,7 +63,8 @@ impl Distances {
     /// routers, at least one; from an interface to itself, over its router and back. `None` exactly
     /// where no path leads there.
     pub fn between(&self, a: NiId, b: NiId) -> Option<u32>
-        ensures { IsDistance self.now a b result }
+        ensures distance { IsDistance self.now a b result }
+        ensures within { IfSome result (λ least. (2 ≤ least) × (least ≤ max_routers + 1)) }
     {
         let place = self.routers as usize + a.0 as usize;
         entry(&self.rows, b.0 as usize, place)
@@ -71,7 +73,8 @@ impl Distances {
     /// The least number of links of a path from a router to an interface, through distinct routers.
     /// `None` exactly where no path leads there.
     pub fn onward(&self, r: RouterId, b: NiId) -> Option<u32>
-        ensures { IsOnwardDistance self.now r b result }
+        ensures distance { IsOnwardDistance self.now r b result }
+        ensures within { IfSome result (λ least. (1 ≤ least) × (least ≤ max_routers)) }
     {
         if r.0 >= self.routers {
             return None;
@@ -80,14 +83,14 @@ impl Distances {
     }
 }
 
-/// The entry of a row at a place. `None` where the table has no such row, or the row no such place.
+// The entry of a row at a place. `None` where the table has no such row, or the row no such place.
 fn entry(rows: &[Vec<Option<u32>>], goal: usize, place: usize) -> Option<u32>
     ensures { result ≡ entry_at rows.now goal place }
 {
     *rows.get(goal)?.get(place)?
 }
 
-/// The links of a chip, whose ends have places.
+// The links of a chip, whose ends have places.
 fn links_of(alloc: Global, chip: &Chip) -> Result<Vec<Link>, NoMemory>
     ensures links { IfOk result (λ links. links.items ≡ chip.now.links) }
     ensures places { IfOk result (λ links. HasPlaces links.items (length chip.now.routers)

@@ -2,15 +2,15 @@
 ghost use Rattle.std.specs.Prelude.{◌≡◌, ◌≢◌, ◌++◌, ◌∷◌, ◌^◌, ◌<◌, ◌≤◌, ℕ, [], IfOk, Contains};
 ghost use Rattle.std.specs.Prelude.{length};
 ghost use Rattle.aeth_chip.specs.Levels.{AreLevels, AreOrigins, Enters, HasPlaces, IsOrigin};
-ghost use Rattle.aeth_chip.specs.Levels.{Spreads, items_at, place_of};
+ghost use Rattle.aeth_chip.specs.Levels.{SpreadsLevel, items_at, node_place};
 
 use crate::node::{Link, Node};
 use aeth_base::NoMemory;
 use std::alloc::Global;
 
-/// The place of a node in a row: the routers come first, then the interfaces.
-fn place_of(node: Node, routers: u32) -> usize
-    ensures { result ≡ place_of routers node }
+// The place of a node in a row: the routers come first, then the interfaces.
+fn node_place(node: Node, routers: u32) -> usize
+    ensures { result ≡ node_place routers node }
 {
     match node {
         Node::Router(r) => r.0 as usize,
@@ -37,13 +37,13 @@ pub(crate) fn origins_of(
     Ok(origins)
 }
 
-/// Enters a link into the list of the place to which it leads, where one of its ends is a router.
+// Enters a link into the list of the place to which it leads, where one of its ends is a router.
 fn enter(origins: &mut Vec<Vec<usize>>, link: &Link, routers: u32) -> Result<(), NoMemory>
-    requires { place_of routers link.now.to < length origins.old.items }
+    requires { node_place routers link.now.to < length origins.old.items }
     ensures { IfOk result (λ _. Enters routers link.now origins.old.items origins.new.items) }
 {
-    let from = place_of(link.from, routers);
-    let to = place_of(link.to, routers);
+    let from = node_place(link.from, routers);
+    let to = node_place(link.to, routers);
     if from >= routers as usize && to >= routers as usize {
         return Ok(());
     }
@@ -51,7 +51,7 @@ fn enter(origins: &mut Vec<Vec<usize>>, link: &Link, routers: u32) -> Result<(),
     Ok(())
 }
 
-/// So many empty lists.
+// So many empty lists.
 fn empty_lists(alloc: Global, count: usize) -> Result<Vec<Vec<usize>>, NoMemory>
     ensures size { IfOk result (λ lists. length lists.items ≡ count) }
     ensures empty { IfOk result (λ lists. (place : ℕ) → items_at lists.items place ≡ []) }
@@ -63,7 +63,7 @@ fn empty_lists(alloc: Global, count: usize) -> Result<Vec<Vec<usize>>, NoMemory>
     Ok(lists)
 }
 
-/// Puts a number at the end of one of the lists.
+// Puts a number at the end of one of the lists.
 fn add(lists: &mut Vec<Vec<usize>>, place: usize, item: usize) -> Result<(), NoMemory>
     requires { place < length lists.old.items }
     ensures size { length lists.new.items ≡ length lists.old.items }
@@ -103,7 +103,7 @@ pub(crate) fn levels_to(
     Ok(levels)
 }
 
-/// Gives a level to each place that has none and from which a link leads to one of the places.
+// Gives a level to each place that has none and from which a link leads to one of the places.
 fn spread_all(
     origins: &[Vec<usize>],
     frontier: &[usize],
@@ -115,7 +115,7 @@ fn spread_all(
     requires frontier { (place : ℕ) → Contains frontier.now place → place < length origins.now }
     requires places { (from to : ℕ) → IsOrigin origins.now from to → from < length levels.old }
     requires most { length origins.now < 2 ^ 31 }
-    ensures { IfOk result (λ _. Spreads
+    ensures { IfOk result (λ _. SpreadsLevel
         (λ from. (to : ℕ) × Contains frontier.now to × IsOrigin origins.now from to)
         level routers levels.old levels.new next.old.items next.new.items) }
 {
@@ -125,7 +125,7 @@ fn spread_all(
     Ok(())
 }
 
-/// Gives a level to each of the places that has none, and puts the routers among them into a list.
+// Gives a level to each of the places that has none, and puts the routers among them into a list.
 fn spread(
     places: &[usize],
     level: u32,
@@ -134,8 +134,8 @@ fn spread(
     next: &mut Vec<usize>,
 ) -> Result<(), NoMemory>
     requires { (place : ℕ) → Contains places.now place → place < length levels.old }
-    ensures { IfOk result (λ _. Spreads (Contains places.now) level routers levels.old levels.new
-        next.old.items next.new.items) }
+    ensures { IfOk result (λ _. SpreadsLevel (Contains places.now) level routers levels.old
+        levels.new next.old.items next.new.items) }
 {
     for place in places {
         mark(*place, level, routers, levels, next)?;
@@ -143,7 +143,7 @@ fn spread(
     Ok(())
 }
 
-/// Gives a level to a place that has none, and then puts it into a list where it is a router's.
+// Gives a level to a place that has none, and then puts it into a list where it is a router's.
 fn mark(
     place: usize,
     level: u32,
@@ -152,7 +152,7 @@ fn mark(
     next: &mut Vec<usize>,
 ) -> Result<(), NoMemory>
     requires { place < length levels.old }
-    ensures { IfOk result (λ _. Spreads (λ marked. marked ≡ place) level routers levels.old
+    ensures { IfOk result (λ _. SpreadsLevel (λ marked. marked ≡ place) level routers levels.old
         levels.new next.old.items next.new.items) }
 {
     if levels[place].is_some() {

@@ -6,6 +6,8 @@ mod delays;
 mod distances;
 mod fault;
 mod index;
+mod keys;
+pub mod laws;
 mod levels;
 mod links;
 mod node;

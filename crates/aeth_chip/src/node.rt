@@ -11,8 +11,8 @@ pub enum Node {
     Ni(NiId),
 }
 
-/// A directed link. A flit that enters it in a cycle reaches its far end `delay` cycles later: 1 in a
-/// file of version 1, 1 to 4 in one of version 2.
+/// A directed link. A flit that enters it in a cycle reaches its far end `delay` cycles later: 1 in
+/// a file of version 1, 1 to 4 in one of version 2.
 #[derive(Clone, Copy, Debug, PartialEq, Eq)]
 pub struct Link {
     pub from: Node,

@@ -140,8 +140,8 @@ fn unjoined(links: &[Link], ni: u32, name: &str) -> Option<Shown>
     }
 }
 
-/// The walk after a check of each network interface, which is to be joined to one router by one link
-/// each way.
+/// The walk after a check of each network interface, which is to be joined to one router by one
+/// link each way.
 #[tactic(auto, unfolding(aeth_document::specs::Walks::walked))]
 pub(crate) fn unjoined_nis(walk: Walk, nis: Texts<'_>, links: &[Link]) -> Walk
     requires few { length links.now < 2 ^ 32 }

@@ -1,143 +1,30 @@
 // Reading a chip file: its rules one after the other.
 ghost use Rattle.std.specs.Prelude.{◌≡◌, ◌≤◌, ◌++◌, [], Ok, length, IfOk};
-ghost use Rattle.std.specs.List.{filter_map};
 ghost use Rattle.aeth_base.specs.Faults.{Reads};
 ghost use Rattle.aeth_base.specs.Limits.{max_slots};
 ghost use Rattle.aeth_chip.specs.ChipFile.{chip_in, chip_of, delays, ends_are_known, is_in_range};
-ghost use Rattle.aeth_chip.specs.ChipFile.{keys_fit, link_fields, most_slots, names_differ};
-ghost use Rattle.aeth_chip.specs.ChipFile.{nis_are_single, numbers, ports_are_few, wrong_keys};
+ghost use Rattle.aeth_chip.specs.ChipFile.{most_slots, names_differ, nis_are_single, numbers};
+ghost use Rattle.aeth_chip.specs.ChipFile.{ports_are_few};
 ghost use Rattle.aeth_chip.specs.Faults.{rule_of};
 ghost use Rattle.aeth_chip.specs.Limits.{max_links, max_nis, max_routers};
-ghost use Rattle.aeth_chip.specs.Told.{allows_delays, link_tables, nis_of, routers_of, slots_of, told_chip};
-ghost use Rattle.aeth_chip.specs.Told.{told_links, version_of};
-ghost use Rattle.aeth_document.specs.Arrays.{tables_in, texts_in};
-ghost use Rattle.aeth_document.specs.Keys.{fields_view};
+ghost use Rattle.aeth_chip.specs.Told.{nis_of, routers_of, slots_of, version_of};
 ghost use Rattle.aeth_document.specs.Walks.{first_broken, repeats, size_of, walked};
 ghost use Rattle.toml.specs.View.{table_view};
 
 use crate::chip::{Chip, MAX_LINKS, MAX_NIS, MAX_ROUTERS, MAX_SLOTS_OF_VERSION_1};
 use crate::fault::ChipFault;
 use crate::index::index_of;
+use crate::keys::{allows_delays, judge_keys, link_tables, nis_of, routers_of, version_of};
 use crate::links::{Names, delay_at, links_of, unknown_ends};
 use crate::node::Link;
 use crate::ports::{crowded_routers, unjoined_nis};
 use aeth_base::{Broken, MAX_LINK_DELAY, MAX_SLOTS, NoMemory, Shown};
 use aeth_document::{
-    Field, Kind, Tables, Texts, Walk, count_outside, integer_at, names_of, outside, read_document,
-    repeats, size, tables_at, texts_at, wrong_key,
+    Walk, count_outside, integer_at, names_of, outside, read_document, repeats, size,
 };
 use indexmap::IndexSet;
 use std::alloc::Global;
 use toml::Table;
-
-const ROOT: [Field; 5] = [
-    Field {
-        key: "link",
-        kind: Kind::Tables,
-    },
-    Field {
-        key: "nis",
-        kind: Kind::Texts,
-    },
-    Field {
-        key: "routers",
-        kind: Kind::Texts,
-    },
-    Field {
-        key: "slots",
-        kind: Kind::Integer,
-    },
-    Field {
-        key: "version",
-        kind: Kind::Integer,
-    },
-];
-
-const LINK: [Field; 2] = [
-    Field {
-        key: "from",
-        kind: Kind::Text,
-    },
-    Field {
-        key: "to",
-        kind: Kind::Text,
-    },
-];
-
-const LINK_WITH_DELAY: [Field; 3] = [
-    Field {
-        key: "delay",
-        kind: Kind::OptionalInteger,
-    },
-    Field {
-        key: "from",
-        kind: Kind::Text,
-    },
-    Field {
-        key: "to",
-        kind: Kind::Text,
-    },
-];
-
-fn version_of(root: &Table) -> i64
-    ensures { result ≡ version_of (table_view root.now) }
-{
-    integer_at(root, "version")
-}
-
-fn routers_of(root: &Table) -> Texts<'_>
-    ensures { texts_in result ≡ routers_of (table_view root.now) }
-{
-    texts_at(root, "routers")
-}
-
-fn nis_of(root: &Table) -> Texts<'_>
-    ensures { texts_in result ≡ nis_of (table_view root.now) }
-{
-    texts_at(root, "nis")
-}
-
-fn link_tables(root: &Table) -> Tables<'_>
-    ensures { tables_in result ≡ link_tables (table_view root.now) }
-{
-    tables_at(root, "link")
-}
-
-// Whether the version of the file allows delays.
-fn allows_delays(root: &Table) -> bool
-    ensures { result ≡ allows_delays (version_of (table_view root.now)) }
-{
-    version_of(root) == 2
-}
-
-fn link_fields(root: &Table) -> &'static [Field]
-    ensures { fields_view result.now ≡ link_fields (version_of (table_view root.now)) }
-{
-    if allows_delays(root) {
-        &LINK_WITH_DELAY
-    } else {
-        &LINK
-    }
-}
-
-// The walk after a check of each table's keys.
-#[tactic(auto, unfolding(crate::specs::ChipFile::wrong_keys), using(aeth_document::proofs::WalkLemmas::walk_laws))]
-fn wrong_keys(walk: Walk, root: &Table) -> Walk
-    ensures { result ≡ walked walk (wrong_keys (table_view root.now)) }
-{
-    walk.check(wrong_key(root, &ROOT))
-        .keys(link_tables(root), link_fields(root))
-}
-
-#[tactic(auto, unfolding(crate::specs::ChipFile::keys_fit), using(aeth_document::proofs::WalkLemmas::walk_laws))]
-fn judge_keys(root: &Table) -> Result<(), ChipFault>
-    ensures { Reads rule_of (λ u. u) result (keys_fit (table_view root.now)) }
-{
-    match wrong_keys(Walk::from(0), root).found() {
-        None => Ok(()),
-        Some(broken) => Err(ChipFault::WrongKey(broken)),
-    }
-}
 
 fn most_slots(root: &Table) -> u32
     ensures { result ≡ most_slots (version_of (table_view root.now)) }
@@ -255,7 +142,8 @@ fn judge_ports(routers: u32, links: &[Link]) -> Result<(), ChipFault>
 fn judge_nis(root: &Table, links: &[Link]) -> Result<(), ChipFault>
     requires few_nis { length (nis_of (table_view root.now)) ≤ max_nis }
     requires few_links { length links.now ≤ max_links }
-    ensures { Reads rule_of (λ u. u) result (nis_are_single (nis_of (table_view root.now)) links.now) }
+    ensures { Reads rule_of (λ u. u) result
+        (nis_are_single (nis_of (table_view root.now)) links.now) }
 {
     match unjoined_nis(Walk::from(0), nis_of(root), links).found() {
         None => Ok(()),

@@ -35,7 +35,7 @@ Fields = List (List ℕ × Kind)
 
 -- The fields of a table as this list.
 abbrev pub fields_view : List Field → Fields
-fields_view fields = map (λ f. (f.key.now, f.kind)) fields
+fields_view fields = map (λ f. (f.0.now, f.1)) fields
 
 -- The array is there, and each of its items passes the test.
 abbrev pub all_items : (Data → Bool) → Option Items → Bool

@@ -33,10 +33,7 @@ pub enum Kind {
 
 /// A key that a table has, and what stands there.
 #[derive(Clone, Copy, Debug)]
-pub struct Field {
-    pub key: &'static str,
-    pub kind: Kind,
-}
+pub struct Field(pub &'static str, pub Kind);
 
 fn are_texts(values: &[Value]) -> bool
     ensures { result ≡ list_all (λ v. is_some (as_str (view v))) values.now }
@@ -84,8 +81,8 @@ fn is_expected(fields: &[Field], key: &str, value: &Value) -> bool
     ensures { result ≡ is_expected (fields_view fields.now) (key.now, view value.now) }
 {
     for field in fields {
-        if field.key == key {
-            return has_kind(field.kind, value);
+        if field.0 == key {
+            return has_kind(field.1, value);
         }
     }
     false
@@ -127,12 +124,12 @@ fn lacks(table: &Table, key: &str) -> bool
 }
 
 fn is_missing(table: &Table, field: &Field) -> bool
-    ensures { result ≡ is_missing (table_view table.now) (field.now.key.now, field.now.kind) }
+    ensures { result ≡ is_missing (table_view table.now) (field.now.0.now, field.now.1) }
 {
-    if is_optional(field.kind) {
+    if is_optional(field.1) {
         return false;
     }
-    lacks(table, field.key)
+    lacks(table, field.0)
 }
 
 fn missing_key(table: &Table, fields: &[Field]) -> Option<&'static str>
@@ -141,7 +138,7 @@ fn missing_key(table: &Table, fields: &[Field]) -> Option<&'static str>
 {
     let mut best: Option<&'static str> = None;
     for field in fields {
-        best = lesser_where(is_missing(table, field), best, field.key);
+        best = lesser_where(is_missing(table, field), best, field.0);
     }
     best
 }

@@ -1,7 +1,7 @@
 use Rattle.std.proofs.Common.{◌≡◌, ◌∙◌, ℕ, ◌+◌, ◌<◌, List, take, length, get_or, Contains, subst}
 use Rattle.std.proofs.Common.{sym, inl, inr, arith}
 use Rattle.std.proofs.lemmas.List.{get_or_default, take_all}
-use Rattle.aeth_chip.specs.Levels.{IsOrigin, Spreads, items_at}
+use Rattle.aeth_chip.specs.Levels.{IsOrigin, SpreadsLevel, items_at}
 use Rattle.aeth_chip.proofs.SpreadLemmas.{spreads-then, take_cases, take_early, take_last}
 use Rattle.aeth_chip.proofs.SpreadLemmas.{items_read}
 use Rattle.aeth_chip.proofs.levels.spread_all.Goals as goal
@@ -53,7 +53,7 @@ loop-to-preserved c =
     c.loop-to.levels c.spread.new.levels c.args.next.now.items c.loop-to.next.items
     c.spread.new.next.items c.loop-to.invariant
     (subst (λ (xs : List ℕ).
-    Spreads (Contains xs) c.args.level c.args.routers c.loop-to.levels c.spread.new.levels
+    SpreadsLevel (Contains xs) c.args.level c.args.routers c.loop-to.levels c.spread.new.levels
     c.loop-to.next.items c.spread.new.next.items) same c.in_ok-spread.ensures)
     (λ from (x, has, origin). elim (take_cases frontier i x within has) [
       | inl early ↦ inl (x, early, origin)
@@ -68,6 +68,6 @@ returns c =
     let frontier = c.args.frontier.now in
     let whole : take c.loop-to.to-index frontier ≡ frontier =
     take_all c.loop-to.to-index frontier (let done = c.loop-to-test.false in omega arith) in
-    subst (λ (xs : List ℕ). Spreads (λ from. (x : ℕ) × Contains xs x
+    subst (λ (xs : List ℕ). SpreadsLevel (λ from. (x : ℕ) × Contains xs x
     × IsOrigin c.args.origins.now from x) c.args.level c.args.routers c.args.levels.now
     c.loop-to.levels c.args.next.now.items c.loop-to.next.items) whole c.loop-to.invariant

@@ -2,7 +2,7 @@ use Rattle.std.proofs.Common.{◌≡◌, ◌≤◌, ◌∙◌, length, refl, ari
 use Rattle.toml.specs.View.{table_view}
 use Rattle.aeth_chip.specs.Limits.{max_links}
 use Rattle.aeth_chip.specs.Told.{told_links}
-use Rattle.aeth_chip.proofs.LinkLemmas.{KeepsRules, few_links, told_is_chip}
+use Rattle.aeth_chip.proofs.LinkLemmas.{KeepsRules, few_links, have_nodes, told_is_chip}
 use Rattle.aeth_chip.proofs.PortLemmas.{each_is_single}
 use Rattle.aeth_chip.proofs.RangeLemmas.{delays_are, in_range}
 use Rattle.aeth_chip.proofs.WireLemmas.{have_delays}
@@ -59,6 +59,13 @@ index_of-requires-clause-single c =
     let links = links_are at.In_ok-links in
     rw (c.deref-3.ensures.value, links, c.len-3.ensures.len, c.in_ok-names.ensures.nis)
     (each_is_single _ _ (keeps_rules at.In_ok-judge_nis links).single)
+
+pub index_of-requires-clause-nodes : goal.index_of-requires-clause-nodes
+index_of-requires-clause-nodes c =
+    let at = goal.at.index_of-requires-clause-nodes c in
+    let links = links_are at.In_ok-links in
+    rw (c.deref-3.ensures.value, links, c.len-2.ensures.len, c.in_ok-names.ensures.routers)
+    (have_nodes _ (told_is_chip _ (keeps_rules at.In_ok-judge_nis links)))
 
 pub index_of-requires-clause-delays : goal.index_of-requires-clause-delays
 index_of-requires-clause-delays c =

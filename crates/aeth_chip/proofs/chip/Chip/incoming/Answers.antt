@@ -6,5 +6,5 @@ use Rattle.aeth_chip.proofs.chip.Chip.incoming.Goals as goal
 pub returns : goal.returns
 returns c =
     rw (c.incoming.ensures, ← c.self.view_is)
-    (links_listed _ To c.self.inside.index.incoming.items c.self.invariant.0
-    c.self.invariant.1.incoming c.args.router)
+    (links_listed _ To c.self.inside.index.routers.incoming.items c.self.invariant.0
+    c.self.invariant.1.listed.incoming c.args.router)

@@ -6,5 +6,5 @@ use Rattle.aeth_chip.proofs.chip.Chip.outgoing.Goals as goal
 pub returns : goal.returns
 returns c =
     rw (c.outgoing.ensures, ← c.self.view_is)
-    (links_listed _ From c.self.inside.index.outgoing.items c.self.invariant.0
-    c.self.invariant.1.outgoing c.args.router)
+    (links_listed _ From c.self.inside.index.routers.outgoing.items c.self.invariant.0
+    c.self.invariant.1.listed.outgoing c.args.router)

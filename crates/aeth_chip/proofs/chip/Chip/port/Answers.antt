@@ -14,7 +14,7 @@ port_is : (c : goal.After-port) → (c.port.result < max_ports)
 port_is c =
     rw (← c.self.view_is) (port_at _ c.args.link.0 c.port.result c.self.invariant.0
     (rw (← c.self.view_is) at c.requires)
-    (c.self.invariant.1.ports.each c.args.link.0 c.port.result c.port.ensures))
+    (c.self.invariant.1.listed.ports.each c.args.link.0 c.port.result c.port.ensures))
 
 pub overflow_cast-result : goal.overflow_cast-result
 overflow_cast-result c = let few = (port_is c).0 in omega arith

@@ -2,8 +2,14 @@ use Rattle.std.proofs.Common.{◌≡◌, ◌+◌, ◌++◌, ℕ, List, [], ◌�
 use Rattle.std.specs.declared.vec.Vec.{Vec}
 use Rattle.std.specs.declared.alloc.Global.{Global}
 use Rattle.std.proofs.lemmas.List.{length_push}
+use Rattle.std.proofs.lemmas.Option.{get_or_from_slice_get, slice_get_within}
+use Rattle.aeth_chip.specs.Distances.{AreBelow}
+use Rattle.aeth_chip.specs.Nodes.{IsBelow}
 use Rattle.aeth_chip.specs.declared.node.Link.{Link}
-use Rattle.aeth_chip.specs.Levels.{AreLevels, AreOrigins, HasPlaces, IsOrigin}
+use Rattle.aeth_chip.specs.declared.node.Node.{Node}
+use Rattle.aeth_chip.specs.declared.node.Node.TheVariants.{Router, Ni}
+use Rattle.aeth_chip.specs.Levels.{AreLevels, AreOrigins, HasPlace, HasPlaces}
+use Rattle.aeth_chip.specs.Levels.{IsOrigin}
 use Rattle.aeth_chip.proofs.DistanceLemmas.{rows_least, rows-push}
 use Rattle.aeth_chip.proofs.OriginLemmas.{origin_below}
 use Rattle.aeth_chip.proofs.distances.Distances.of.Goals as goal
@@ -58,6 +64,21 @@ loop-goal-preserved c =
           c.loop-goal.invariant.rows);
     }
 
+-- A node with a place is a router of the chip, or an interface.
+below_place : (routers places : ℕ) (node : Node) → HasPlace routers places node
+    → IsBelow routers node
+below_place routers places (Router r) placed = placed
+below_place routers places (Ni n) placed = tt
+
+links_below : (links : List Link) (routers places : ℕ) → HasPlaces links routers places
+    → AreBelow links routers
+links_below links routers places placed l link at =
+    below_place routers places link.to (placed link (
+      l,
+      slice_get_within links l link at,
+      get_or_from_slice_get links l link link at,
+    )).1
+
 -- The rows have the least numbers of links.
 pub invariant_of-result : goal.invariant_of-result
 invariant_of-result c =
@@ -72,5 +93,9 @@ invariant_of-result c =
     AreOrigins ls routers places c.in_ok-origins.origins.items)
     c.deref.ensures.value c.in_ok-origins.ensures in
     let ended = c.loop-goal-test.false in
-    rows_least links routers places c.in_ok-origins.origins.items c.loop-goal.rows.items placed
-    origins (omega arith) c.loop-goal.invariant.rows
+    record {
+      rows_are = rows_least links routers places c.in_ok-origins.origins.items
+          c.loop-goal.rows.items placed origins (omega arith) c.loop-goal.invariant.rows;
+      below = links_below links routers places placed;
+      few = c.routers-routers.ensures.most;
+    }

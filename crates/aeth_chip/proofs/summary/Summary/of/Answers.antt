@@ -40,11 +40,11 @@ loop-b-preserved c =
     elim c.match-between.branch [
       | in-Some w ↦ summary-some c.args.chip.now c.loop-a.a c.loop-b.b c.loop-b.far
           c.loop-b.unreached w.in-Some.least c.match-between.far c.match-between.unreached
-          c.loop-b.invariant (given (Some w.in-Some.least) w.in-Some.ensures)
+          c.loop-b.invariant (given (Some w.in-Some.least) w.in-Some.ensures.distance)
           (w.far-is ∙ w.max-far.ensures ∙ max_is c.loop-b.far w.in-Some.least) w.unreached-is
       | in-None w ↦ summary-none c.args.chip.now c.loop-a.a c.loop-b.b c.loop-b.far
           c.loop-b.unreached c.match-between.far c.match-between.unreached c.loop-b.invariant
-          (given None w.in-None.ensures) w.far-is w.unreached-is
+          (given None w.in-None.ensures.distance) w.far-is w.unreached-is
     ]
 
 -- One more row.

@@ -8,10 +8,11 @@ use Rattle.aeth_document.specs.Keys.{fields_view, wrong_key}
 use Rattle.aeth_document.specs.Walks.{walked}
 use Rattle.aeth_document.specs.declared.walk.Walk.{Walk}
 use Rattle.aeth_document.proofs.WalkLemmas.{walked-append}
-use Rattle.aeth_chip.proofs.reading.wrong_keys.Goals as goal
+use Rattle.aeth_chip.proofs.keys.wrong_keys.Goals as goal
 
 -- One check, and then a list of them.
-then_list : (before after end : Walk) (one first : Option Shown) (checks others : List (Option Shown))
+then_list : (before after end : Walk) (one first : Option Shown)
+    (checks others : List (Option Shown))
     → after ≡ walked before (one ∷ []) → end ≡ walked after checks → one ≡ first
     → checks ≡ others → end ≡ walked before (first ∷ others)
 then_list before after end one first checks others is ends first_is others_are =

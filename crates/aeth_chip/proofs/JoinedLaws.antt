@@ -1,0 +1,216 @@
+-- Laws of joined lists: one behind another, the first elements of one and those that follow; of
+-- links that join a node to a node; and of open links.
+use Rattle.std.proofs.Common.{◌≡◌, ◌∙◌, ◌+◌, ◌++◌, suc, List, [], ◌∷◌, length}
+use Rattle.std.proofs.Common.{map, Contains, refl, sym, ap, subst, inl, inr, arith}
+use Rattle.std.proofs.Common.{length-append}
+use Rattle.std.proofs.lemmas.List.{length-map, map-append}
+use Rattle.std.proofs.lemmas.List.Elements.{Contains-append_left, Contains-append_cases}
+use Rattle.aeth_base.proofs.Members.{Contains-cases, Contains-nil}
+use Rattle.aeth_base.specs.declared.ids.LinkId.{LinkId}
+use Rattle.aeth_base.specs.declared.ids.RouterId.{RouterId}
+use Rattle.aeth_chip.specs.Joined.{IsJoined, end_of}
+use Rattle.aeth_chip.specs.Paths.{AreDistinct, BeginsAt, IsLinkFrom, IsOpen, Joins, ends_of, to_in}
+use Rattle.aeth_chip.specs.Paths.{to_of}
+use Rattle.aeth_chip.specs.declared.node.Link.{Link}
+use Rattle.aeth_chip.specs.declared.node.Node.{Node}
+use Rattle.aeth_chip.specs.declared.node.Node.TheVariants.{Router}
+
+-- ---- joined elements
+
+module _ {X N : Type 0} (Begins : X → N → Type 0) (to : X → N) where
+  -- Elements that are joined from where others end are joined behind them.
+  pub joined-append : (a : N) (front path : List X) → IsJoined Begins to a front
+      → IsJoined Begins to (end_of to a front) path → IsJoined Begins to a (front ++ path)
+  joined-append a [] path first onward = onward
+  joined-append a (x ∷ front) path first onward =
+      (first.0, joined-append (to x) front path first.1 onward)
+
+  -- The first of joined elements are joined, and those that follow are from where the first end.
+  pub joined-prefix : (a : N) (front path : List X) → IsJoined Begins to a (front ++ path)
+      → IsJoined Begins to a front × IsJoined Begins to (end_of to a front) path
+  joined-prefix a [] path joined = (tt, joined)
+  joined-prefix a (x ∷ front) path joined =
+      let parts = joined-prefix (to x) front path joined.1 in ((joined.0, parts.0), parts.1)
+
+  -- Each of joined elements begins somewhere.
+  pub joined-each : (a : N) (path : List X) → IsJoined Begins to a path → (x : X) → Contains path x
+      → (from : N) × Begins x from
+  joined-each a [] joined x has = Contains-nil has
+  joined-each a (y ∷ path) joined x has = elim (Contains-cases y path x has) [
+    | inl same ↦ (a, subst (λ (z : X). Begins z a) same joined.0)
+    | inr later ↦ joined-each (to y) path joined.1 x later
+  ]
+
+  -- What begins as the elements do is joined as they are.
+  pub joined-by : (Other : X → N → Type 0) → ((x : X) (a : N) → Begins x a → Other x a) → (a : N)
+      (path : List X) → IsJoined Begins to a path → IsJoined Other to a path
+  joined-by Other each a [] joined = tt
+  joined-by Other each a (x ∷ path) joined =
+      (each x a joined.0, joined-by Other each (to x) path joined.1)
+
+-- Elements behind others end where they do from the end of the others.
+pub end_of-append : {X N : Type 0} (to : X → N) (a : N) (front path : List X)
+    → end_of to a (front ++ path) ≡ end_of to (end_of to a front) path
+end_of-append to a [] path = refl
+end_of-append to a (x ∷ front) path = end_of-append to (to x) front path
+
+-- Elements end where the last of them does.
+pub end_of-ends : {X N : Type 0} (to : X → N) (a : N) (path : List X) (inner : List N) (b : N)
+    → map to path ≡ inner ++ b ∷ [] → end_of to a path ≡ b
+end_of-ends to a [] [] b ends = absurd (cc ends)
+end_of-ends to a [] (n ∷ inner) b ends = absurd (cc ends)
+end_of-ends to a (x ∷ []) [] b ends = cc ends
+end_of-ends to a (x ∷ y ∷ path) [] b ends = absurd (cc ends)
+end_of-ends to a (x ∷ path) (n ∷ inner) b ends = end_of-ends to (to x) path inner b (cc ends)
+
+-- ---- links that join a node to a node
+
+-- A link ends where it leads.
+pub goes-ends : (links : List Link) (l : LinkId) (a b : Node) → IsLinkFrom links l a b
+    → to_of links l ≡ b
+goes-ends links l a b goes = ap to_in goes.is ∙ goes.ends
+
+-- It begins at the node from which it leads.
+pub goes-begins : (links : List Link) (l : LinkId) (a b : Node) → IsLinkFrom links l a b
+    → BeginsAt links l a
+goes-begins links l a b goes =
+    subst (IsLinkFrom links l a) (sym (goes-ends links l a b goes)) goes
+
+module _ (links : List Link) where
+  -- A link joins the nodes between which it leads.
+  pub joins-one : (a b : Node) (l : LinkId) → IsLinkFrom links l a b
+      → Joins links a [] b (l ∷ [])
+  joins-one a b l goes = record {
+    joined = (goes-begins links l a b goes, tt);
+    ends = ap (λ n. n ∷ []) (goes-ends links l a b goes);
+  }
+
+  -- A link to a router goes before those that go on from there.
+  pub joins-more : (a : Node) (r : RouterId) (routers : List RouterId) (b : Node) (l : LinkId)
+      (path : List LinkId) → IsLinkFrom links l a (Router r) → Joins links (Router r) routers b path
+      → Joins links a (r ∷ routers) b (l ∷ path)
+  joins-more a r routers b l path goes joins =
+      let ends = goes-ends links l a (Router r) goes in
+      record {
+        joined = (
+          goes-begins links l a (Router r) goes,
+          subst (λ (n : Node). IsJoined (BeginsAt links) (to_of links) n path) (sym ends)
+              joins.joined,
+        );
+        ends = λ i. ends i ∷ joins.ends i;
+      }
+
+  -- No links join nothing.
+  pub joins-none : {P : Type 0} (a : Node) (routers : List RouterId) (b : Node)
+      → Joins links a routers b [] → P
+  joins-none a [] b joins = absurd (cc joins.ends)
+  joins-none a (r ∷ routers) b joins = absurd (cc joins.ends)
+
+  -- The one link that joins nodes through no router.
+  pub joins-last : (a b : Node) (l : LinkId) (path : List LinkId) → Joins links a [] b (l ∷ path)
+      → (path ≡ []) × IsLinkFrom links l a b
+  joins-last a b l [] joins = (refl, subst (IsLinkFrom links l a) (cc joins.ends) joins.joined.0)
+  joins-last a b l (k ∷ path) joins = absurd (cc joins.ends)
+
+  -- The first link leads to the first router, and the others go on from there.
+  pub joins-first : (a : Node) (r : RouterId) (routers : List RouterId) (b : Node) (l : LinkId)
+      (path : List LinkId) → Joins links a (r ∷ routers) b (l ∷ path)
+      → IsLinkFrom links l a (Router r) × Joins links (Router r) routers b path
+  joins-first a r routers b l path joins =
+      let ends : to_of links l ≡ Router r = cc joins.ends in (
+        subst (IsLinkFrom links l a) ends joins.joined.0,
+        record {
+          joined = subst (λ (n : Node). IsJoined (BeginsAt links) (to_of links) n path) ends
+              joins.joined.1;
+          ends = cc joins.ends;
+        },
+      )
+
+  -- They are one more than the routers.
+  pub joins-length : (a : Node) (routers : List RouterId) (b : Node) (path : List LinkId)
+      → Joins links a routers b path → length path ≡ length routers + 1
+  joins-length a routers b path joins =
+      sym (length-map path (to_of links)) ∙ ap (λ (ns : List Node). length ns) joins.ends
+      ∙ length-append (map (λ r. Router r) routers) (b ∷ [])
+      ∙ ap (λ n. n + 1) (length-map routers (λ r. Router r))
+
+-- ---- open links
+
+-- The first of distinct routers are distinct.
+distinct-prefix : (firsts routers : List RouterId) → AreDistinct (firsts ++ routers)
+    → AreDistinct firsts
+distinct-prefix [] routers distinct = tt
+distinct-prefix (r ∷ firsts) routers distinct = (
+  (λ has. distinct.0 (Contains-append_left firsts routers r has)),
+  distinct-prefix firsts routers distinct.1,
+)
+
+-- A further router leaves routers distinct.
+distinct-push : (routers : List RouterId) (r : RouterId) → AreDistinct routers
+    → (Contains routers r → ⊥) → AreDistinct (routers ++ r ∷ [])
+distinct-push [] r distinct new = ((λ has. Contains-nil has), tt)
+distinct-push (q ∷ routers) r distinct new = (
+  (λ has. elim (Contains-append_cases routers (r ∷ []) q has) [
+    | inl early ↦ distinct.0 early
+    | inr last ↦ elim (Contains-cases r [] q last) [
+      | inl same ↦ new (0, omega arith, sym same)
+      | inr none ↦ Contains-nil none
+    ]
+  ]),
+  distinct-push routers r distinct.1 (λ (k, within, at). new (suc k, omega arith, at)),
+)
+
+-- Where all of a list are routers, so are the first of them.
+record Split (firsts rest : List Node) (routers : List RouterId) : Type 0 where
+  front : List RouterId
+  back : List RouterId
+  is : routers ≡ front ++ back
+  firsts_are : firsts ≡ map (λ r. Router r) front
+
+split-nodes : (firsts rest : List Node) (routers : List RouterId)
+    → firsts ++ rest ≡ map (λ r. Router r) routers → Split firsts rest routers
+split-nodes [] rest routers are =
+    record { front = []; back = routers; is = refl; firsts_are = refl }
+split-nodes (n ∷ firsts) rest [] are = absurd (cc are)
+split-nodes (n ∷ firsts) rest (r ∷ routers) are =
+    let split = split-nodes firsts rest routers (cc are) in
+    let here : n ≡ Router r = cc are in
+    record {
+      front = r ∷ split.front;
+      back = split.back;
+      is = ap (λ rs. r ∷ rs) split.is;
+      firsts_are = λ i. here i ∷ split.firsts_are i;
+    }
+
+module _ (links : List Link) where
+  -- The first of open links are open.
+  pub open-prefix : (a : Node) (front path : List LinkId) → IsOpen links a (front ++ path)
+      → IsOpen links a front
+  open-prefix a front path opened =
+      let split = split-nodes (ends_of links front) (ends_of links path) opened.routers
+      (sym (map-append (to_of links) front path) ∙ opened.ends) in
+      record {
+        routers = split.front;
+        joined = (joined-prefix (BeginsAt links) (to_of links) a front path opened.joined).0;
+        ends = split.firsts_are;
+        distinct = distinct-prefix split.front split.back
+            (subst (λ (rs : List RouterId). AreDistinct rs) split.is opened.distinct);
+      }
+
+  -- One more link to a new router leaves links open.
+  pub open-push : (a : Node) (front : List LinkId) (l : LinkId) (r : RouterId)
+      → (opened : IsOpen links a front)
+      → IsLinkFrom links l (end_of (to_of links) a front) (Router r)
+      → (Contains opened.routers r → ⊥) → IsOpen links a (front ++ l ∷ [])
+  open-push a front l r opened goes new =
+      let from : Node = end_of (to_of links) a front in
+      let ends = goes-ends links l from (Router r) goes in
+      record {
+        routers = opened.routers ++ r ∷ [];
+        joined = joined-append (BeginsAt links) (to_of links) a front (l ∷ []) opened.joined
+            (goes-begins links l from (Router r) goes, tt);
+        ends = map-append (to_of links) front (l ∷ [])
+            ∙ (λ i. opened.ends i ++ ends i ∷ [])
+            ∙ sym (map-append (λ q. Router q) opened.routers (r ∷ []));
+        distinct = distinct-push opened.routers r opened.distinct new;
+      }
