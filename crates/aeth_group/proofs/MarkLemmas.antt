@@ -16,7 +16,7 @@ use Rattle.aeth_base.proofs.Lists.{slice_get-slice_set_same, slice_get-slice_set
 use Rattle.aeth_app.specs.App.{is_marked}
 use Rattle.aeth_app.specs.Limits.{max_uses}
 use Rattle.aeth_group.specs.Marks.{Extends, LeadsOver}
-use Rattle.aeth_group.specs.Marks.{Spreads, marked, place_of, places, unmarked, with_mark}
+use Rattle.aeth_group.specs.Marks.{Spreads, marked, pair_place, places, unmarked, with_mark}
 
 -- ---- one more mark
 
@@ -24,11 +24,11 @@ use Rattle.aeth_group.specs.Marks.{Spreads, marked, place_of, places, unmarked, 
 record IsMarked (marks : List Bool) (u v : ℕ) : Type 0 where
   first : u < max_uses
   second : v < max_uses
-  is : is_marked marks (place_of u v) ≡ true
+  is : is_marked marks (pair_place u v) ≡ true
 
 marked_parts : (marks : List Bool) (u v : ℕ) → marked marks u v ≡ true → IsMarked marks u v
 marked_parts marks u v is =
-    let outer = and_parts (ltb u max_uses && ltb v max_uses) (is_marked marks (place_of u v)) is in
+    let outer = and_parts (ltb u max_uses && ltb v max_uses) (is_marked marks (pair_place u v)) is in
     let inner = and_parts (ltb u max_uses) (ltb v max_uses) outer.0 in
     record {
       first = ltb-true u max_uses inner.0;
@@ -56,14 +56,14 @@ is_marked-none (suc count) (suc place) = is_marked-none count place
 
 -- No pair is marked in a table without marks.
 pub marked-none : (u v : ℕ) → marked (replicate places false) u v ≡ false
-marked-none u v = and_right _ _ (is_marked-none places (place_of u v))
+marked-none u v = and_right _ _ (is_marked-none places (pair_place u v))
 
 -- A pair in the table is marked where its place is.
 pub marked-at_place : (marks : List Bool) (u v : ℕ) (default : Bool) → length marks ≡ places
-    → u < max_uses → v < max_uses → get_or marks (place_of u v) default ≡ marked marks u v
+    → u < max_uses → v < max_uses → get_or marks (pair_place u v) default ≡ marked marks u v
 marked-at_place marks u v default long first second =
     let at = ap (λ o. unwrap_or o false)
-    (slice_get-get_or marks (place_of u v) default (omega arith)) in
+    (slice_get-get_or marks (pair_place u v) default (omega arith)) in
     rw (lt-ltb u max_uses first, lt-ltb v max_uses second) (sym at)
 
 -- The pair is marked now.
@@ -73,7 +73,7 @@ marked-with_mark_same marks u v long first second = marked_from (with_mark marks
   first = first;
   second = second;
   is = ap (λ o. unwrap_or o false)
-      (slice_get-slice_set_same marks (place_of u v) true (omega arith));
+      (slice_get-slice_set_same marks (pair_place u v) true (omega arith));
 })
 
 -- At another place nothing changed.
@@ -89,18 +89,18 @@ marked-with_mark_kept marks u v a b long first second is =
     let old = marked_parts marks a b is in
     let low = old.first in
     let right = old.second in
-    elim (cases_eq (place_of a b) (place_of u v)) [
+    elim (cases_eq (pair_place a b) (pair_place u v)) [
       | inl same ↦ marked_from (with_mark marks u v) a b (record {
         first = old.first;
         second = old.second;
         is = ap (λ o. unwrap_or o false)
             (ap (slice_get (with_mark marks u v)) same
-            ∙ slice_get-slice_set_same marks (place_of u v) true (omega arith));
+            ∙ slice_get-slice_set_same marks (pair_place u v) true (omega arith));
       })
       | inr apart ↦ marked_from (with_mark marks u v) a b (record {
         first = old.first;
         second = old.second;
-        is = is_marked-other marks (place_of u v) (place_of a b) apart ∙ old.is;
+        is = is_marked-other marks (pair_place u v) (pair_place a b) apart ∙ old.is;
       })
     ]
 
@@ -112,12 +112,12 @@ marked-with_mark_cases marks u v a b first second is =
     let new = marked_parts (with_mark marks u v) a b is in
     let low = new.first in
     let right = new.second in
-    elim (cases_eq (place_of a b) (place_of u v)) [
+    elim (cases_eq (pair_place a b) (pair_place u v)) [
       | inl same ↦ inr (omega arith, omega arith)
       | inr apart ↦ inl (marked_from marks a b (record {
         first = new.first;
         second = new.second;
-        is = sym (is_marked-other marks (place_of u v) (place_of a b) apart) ∙ new.is;
+        is = sym (is_marked-other marks (pair_place u v) (pair_place a b) apart) ∙ new.is;
       }))
     ]
 
@@ -125,13 +125,13 @@ marked-with_mark_cases marks u v a b first second is =
 pub length-before : (old new : List Bool) (u v : ℕ) → new ≡ with_mark old u v
     → length new ≡ places → length old ≡ places
 length-before old new u v is long =
-    sym (length-set old (place_of u v) true) ∙ ap length (sym is) ∙ long
+    sym (length-set old (pair_place u v) true) ∙ ap length (sym is) ∙ long
 
 -- The table lacks one mark fewer.
 pub unmarked-with_mark : (marks : List Bool) (u v : ℕ) → length marks ≡ places → u < max_uses
     → v < max_uses → marked marks u v ≡ false → unmarked (with_mark marks u v) < unmarked marks
 unmarked-with_mark marks u v long first second is =
-    let place = place_of u v in
+    let place = pair_place u v in
     let lack : Bool → ℕ = λ mark. cond (not mark) 1 0 in
     let one : unmarked (with_mark marks u v) + lack (get_or marks place true) ≡ unmarked marks + 0 =
     sum_by-set lack marks place true true (omega arith) in

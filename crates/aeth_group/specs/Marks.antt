@@ -1,6 +1,6 @@
 -- Tables of marks, a mark for each pair of use cases, row by row, and their closing.
 --
---   places, place_of      how many places a table has, and that of a pair
+--   places, pair_place      how many places a table has, and that of a pair
 --   marked, with_mark, unmarked      whether a pair is marked, a table with one more mark, and how
 --                                    many marks a table lacks
 --   IsTransitive, IsWithin, LeadsOver      what tests and tables may have
@@ -19,16 +19,16 @@ abbrev pub places : ℕ
 places = max_uses * max_uses
 
 -- The place of a pair in a table.
-abbrev pub place_of : ℕ → ℕ → ℕ
-place_of u v = max_uses * u + v
+abbrev pub pair_place : ℕ → ℕ → ℕ
+pair_place u v = max_uses * u + v
 
 -- Whether a pair is marked; one outside of the table isn't.
 abbrev pub marked : List Bool → ℕ → ℕ → Bool
-marked marks u v = nat_lt u max_uses && nat_lt v max_uses && is_marked marks (place_of u v)
+marked marks u v = nat_lt u max_uses && nat_lt v max_uses && is_marked marks (pair_place u v)
 
 -- The table with one more pair marked.
 abbrev pub with_mark : List Bool → ℕ → ℕ → List Bool
-with_mark marks u v = slice_set marks (place_of u v) true
+with_mark marks u v = slice_set marks (pair_place u v) true
 
 -- How many marks a table lacks.
 abbrev pub unmarked : List Bool → ℕ

@@ -4,7 +4,7 @@ ghost use Rattle.std.specs.Bool.{OnFalse};
 ghost use Rattle.aeth_app.specs.Limits.{max_uses};
 ghost use Rattle.aeth_group.specs.Groups.{in_one_group};
 ghost use Rattle.aeth_group.specs.Marks.{IsClosure, IsPair, IsTransitive, LeadsOver, Spreads};
-ghost use Rattle.aeth_group.specs.Marks.{marked, place_of, places, with_mark};
+ghost use Rattle.aeth_group.specs.Marks.{marked, pair_place, places, with_mark};
 
 use aeth_app::{App, MAX_USES};
 use aeth_base::UseId;
@@ -96,10 +96,10 @@ pub(crate) fn no_marks() -> Marks
 }
 
 /// The place of a pair in a table.
-fn place_of(u: usize, v: usize) -> usize
+fn pair_place(u: usize, v: usize) -> usize
     requires first { u < max_uses }
     requires second { v < max_uses }
-    ensures place { result ≡ place_of u v }
+    ensures place { result ≡ pair_place u v }
     ensures within { result < places }
 {
     SIZE * u + v
@@ -111,7 +111,7 @@ pub(crate) fn marked(marks: &Marks, u: usize, v: usize) -> bool
     requires second { v < max_uses }
     ensures { result ≡ marked marks.now u v }
 {
-    marks[place_of(u, v)]
+    marks[pair_place(u, v)]
 }
 
 /// Marks a pair.
@@ -120,5 +120,5 @@ pub(crate) fn mark(marks: &mut Marks, u: usize, v: usize)
     requires second { v < max_uses }
     ensures { marks.new ≡ with_mark marks.old u v }
 {
-    marks[place_of(u, v)] = true;
+    marks[pair_place(u, v)] = true;
 }

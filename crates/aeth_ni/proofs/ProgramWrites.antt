@@ -8,7 +8,7 @@ use Rattle.aeth_base.proofs.Members.{Contains-map, map-Contains}
 use Rattle.aeth_ni.specs.declared.row.ChannelRow.{ChannelRow}
 use Rattle.aeth_ni.specs.declared.write.Write.{Write}
 use Rattle.aeth_ni.specs.declared.write.Write.TheVariants.{ClearSlot, ClearRoute, SetRoute, SetSlot}
-use Rattle.aeth_ni.specs.Program.{Entry, closing_writes, entries_of, opening_writes}
+use Rattle.aeth_ni.specs.Program.{Entry, closing_writes, entries_of_channel, opening_writes}
 use Rattle.aeth_ni.specs.Switch.{IsSameSlot, entries_in}
 use Rattle.aeth_ni.proofs.EntryWrites.{clear_of, set_of}
 use Rattle.aeth_base.proofs.Members.{Contains-flat_map, flat_map-Contains}
@@ -56,7 +56,7 @@ pub Contains-entry : (rows : List ChannelRow) (row : ChannelRow) (slot : ℕ) �
     → Contains row.slots.slots slot
     → Contains (entries_in rows) (record { ni = row.ni; slot = slot; queue = row.queue })
 Contains-entry rows row slot there here =
-    Contains-flat_map entries_of rows row _ there
+    Contains-flat_map entries_of_channel rows row _ there
     (Contains-map (λ slot. record { ni = row.ni; slot = slot; queue = row.queue })
     row.slots.slots slot here)
 
@@ -66,7 +66,7 @@ pub entry-slot : (rows : List ChannelRow) (entry : Entry) → Contains (entries_
     × (record { ni = row.ni; slot = slot; queue = row.queue } ≡ entry)
     × Contains row.slots.slots slot)
 entry-slot rows entry has =
-    let found = flat_map-Contains entries_of rows entry has in (
+    let found = flat_map-Contains entries_of_channel rows entry has in (
       found.0,
       found.1,
       map-Contains (λ slot. record { ni = found.0.ni; slot = slot; queue = found.0.queue })

@@ -6,8 +6,8 @@ use Rattle.aeth_clocked.specs.declared.flit.Flit.{Flit}
 use Rattle.aeth_header.specs.Header.{IsPackable}
 use Rattle.aeth_base.specs.Limits.{words_per_flit}
 use Rattle.aeth_ni.specs.declared.queue.Route.{Route}
-use Rattle.aeth_ni.specs.Queue.{QueueState, IsRoute, landed, words_of}
-use Rattle.aeth_ni.specs.Sending.{words_sent, sending, emitted, sent, behind_flit}
+use Rattle.aeth_ni.specs.Queue.{QueueState, IsRoute, flit_landed, words_in}
+use Rattle.aeth_ni.specs.Sending.{words_sent, sending, emitted, flit_sent, behind_flit}
 use Rattle.aeth_ni.specs.Sending.{next_header, next_words, next_flit}
 
 -- The next flit takes no more words than a flit carries, than wait, and than the counter allows.
@@ -38,16 +38,16 @@ two_words (suc (suc zero)) (first ∷ second ∷ words) few enough = refl
 two_words (suc (suc (suc count))) (first ∷ second ∷ words) few enough = absurd (omega arith)
 
 -- The next flit has the next words.
-pub words_of-next_flit : (queue : QueueState) (route : Route)
-    → words_of (next_header queue route) (next_flit queue route) ≡ next_words queue
-words_of-next_flit queue route =
+pub words_in-next_flit : (queue : QueueState) (route : Route)
+    → words_in (next_header queue route) (next_flit queue route) ≡ next_words queue
+words_in-next_flit queue route =
     two_words (words_sent queue) queue.waiting (omega arith) (words_sent-waiting queue)
 
 -- Words that there is room for all stay.
-pub landed-whole : (credits : ℕ) (words : List ℕ) (queue : QueueState)
+pub flit_landed-whole : (credits : ℕ) (words : List ℕ) (queue : QueueState)
     → length (queue.received ++ words) ≤ queue.room
-    → (landed credits words queue).received ≡ queue.received ++ words
-landed-whole credits words queue room =
+    → (flit_landed credits words queue).received ≡ queue.received ++ words
+flit_landed-whole credits words queue room =
     let none : length (queue.received ++ words) - queue.room ≡ 0 = omega arith in
     rw none refl
 
@@ -58,6 +58,6 @@ no_flit None flit behind queue none = refl
 no_flit (Some route) flit behind queue none = absurd cc
 
 -- Where nothing is emitted, nothing changes.
-pub sent-none : (queue : QueueState) → emitted queue ≡ None → sent queue ≡ queue
-sent-none queue none =
+pub flit_sent-none : (queue : QueueState) → emitted queue ≡ None → flit_sent queue ≡ queue
+flit_sent-none queue none =
     no_flit (sending queue) (next_flit queue) (behind_flit queue) queue none

@@ -10,7 +10,7 @@ use Rattle.std.proofs.lemmas.List.Sums.{fold-append}
 use Rattle.aeth_ni.specs.declared.row.ChannelRow.{ChannelRow}
 use Rattle.aeth_ni.specs.declared.write.Write.{Write}
 use Rattle.aeth_ni.specs.Program.{Entry, closing_writes, entries_after, entries_behind}
-use Rattle.aeth_ni.specs.Program.{entries_of, opening_writes, program_of}
+use Rattle.aeth_ni.specs.Program.{entries_of_channel, opening_writes, program_of}
 use Rattle.aeth_ni.specs.Switch.{AreSlotsApart, IsSwitch, entries_in}
 use Rattle.aeth_ni.proofs.EntryWrites.{Leave, fold-cases, fold-cleared, fold-keeps, fold-sets}
 use Rattle.aeth_ni.proofs.EntryWrites.{set_of}
@@ -30,8 +30,8 @@ entries-among : (some others : List ChannelRow)
     → ((row : ChannelRow) → Contains some row → Contains others row) → (entry : Entry)
     → Contains (entries_in some) entry → Contains (entries_in others) entry
 entries-among some others each entry has =
-    let found = flat_map-Contains entries_of some entry has in
-    Contains-flat_map entries_of others found.0 entry (each found.0 found.1) found.2
+    let found = flat_map-Contains entries_of_channel some entry has in
+    Contains-flat_map entries_of_channel others found.0 entry (each found.0 found.1) found.2
 
 -- Channels of which each is one of these or of those have entries of these or of those.
 entries-either : (rows some others : List ChannelRow)
@@ -39,10 +39,10 @@ entries-either : (rows some others : List ChannelRow)
     → (entry : Entry) → Contains (entries_in rows) entry
     → Contains (entries_in some) entry ⊎ Contains (entries_in others) entry
 entries-either rows some others each entry has =
-    let found = flat_map-Contains entries_of rows entry has in
+    let found = flat_map-Contains entries_of_channel rows entry has in
     elim (each found.0 found.1) [
-      | inl here ↦ inl (Contains-flat_map entries_of some found.0 entry here found.2)
-      | inr there ↦ inr (Contains-flat_map entries_of others found.0 entry there found.2)
+      | inl here ↦ inl (Contains-flat_map entries_of_channel some found.0 entry here found.2)
+      | inr there ↦ inr (Contains-flat_map entries_of_channel others found.0 entry there found.2)
     ]
 
 module _ (left entered kept closing opening : List ChannelRow)

@@ -1,6 +1,6 @@
 -- A network interface as a component: what it emits in a cycle, and what it absorbs.
 --
---   entry_at, emitted_by, sent_by  what is sent in a cycle
+--   queue_at_cycle, emitted_by, flit_sent_by  what is sent in a cycle
 --   Arrival, arrival_of            what the entering link brings
 --   landed_at, last_of, absorbed   what has come, and what `last` tells of it
 --   interface_outputs and its kin  the meanings of an interface as a component
@@ -14,13 +14,13 @@ use Rattle.aeth_clocked.specs.declared.flit.Flit.{Flit}
 use Rattle.aeth_header.specs.Header.{header_of}
 use Rattle.aeth_header.specs.declared.fault.HeaderFault.{HeaderFault}
 use Rattle.aeth_header.specs.declared.header.Header.{Header}
-use Rattle.aeth_ni.specs.Queue.{QueueState, words_of, landed}
-use Rattle.aeth_ni.specs.Sending.{emitted, sent}
+use Rattle.aeth_ni.specs.Queue.{QueueState, words_in, flit_landed}
+use Rattle.aeth_ni.specs.Sending.{emitted, flit_sent}
 use Rattle.aeth_ni.specs.Interface.{InterfaceState, queue_at, with_queue}
 
 -- The queue that injects in a cycle, if one does.
-abbrev pub entry_at : List (Option ℕ) → ℕ → Option ℕ
-entry_at entries cycle = slice_index_or entries (cycle % length entries) None
+abbrev pub queue_at_cycle : List (Option ℕ) → ℕ → Option ℕ
+queue_at_cycle entries cycle = slice_index_or entries (cycle % length entries) None
 
 -- What the queue of an entry emits.
 abbrev pub emitted_by : Option ℕ → List QueueState → Option Flit
@@ -28,9 +28,9 @@ emitted_by None queues = None
 emitted_by (Some queue) queues = emitted (queue_at queues queue)
 
 -- The queues behind it.
-abbrev pub sent_by : Option ℕ → List QueueState → List QueueState
-sent_by None queues = queues
-sent_by (Some queue) queues = with_queue queue sent queues
+abbrev pub flit_sent_by : Option ℕ → List QueueState → List QueueState
+flit_sent_by None queues = queues
+flit_sent_by (Some queue) queues = with_queue queue flit_sent queues
 
 -- What a flit brings: its header and its words.
 pub record Arrival : Type 0 where
@@ -39,7 +39,7 @@ pub record Arrival : Type 0 where
 
 -- What comes by a flit whose word has this header.
 abbrev pub arrival_by : Flit → Result Header HeaderFault → Option Arrival
-arrival_by flit (Ok header) = Some (record { header = header; words = words_of header flit })
+arrival_by flit (Ok header) = Some (record { header = header; words = words_in header flit })
 arrival_by flit (Err fault) = None
 
 -- What a link brings: nothing where it is empty, or where the header has a payload count of 3.
@@ -51,7 +51,7 @@ arrival_of (Some flit) = arrival_by flit (header_of flit.header)
 abbrev pub landed_at : Option Arrival → List QueueState → List QueueState
 landed_at None queues = queues
 landed_at (Some arrival) queues =
-    with_queue arrival.header.queue (landed arrival.header.credits arrival.words) queues
+    with_queue arrival.header.queue (flit_landed arrival.header.credits arrival.words) queues
 
 -- The queue and the word count of what has come.
 abbrev pub last_of : Option Arrival → Option (ℕ × ℕ)
@@ -75,11 +75,11 @@ interface_inputs ni link = ni.entering.0 == link
 
 -- It emits what the queue sends that the cycle's slot names.
 abbrev pub interface_emit : InterfaceState → ℕ → ℕ → Option Flit
-interface_emit ni cycle link = emitted_by (entry_at ni.entries cycle) ni.queues
+interface_emit ni cycle link = emitted_by (queue_at_cycle ni.entries cycle) ni.queues
 
 -- The interface behind that.
 abbrev pub interface_after : InterfaceState → ℕ → InterfaceState
-interface_after ni cycle = record ni { queues = sent_by (entry_at ni.entries cycle) ni.queues }
+interface_after ni cycle = record ni { queues = flit_sent_by (queue_at_cycle ni.entries cycle) ni.queues }
 
 -- The interface once it has latched these wires.
 abbrev pub interface_absorb : InterfaceState → List (Option Flit) → InterfaceState

@@ -35,8 +35,8 @@ pub record Entry : Type 0 where
   pub queue : ℕ
 
 -- The entries of one channel.
-abbrev pub entries_of : ChannelRow → List Entry
-entries_of row =
+abbrev pub entries_of_channel : ChannelRow → List Entry
+entries_of_channel row =
     map (λ slot. record { ni = row.ni; slot = slot; queue = row.queue }) row.slots.slots
 
 -- The entries but that of one slot of one interface.
@@ -56,4 +56,4 @@ entries_behind entries (SetRoute ni queue route remote credits) = entries
 -- hold those of these channels.
 abbrev pub entries_after : List ChannelRow → List Write → ℕ → List Entry
 entries_after held program count =
-    fold entries_behind (flat_map entries_of held) (take count program)
+    fold entries_behind (flat_map entries_of_channel held) (take count program)

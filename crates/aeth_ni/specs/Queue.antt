@@ -2,10 +2,10 @@
 --
 --   QueueState, IsRoute, IsQueue   the state, and what holds of every one
 --   empty_queue                    the state at first
---   offered, taken, finished       what `offer`, `take` and `finish` make of a state
+--   offered, word_taken, finished       what `offer`, `take` and `finish` make of a state
 --   stopped                        what `halt` makes of it
 --   with_route, without_route      what the writes of a route make of it
---   words_of, landed               what a flit has, and the state once that has come
+--   words_in, flit_landed               what a flit has, and the state once that has come
 --
 -- Source and receive queues, and credits that ride in headers: after Æthereal (2005). The sizes
 -- are this project's own.
@@ -62,8 +62,8 @@ abbrev pub offered : ℕ → QueueState → QueueState
 offered word queue = record queue { waiting = queue.waiting ++ word ∷ [] }
 
 -- The oldest received word is taken, and one credit more is owed; nothing where none is held.
-abbrev pub taken : QueueState → QueueState
-taken queue =
+abbrev pub word_taken : QueueState → QueueState
+word_taken queue =
     if length queue.received == 0 then queue
     else record queue { received = drop 1 queue.received; owed = capped (queue.owed + 1) }
 
@@ -85,12 +85,12 @@ abbrev pub finished : QueueState → QueueState
 finished queue = record queue { waiting = []; received = []; counter = 0; owed = 0 }
 
 -- The words of a flit with this header.
-abbrev pub words_of : Header → Flit → List ℕ
-words_of header flit = take header.count (flit.first ∷ flit.second ∷ [])
+abbrev pub words_in : Header → Flit → List ℕ
+words_in header flit = take header.count (flit.first ∷ flit.second ∷ [])
 
 -- The words and credits have come: of the words the newest stay that there is room for.
-abbrev pub landed : ℕ → List ℕ → QueueState → QueueState
-landed credits words queue = record queue {
+abbrev pub flit_landed : ℕ → List ℕ → QueueState → QueueState
+flit_landed credits words queue = record queue {
   received = keep_last queue.room (queue.received ++ words);
   counter = capped (queue.counter + credits);
 }

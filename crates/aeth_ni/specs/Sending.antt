@@ -3,7 +3,7 @@
 --   words_sent, credits_sent       how many words and credits a flit takes
 --   next_header, next_words        what the next flit has
 --   next_flit, behind_flit         that flit, and the state behind it
---   sending, emitted, sent         the route, the flit and the state in a slot of the queue's own
+--   sending, emitted, flit_sent         the route, the flit and the state in a slot of the queue's own
 --
 -- Words that a counter lets go, and credits that ride in headers: after Æthereal (2005).
 use Rattle.std.specs.Prelude.{ℕ, ◌-◌, min, ◌==◌, ◌&&◌, ◌||◌, Bool, if◌then◌else◌}
@@ -67,5 +67,5 @@ behind_flit queue = record queue {
 }
 
 -- What is left behind a slot of the queue's own.
-abbrev pub sent : QueueState → QueueState
-sent queue = if is_some (sending queue) then behind_flit queue else queue
+abbrev pub flit_sent : QueueState → QueueState
+flit_sent queue = if is_some (sending queue) then behind_flit queue else queue

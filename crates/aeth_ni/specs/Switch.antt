@@ -3,11 +3,11 @@
 use Rattle.std.specs.Prelude.{◌≡◌, ◌⊎◌, List, Contains}
 use Rattle.std.specs.List.{flat_map}
 use Rattle.aeth_ni.specs.declared.row.ChannelRow.{ChannelRow}
-use Rattle.aeth_ni.specs.Program.{Entry, entries_of}
+use Rattle.aeth_ni.specs.Program.{Entry, entries_of_channel}
 
 -- The entries of these channels.
 abbrev pub entries_in : List ChannelRow → List Entry
-entries_in rows = flat_map entries_of rows
+entries_in rows = flat_map entries_of_channel rows
 
 -- Two entries are of one slot of one interface.
 abbrev pub IsSameSlot : Entry → Entry → Type 0

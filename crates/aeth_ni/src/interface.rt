@@ -4,9 +4,9 @@ ghost use Rattle.std.specs.Prelude.{◌≡◌, ◌<◌, ◌≤◌, ◌↔◌, le
 ghost use Rattle.std.specs.Bool.{IsFalse, OnTrue, OnFalse};
 ghost use Rattle.std.proofs.Common.{refl};
 ghost use Rattle.aeth_ni.specs.Limits.{queues_of_interface, waiting_words};
-ghost use Rattle.aeth_ni.specs.Queue.{empty_queue, offered, taken, finished, stopped};
+ghost use Rattle.aeth_ni.specs.Queue.{empty_queue, offered, word_taken, finished, stopped};
 ghost use Rattle.aeth_ni.specs.Interface.{IsInterface, queue_at, changed, new_interface};
-ghost use Rattle.aeth_ni.specs.Component.{emitted_by, sent_by, arrival_of, landed_at, last_of};
+ghost use Rattle.aeth_ni.specs.Component.{emitted_by, flit_sent_by, arrival_of, landed_at, last_of};
 ghost use Rattle.aeth_ni.specs.Component.{interface_outputs, interface_inputs, interface_emit};
 ghost use Rattle.aeth_ni.specs.Component.{interface_after, interface_absorb};
 ghost use Rattle.aeth_ni.specs.Agreement.{interface_absorb-agrees};
@@ -104,7 +104,7 @@ impl Ni {
     pub fn take(&mut self, queue: u8) -> Option<u32>
         requires { queue < queues_of_interface }
         ensures word { result ≡ slice_get (queue_at self.old.queues queue).received 0 }
-        ensures taken { self.new ≡ changed queue taken self.old }
+        ensures taken { self.new ≡ changed queue word_taken self.old }
         ensures interface { IsInterface self.old.entries self.old.queues }
     {
         let queue = &mut self.queues[queue as usize];
@@ -220,7 +220,7 @@ fn empty_queues(alloc: Global, rooms: &[u32]) -> Result<Vec<Queue>, NoMemory>
 fn emit_by(queues: &mut [Queue], entry: Option<u8>) -> Option<Flit>
     requires { IfSome entry (λ queue. queue < length queues.old) }
     ensures flit { result ≡ emitted_by entry queues.old }
-    ensures queues { queues.new ≡ sent_by entry queues.old }
+    ensures queues { queues.new ≡ flit_sent_by entry queues.old }
 {
     let queue = &mut queues[entry? as usize];
     queue.emit()

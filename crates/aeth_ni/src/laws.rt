@@ -7,7 +7,7 @@ ghost use Rattle.aeth_ni.specs.declared.write.Write.{Write};
 ghost use Rattle.aeth_ni.specs.Entries.{Holds, HoldJust, IsFor};
 ghost use Rattle.aeth_ni.specs.Interface.{InterfaceState};
 ghost use Rattle.aeth_ni.specs.Program.{Entry, closing_writes, entries_after, entries_behind};
-ghost use Rattle.aeth_ni.specs.Program.{entries_of, program_of};
+ghost use Rattle.aeth_ni.specs.Program.{entries_of_channel, program_of};
 ghost use Rattle.aeth_ni.specs.Switch.{AreSlotsApart, IsSwitch, entries_in};
 ghost use Rattle.aeth_ni.specs.Writes.{addressee, IsWritable, written, written_by};
 
@@ -27,7 +27,7 @@ pub fn writes_change_entries()
 pub fn interfaces_hold_their_entries()
     ensures { (interfaces : List InterfaceState) (held : List ChannelRow) (program : List Write)
         (count : ℕ) → All (IsFor interfaces) program
-        → HoldJust interfaces (flat_map entries_of held)
+        → HoldJust interfaces (flat_map entries_of_channel held)
         → HoldJust (written_by (take count program) interfaces) (entries_after held program count) }
 {}
 

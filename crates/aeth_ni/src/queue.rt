@@ -6,9 +6,9 @@ ghost use Rattle.std.specs.Bool.{IsFalse, OnTrue, OnFalse};
 ghost use Rattle.circular_buffer.specs.Buffer.{buffer};
 ghost use Rattle.aeth_base.specs.Limits.{words_per_flit};
 ghost use Rattle.aeth_ni.specs.Limits.{waiting_words};
-ghost use Rattle.aeth_ni.specs.Queue.{IsRoute, empty_queue, offered, taken, finished};
-ghost use Rattle.aeth_ni.specs.Queue.{landed, words_of, stopped, without_route, with_route};
-ghost use Rattle.aeth_ni.specs.Sending.{emitted, sent};
+ghost use Rattle.aeth_ni.specs.Queue.{IsRoute, empty_queue, offered, word_taken, finished};
+ghost use Rattle.aeth_ni.specs.Queue.{flit_landed, words_in, stopped, without_route, with_route};
+ghost use Rattle.aeth_ni.specs.Sending.{emitted, flit_sent};
 
 use aeth_base::{CREDITS_PER_FLIT, NoMemory, WORDS_PER_FLIT};
 use aeth_clocked::Flit;
@@ -93,7 +93,7 @@ impl Queue {
     /// Takes the oldest word that was received.
     pub(crate) fn take(&mut self) -> Option<u32>
         ensures word { result ≡ slice_get self.old.received 0 }
-        ensures queue { self.new ≡ taken self.old }
+        ensures queue { self.new ≡ word_taken self.old }
     {
         let word = self.received.pop_front()?;
         self.owed = self.owed.saturating_add(1);
@@ -137,7 +137,7 @@ impl Queue {
     /// Takes out what the queue sends in a slot of its own.
     pub(crate) fn emit(&mut self) -> Option<Flit>
         ensures flit { result ≡ emitted self.old }
-        ensures queue { self.new ≡ sent self.old }
+        ensures queue { self.new ≡ flit_sent self.old }
     {
         if self.halted {
             return None;
@@ -169,7 +169,7 @@ impl Queue {
     /// adds its credits to the counter.
     pub(crate) fn land(&mut self, header: &Header, flit: &Flit)
         requires { header.now.count ≤ words_per_flit }
-        ensures { self.new ≡ landed header.now.credits (words_of header.now flit.now) self.old }
+        ensures { self.new ≡ flit_landed header.now.credits (words_in header.now flit.now) self.old }
     {
         let words = [flit.first, flit.second];
         self.received

@@ -14,22 +14,22 @@ use Rattle.aeth_chip.specs.declared.node.Link.{Link}
 use Rattle.aeth_chip.specs.Nodes.{numbers_from}
 use Rattle.aeth_chip.proofs.NodeLemmas.{numbers_from-at}
 use Rattle.aeth_clocked.specs.Wires.{AreLinks}
-use Rattle.aeth_router.specs.Router.{AreApart, is_among}
+use Rattle.aeth_router.specs.Router.{AreDistinctLinks, is_among}
 
 -- A link before all others is apart from them.
-AreApart-cons : (first : ℕ) (others : List ℕ)
-    → ((i link : ℕ) → slice_get others i ≡ Some link → first < link) → AreApart others
-    → AreApart (first ∷ others)
-AreApart-cons first others above apart zero zero link at there = refl
-AreApart-cons first others above apart zero (suc j) link at there =
+AreDistinctLinks-cons : (first : ℕ) (others : List ℕ)
+    → ((i link : ℕ) → slice_get others i ≡ Some link → first < link) → AreDistinctLinks others
+    → AreDistinctLinks (first ∷ others)
+AreDistinctLinks-cons first others above apart zero zero link at there = refl
+AreDistinctLinks-cons first others above apart zero (suc j) link at there =
     let same : first ≡ link = same_Some first link at in
     let below = above j link there in
     absurd (omega arith)
-AreApart-cons first others above apart (suc i) zero link at there =
+AreDistinctLinks-cons first others above apart (suc i) zero link at there =
     let same : first ≡ link = same_Some first link there in
     let below = above i link at in
     absurd (omega arith)
-AreApart-cons first others above apart (suc i) (suc j) link at there =
+AreDistinctLinks-cons first others above apart (suc i) (suc j) link at there =
     ap (λ (n : ℕ). suc n) (apart i j link at there)
 
 -- Where all others come after the first link, each is the first or comes after it.
@@ -58,15 +58,15 @@ numbers_from-least number test (first ∷ links) i link at =
     ]
 
 -- They are apart. So the links on which a node sends are, and those on which it receives.
-pub AreApart-numbers_from : (number : ℕ) (test : Link → Bool) (links : List Link)
-    → AreApart (numbers_from number test links)
-AreApart-numbers_from number test [] = λ i j link at there. absurd (cc at)
-AreApart-numbers_from number test (first ∷ links) =
+pub AreDistinctLinks-numbers_from : (number : ℕ) (test : Link → Bool) (links : List Link)
+    → AreDistinctLinks (numbers_from number test links)
+AreDistinctLinks-numbers_from number test [] = λ i j link at there. absurd (cc at)
+AreDistinctLinks-numbers_from number test (first ∷ links) =
     let others = numbers_from (number + 1) test links in
-    let rest = AreApart-numbers_from (number + 1) test links in
+    let rest = AreDistinctLinks-numbers_from (number + 1) test links in
     elim (cases_Bool (test first)) [
       | inl passes ↦
-          rw passes (AreApart-cons number others (λ j other there.
+          rw passes (AreDistinctLinks-cons number others (λ j other there.
           let below = numbers_from-least (number + 1) test links j other there in omega arith)
           rest)
       | inr fails ↦ rw fails rest
@@ -127,7 +127,7 @@ AreLinks-numbers_from test links number is =
     slice_get_within links number found.0 found.1
 
 -- The port of a link is its place among the links on which a router sends.
-pub position-at : (links : List ℕ) (port link : ℕ) → AreApart links
+pub position-at : (links : List ℕ) (port link : ℕ) → AreDistinctLinks links
     → slice_get links port ≡ Some link → position (λ other. other == link) links ≡ Some port
 position-at links port link apart at =
     let within = slice_get_within links port link at in

@@ -5,7 +5,7 @@ use Rattle.std.specs.Prelude.{unwrap_or}
 use Rattle.std.proofs.lemmas.Option.{slice_get-map}
 use Rattle.aeth_clocked.specs.declared.flit.Flit.{Flit}
 use Rattle.aeth_router.specs.Ports.{flits_for, sole}
-use Rattle.aeth_router.specs.Router.{AreApart, RouterState, absorbed, emitted_on}
+use Rattle.aeth_router.specs.Router.{AreDistinctLinks, RouterState, absorbed, emitted_on}
 use Rattle.aeth_clocked.specs.Wires.{flit_on}
 use Rattle.aeth_router.proofs.LinkLemmas.{position-at}
 use Rattle.aeth_router.proofs.PortLemmas.{Alone, Alone-from_sole, Names, flits_for-none}
@@ -13,12 +13,12 @@ use Rattle.aeth_router.proofs.PortLemmas.{sole-contended, sole-from_Alone}
 
 -- A link has what its port carries.
 pub emitted_on-port : (outgoing : List ℕ) (held : List (Option Flit)) (port link : ℕ)
-    → AreApart outgoing → slice_get outgoing port ≡ Some link
+    → AreDistinctLinks outgoing → slice_get outgoing port ≡ Some link
     → emitted_on outgoing held link ≡ sole (flits_for port held)
 emitted_on-port outgoing held port link apart at = rw (position-at outgoing port link apart at) refl
 
 module _ (outgoing : List ℕ) (held : List (Option Flit)) (port link : ℕ)
-    (apart : AreApart outgoing) (at : slice_get outgoing port ≡ Some link) where
+    (apart : AreDistinctLinks outgoing) (at : slice_get outgoing port ≡ Some link) where
   -- A flit that alone names the port leaves there, behind its hop.
   pub emitted_on-alone : (sent : Flit) → Alone port held sent
       → emitted_on outgoing held link ≡ Some sent

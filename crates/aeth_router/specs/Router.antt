@@ -29,14 +29,14 @@ pub record RouterState : Type 0 where
   pub held : List (Option Flit)
 
 -- No link stands at two places of the list.
-abbrev pub AreApart : List ℕ → Type 0
-AreApart links = (i j link : ℕ) → slice_get links i ≡ Some link → slice_get links j ≡ Some link
+abbrev pub AreDistinctLinks : List ℕ → Type 0
+AreDistinctLinks links = (i j link : ℕ) → slice_get links i ≡ Some link → slice_get links j ≡ Some link
     → i ≡ j
 
 -- What holds of every router.
 pub record IsRouter (router : RouterState) : Type 0 where
   pub places : length router.held ≡ length router.incoming
-  pub apart : AreApart router.outgoing
+  pub apart : AreDistinctLinks router.outgoing
 
 -- The numbers of links.
 abbrev pub numbers_of : List LinkId → List ℕ

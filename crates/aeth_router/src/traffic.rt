@@ -4,7 +4,7 @@ ghost use Rattle.std.specs.Prelude.{◌≡◌, ◌++◌, ◌∷◌, [], List, Op
 ghost use Rattle.aeth_clocked.specs.Wires.{AreLinks, Drives};
 ghost use Rattle.aeth_clocked.specs.declared.flit.Flit.{Flit};
 ghost use Rattle.aeth_router.specs.Ports.{flits_for, sole};
-ghost use Rattle.aeth_router.specs.Router.{AreApart, emitted_on, is_among, numbers_of};
+ghost use Rattle.aeth_router.specs.Router.{AreDistinctLinks, emitted_on, is_among, numbers_of};
 ghost use Rattle.aeth_router.specs.Traffic.{IsTraffic, named_ports, traffic_of};
 
 use aeth_base::LinkId;
@@ -49,7 +49,7 @@ impl Traffic {
 /// Puts on each outgoing link the one flit that names its port, behind its hop.
 pub(crate) fn emit(outgoing: &[LinkId], held: &[Option<Flit>], wires: &mut Wires)
     requires links { AreLinks (is_among (numbers_of outgoing.now)) (length wires.old) }
-    requires apart { AreApart (numbers_of outgoing.now) }
+    requires apart { AreDistinctLinks (numbers_of outgoing.now) }
     ensures { Drives
         (is_among (numbers_of outgoing.now))
         (emitted_on (numbers_of outgoing.now) held.now)

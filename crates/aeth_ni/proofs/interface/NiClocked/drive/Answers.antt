@@ -1,7 +1,7 @@
 use Rattle.std.proofs.Common.{◌≡◌, ◌%◌, ◌∙◌, ap, length, None, refl, arith}
 use Rattle.std.proofs.lemmas.List.{get_or_default}
 use Rattle.aeth_clocked.proofs.WiresLemmas.{AreLinks-one, Drives-slice_set}
-use Rattle.aeth_ni.specs.Component.{entry_at, emitted_by}
+use Rattle.aeth_ni.specs.Component.{queue_at_cycle, emitted_by}
 use Rattle.aeth_ni.specs.Interface.{InterfaceState}
 use Rattle.aeth_ni.proofs.interface.NiClocked.drive.Goals as goal
 
@@ -23,13 +23,13 @@ returns-clause-wires c =
     ap (λ (ni : InterfaceState). ni.queues) c.self.view_is in
     let items = c.self.inside.entries.items in
     let positive = c.self.invariant.some_slot in
-    let entry : c.index-entry.result.now ≡ entry_at items c.args.cycle =
+    let entry : c.index-entry.result.now ≡ queue_at_cycle items c.args.cycle =
     c.index-entry.ensures
     ∙ rw (c.len.ensures, c.self.inside.entries.ok.0)
     (get_or_default items (c.args.cycle % length items) _ None (omega arith)) in
-    let flit : c.emit_by-flit.result ≡ emitted_by (entry_at ni.entries c.args.cycle) ni.queues =
+    let flit : c.emit_by-flit.result ≡ emitted_by (queue_at_cycle ni.entries c.args.cycle) ni.queues =
     c.emit_by-flit.ensures.flit ∙ rw (entry, c.deref_mut.ensures.value, entries, queues) refl in
     rw (c.put.ensures, leaving, flit)
     (Drives-slice_set ni.leaving.0
-    (λ link. emitted_by (entry_at ni.entries c.args.cycle) ni.queues) c.args.wires.now
+    (λ link. emitted_by (queue_at_cycle ni.entries c.args.cycle) ni.queues) c.args.wires.now
     (AreLinks-one ni.leaving.0 (length c.args.wires.now) c.requires))

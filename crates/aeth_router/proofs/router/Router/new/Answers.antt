@@ -3,7 +3,7 @@ use Rattle.std.proofs.lemmas.List.{length-map}
 use Rattle.aeth_base.specs.declared.ids.LinkId.{LinkId}
 use Rattle.aeth_chip.specs.declared.node.Node.TheVariants.{Router}
 use Rattle.aeth_chip.specs.Nodes.{begins_at, ends_at}
-use Rattle.aeth_router.proofs.LinkLemmas.{AreApart-numbers_from, AreLinks-numbers_from}
+use Rattle.aeth_router.proofs.LinkLemmas.{AreDistinctLinks-numbers_from, AreLinks-numbers_from}
 use Rattle.aeth_router.proofs.router.Router.new.Goals as goal
 
 -- The links on which a router receives are links of the chip.
@@ -25,5 +25,5 @@ invariant_of-result c =
       places = (let same : length held.items ≡ length incoming.items = omega arith in same)
           ∙ sym (length-map incoming.items (λ (link : LinkId). link.0));
       apart = rw c.in_ok-outgoing.ensures
-          (AreApart-numbers_from 0 (begins_at (Router c.args.router)) c.args.chip.now.links);
+          (AreDistinctLinks-numbers_from 0 (begins_at (Router c.args.router)) c.args.chip.now.links);
     }
