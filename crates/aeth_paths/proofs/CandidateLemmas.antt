@@ -90,7 +90,8 @@ offered-candidate book ask from to crowded path found offered same begins ends s
           }));
       path = subst (λ (a : NiId). IsAdmissible book.links ask.detour a found.to found.path)
           (sym begins)
-          (subst (λ (b : NiId). IsAdmissible book.links ask.detour offered.0 b found.path) (sym ends)
+          (subst (λ (b : NiId). IsAdmissible book.links ask.detour offered.0 b found.path)
+          (sym ends)
           (subst (IsAdmissible book.links ask.detour offered.0 offered.2.0) (sym same)
           is.admissible));
       slots = ap (slots_of book ask) same ∙ slots;

@@ -1,90 +1,69 @@
 -- The ends of a path, and the slots that go with it.
 use Rattle.std.proofs.Common.{◌≡◌, ◌∙◌, ◌-◌, ◌<◌, ◌≤◌, ◌&&◌, ℕ, suc, List, []}
-use Rattle.std.proofs.Common.{◌∷◌, length, max, filter, leb, All, Some, slice_get, sym, refl, ap}
+use Rattle.std.proofs.Common.{◌∷◌, length, max, filter, leb, All, Some, slice_get, sym, ap}
 use Rattle.std.proofs.Common.{subst, arith, get_or}
 use Rattle.std.proofs.lemmas.Bool.{and_from, and_parts, le-leb, leb-true}
-use Rattle.std.proofs.lemmas.List.Elements.{All-cons}
+use Rattle.std.proofs.lemmas.List.Elements.{Contains-get_or}
 use Rattle.std.proofs.lemmas.List.Sums.{sum_by-cons}
 use Rattle.std.proofs.lemmas.Option.{same_Some, slice_get-get_or, slice_get_within}
 use Rattle.aeth_base.specs.declared.ids.LinkId.{LinkId}
 use Rattle.aeth_base.specs.declared.ids.NiId.{NiId}
-use Rattle.aeth_base.specs.declared.ids.RouterId.{RouterId}
 use Rattle.aeth_chip.specs.declared.node.Link.{Link}
 use Rattle.aeth_chip.specs.declared.node.Node.{Node}
 use Rattle.aeth_chip.specs.declared.node.Node.TheVariants.{Ni, Router}
 use Rattle.aeth_chip.specs.Chip.{ChipData, IsChip, IsNode}
-use Rattle.aeth_chip.specs.Paths.{IsLinkFrom, IsPath, Joins, delay_in, delay_of, path_delay}
+use Rattle.aeth_chip.specs.Joined.{end_of}
+use Rattle.aeth_chip.specs.Paths.{BeginsAt, IsPath, delay_in, delay_of, path_delay, to_of}
+use Rattle.aeth_chip.proofs.JoinedLaws.{end_of-ends, joined-each, joins-length}
 use Rattle.aeth_slots.specs.SlotSet.{Slots, gap_of}
 use Rattle.aeth_group.proofs.ListLemmas.{same_tests}
 use Rattle.aeth_slots.specs.Choice.{choice_order, chosen, first_by, is_suitable, subsets}
 
--- A link of a chip is below their number.
-link-inside : (links : List Link) (link : LinkId) (from to : Node) → IsLinkFrom links link from to
-    → link.0 < length links
-link-inside links link from to is = slice_get_within links link.0 is.link is.is
-
--- All links of a joined list are links of the chip.
-pub joins-all : (links : List Link) (node : Node) (routers : List RouterId) (goal : Node)
-    (path : List LinkId) → Joins links node routers goal path
+-- All links of a path are links of the chip.
+pub path-all : (links : List Link) (a b : NiId) (path : List LinkId) → IsPath links a b path
     → All (λ (link : LinkId). link.0 < length links) path
-joins-all links node [] goal [] joins = absurd joins
-joins-all links node [] goal (link ∷ []) joins =
-    All-cons (λ (l : LinkId). l.0 < length links) link [] (link-inside links link node goal joins)
-    (λ i d below. absurd (omega (arith, below)))
-joins-all links node [] goal (link ∷ next ∷ path) joins = absurd joins
-joins-all links node (r ∷ routers) goal [] joins = absurd joins
-joins-all links node (r ∷ routers) goal (link ∷ path) (is, joins) =
-    All-cons (λ (l : LinkId). l.0 < length links) link path
-    (link-inside links link node (Router r) is)
-    (joins-all links (Router r) routers goal path joins)
+path-all links a b path is i d within =
+    let (from, goes) = joined-each (BeginsAt links) (to_of links) (Ni a) path is.joins.joined
+    (get_or path i d) (Contains-get_or path i d within) in
+    slice_get_within links _ goes.link goes.is
 
--- A joined list has a link.
-pub joins-some : (links : List Link) (node : Node) (routers : List RouterId) (goal : Node)
-    (path : List LinkId) → Joins links node routers goal path → 1 ≤ length path
-joins-some links node [] goal [] joins = absurd joins
-joins-some links node (r ∷ routers) goal [] joins = absurd joins
-joins-some links node routers goal (link ∷ path) joins = omega arith
+-- A path has a link.
+pub path-some : (links : List Link) (a b : NiId) (path : List LinkId) → IsPath links a b path
+    → 1 ≤ length path
+path-some links a b path is =
+    omega (arith, joins-length links (Ni a) is.routers (Ni b) path is.joins)
 
--- The first link begins at the node.
-pub joins-first : (links : List Link) (node : Node) (routers : List RouterId) (goal : Node)
-    (path : List LinkId) (first : LinkId) → Joins links node routers goal path
-    → slice_get path 0 ≡ Some first → (to : Node) × IsLinkFrom links first node to
-joins-first links node [] goal [] first joins at = absurd joins
-joins-first links node [] goal (link ∷ []) first joins at =
-    (goal, subst (λ (l : LinkId). IsLinkFrom links l node goal) (same_Some link first at) joins)
-joins-first links node [] goal (link ∷ next ∷ path) first joins at = absurd joins
-joins-first links node (r ∷ routers) goal [] first joins at = absurd joins
-joins-first links node (r ∷ routers) goal (link ∷ path) first (is, joins) at = (
-  Router r,
-  subst (λ (l : LinkId). IsLinkFrom links l node (Router r)) (same_Some link first at) is,
-)
+-- The first link begins at its first interface.
+pub path-first : (links : List Link) (a b : NiId) (path : List LinkId) (first : LinkId)
+    → IsPath links a b path → slice_get path 0 ≡ Some first → BeginsAt links first (Ni a)
+path-first links a b [] first is at = absurd (cc at)
+path-first links a b (link ∷ path) first is at =
+    subst (λ (l : LinkId). BeginsAt links l (Ni a)) (same_Some link first at) is.joins.joined.0
 
--- The last link ends at the goal.
-pub joins-last : (links : List Link) (node : Node) (routers : List RouterId) (goal : Node)
-    (path : List LinkId) (last : LinkId) → Joins links node routers goal path
-    → slice_get path (length path - 1) ≡ Some last → (from : Node) × IsLinkFrom links last from goal
-joins-last links node [] goal [] last joins at = absurd joins
-joins-last links node [] goal (link ∷ []) last joins at =
-    (node, subst (λ (l : LinkId). IsLinkFrom links l node goal) (same_Some link last at) joins)
-joins-last links node [] goal (link ∷ next ∷ path) last joins at = absurd joins
-joins-last links node (r ∷ routers) goal [] last joins at = absurd joins
-joins-last links node (r ∷ []) goal (link ∷ []) last (is, joins) at = absurd joins
-joins-last links node (r ∷ q ∷ routers) goal (link ∷ []) last (is, joins) at = absurd joins
-joins-last links node (r ∷ routers) goal (link ∷ next ∷ path) last (is, joins) at =
+end_of-last : (to : LinkId → Node) (a : Node) (path : List LinkId) (last : LinkId)
+    → slice_get path (length path - 1) ≡ Some last → end_of to a path ≡ to last
+end_of-last to a [] last at = absurd (cc at)
+end_of-last to a (link ∷ []) last at = ap to (same_Some link last at)
+end_of-last to a (link ∷ next ∷ path) last at =
     let place : length (link ∷ next ∷ path) - 1 ≡ suc (length (next ∷ path) - 1) = omega arith in
-    joins-last links (Router r) routers goal (next ∷ path) last joins
+    end_of-last to (to link) (next ∷ path) last
     (sym (ap (slice_get (link ∷ next ∷ path)) place) ∙ at)
+
+-- The last link ends at its last.
+pub path-last : (links : List Link) (a b : NiId) (path : List LinkId) (last : LinkId)
+    → IsPath links a b path → slice_get path (length path - 1) ≡ Some last
+    → to_of links last ≡ Ni b
+path-last links a b path last is at =
+    sym (end_of-last (to_of links) (Ni a) path last at)
+    ∙ end_of-ends (to_of links) (Ni a) path _ (Ni b) is.joins.ends
 
 -- A path begins at an interface of the chip.
 pub from-inside : (chip : ChipData) (a b : NiId) (path : List LinkId) → IsChip chip
     → IsPath chip.links a b path → a.0 < length chip.nis
-from-inside chip a b [] is is_path =
-    absurd (omega (arith, joins-some chip.links (Ni a) is_path.routers (Ni b) [] is_path.joins))
+from-inside chip a b [] is is_path = absurd (omega (arith, path-some chip.links a b [] is_path))
 from-inside chip a b (link ∷ path) is is_path =
-    let first = joins-first chip.links (Ni a) is_path.routers (Ni b) (link ∷ path) link
-    is_path.joins refl in
-    subst (IsNode chip.routers chip.nis) first.1.begins
-    (is.links link.0 first.1.link first.1.is).from
+    let first = is_path.joins.joined.0 in
+    subst (IsNode chip.routers chip.nis) first.begins (is.links link.0 first.link first.is).from
 
 -- Some link.
 abbrev zero-link : LinkId → Link

@@ -86,7 +86,8 @@ first_from-kept f (Some best) (path ∷ paths) =
       | false ↦ λ is. first_from-kept f (Some best) paths
     ] in
     let go : (v : Bool) → NotBeaten f.cost (Some best)
-    (first_from f (cond v (cond (is_better f path best) (Some path) (Some best)) (Some best)) paths) =
+    (first_from f (cond v (cond (is_better f path best) (Some path) (Some best)) (Some best))
+    paths) =
     elim [
       | true ↦ won (is_better f path best) refl
       | false ↦ first_from-kept f (Some best) paths
@@ -166,7 +167,8 @@ first_from-least f best (first ∷ paths) path has fits = elim (Contains-cases f
       let kept : keep f best first ≡ better f best first =
       cond-true (is_candidate f first) (better f best first) best
       (ap (is_candidate f) same ∙ fits) in
-      subst (λ (p : List LinkId). NotBeaten f.cost (Some p) (first_from f (keep f best first) paths)) same
+      subst
+      (λ (p : List LinkId). NotBeaten f.cost (Some p) (first_from f (keep f best first) paths)) same
       (subst (λ (o : Option (List LinkId)). NotBeaten f.cost (Some first) (first_from f o paths))
       (sym kept) (here best))
 ]

@@ -1,11 +1,13 @@
 -- The three causes for which a list is given up: no path that goes on from it changes the best.
 use Rattle.std.proofs.Common.{◌≡◌, ◌+◌, ◌<◌, ◌≤◌, ◌++◌, ℕ, Bool, true, false, cond, leb}
-use Rattle.std.proofs.Common.{List, [], ◌∷◌, length, Contains, Option, Some, sym, refl, subst, arith}
+use Rattle.std.proofs.Common.{List, [], ◌∷◌, length, Contains, Option, Some, sym, refl, subst}
+use Rattle.std.proofs.Common.{arith}
 use Rattle.std.proofs.Common.{length-append}
 use Rattle.std.specs.Prelude.{sum_by}
 use Rattle.std.proofs.lemmas.Bool.{and_left, and_right, cond-false, le-ltb, lt-leb, ne_eqb}
 use Rattle.std.proofs.lemmas.List.Sums.{sum_by-append, sum_by-cons}
 use Rattle.aeth_base.specs.declared.ids.LinkId.{LinkId}
+use Rattle.aeth_chip.specs.Joined.{IsJoined}
 use Rattle.aeth_chip.specs.declared.node.Node.{Node}
 use Rattle.aeth_paths.specs.Search.{Field, Walks, better, completions, is_better}
 use Rattle.aeth_paths.specs.Search.{is_candidate, keep}
@@ -50,18 +52,17 @@ module _ (f : Field) (best : Option (List LinkId)) (node : Node) (path : List Li
       (lt-leb (length (path ++ rest)) f.most
       (omega (arith, length-append path rest, near rest walks)))))
 
--- A list of links costs at least as much as it has links.
-cost-length : (f : Field) (node : Node) (path rest : List LinkId) → AllCost f
-    → Walks f node path rest → length rest ≤ sum_by f.cost rest
-cost-length f node path [] costs walks = absurd walks
-cost-length f node path (link ∷ []) costs (has, ends) =
-    omega (arith, costs node link has, sum_by-cons f.cost link [])
-cost-length f node path (link ∷ next ∷ rest) costs (has, new, walks) =
+-- Links that leave nodes cost at least as much as they are.
+cost-length : (f : Field) (node : Node) (rest : List LinkId) → AllCost f
+    → IsJoined (λ link from. Contains (f.leaving from) link) f.to node rest
+    → length rest ≤ sum_by f.cost rest
+cost-length f node [] costs joined = omega arith
+cost-length f node (link ∷ rest) costs (has, joined) =
     omega (
       arith,
       costs node link has,
-      sum_by-cons f.cost link (next ∷ rest),
-      cost-length f (f.to link) (path ++ link ∷ []) (next ∷ rest) costs walks,
+      sum_by-cons f.cost link rest,
+      cost-length f (f.to link) rest costs joined,
     )
 
 -- A path that costs more doesn't come before.
@@ -84,7 +85,7 @@ dear-none f best node path more costs near dear =
       arith,
       sum_by-append f.cost path rest,
       near rest walks,
-      cost-length f node path rest costs walks,
+      cost-length f node rest costs walks.joined,
     )) in
     let go : (b : Bool)
     → cond b (cond (is_better f (path ++ rest) best) (Some (path ++ rest)) (Some best)) (Some best)

@@ -1,6 +1,7 @@
 -- Why a list is given up, from least distances and costs, and why else it is open.
 use Rattle.std.proofs.Common.{◌≡◌, ◌∙◌, ◌+◌, ◌≤◌, ℕ, true, List, []}
-use Rattle.std.proofs.Common.{◌∷◌, length, Contains, Option, None, Some, slice_get, sym, refl, ap, subst, inl}
+use Rattle.std.proofs.Common.{◌∷◌, length, Contains, Option, None, Some, slice_get, sym, ap}
+use Rattle.std.proofs.Common.{subst, inl}
 use Rattle.std.proofs.Common.{inr, arith}
 use Rattle.std.proofs.lemmas.Bool.{and_from, le-leb}
 use Rattle.std.proofs.lemmas.Option.{same_Some}
@@ -10,9 +11,8 @@ use Rattle.aeth_chip.specs.declared.node.Link.{Link}
 use Rattle.aeth_chip.specs.declared.node.Node.{Node}
 use Rattle.aeth_chip.specs.declared.node.Node.TheVariants.{Ni, Router}
 use Rattle.aeth_chip.specs.Chip.{ChipData, IsChip, IsNode}
-use Rattle.aeth_chip.specs.Nodes.{begins_at}
-use Rattle.aeth_chip.specs.Paths.{IsLinkFrom, IsLeast, delay_in}
-use Rattle.aeth_chip.proofs.NodeLemmas.{same_node-refl}
+use Rattle.aeth_chip.specs.Paths.{IsLinkFrom, delay_in, to_of}
+use Rattle.aeth_chip.proofs.LeastDistanceLemmas.{IsLeast-unique}
 use Rattle.aeth_base.proofs.Members.{Contains-cases, Contains-nil}
 use Rattle.aeth_book.specs.Book.{BookData, IsBook}
 use Rattle.aeth_book.proofs.UseLemmas.{used_slots-within}
@@ -20,13 +20,14 @@ use Rattle.aeth_paths.specs.declared.request.Request.{Request}
 use Rattle.aeth_paths.specs.Costs.{AreCosts}
 use Rattle.aeth_paths.specs.Open.{AreLeast, is_near, is_open}
 use Rattle.aeth_paths.specs.Search.{Field, Walks}
-use Rattle.aeth_paths.specs.Task.{end_of, field}
+use Rattle.aeth_paths.specs.Task.{field}
 use Rattle.aeth_paths.specs.declared.search.Goal.{Goal}
 use Rattle.aeth_paths.specs.declared.search.Prefix.{Prefix}
 use Rattle.aeth_paths.specs.declared.search.Task.{Task}
 use Rattle.aeth_paths.specs.Walk.{IsLeastFrom, IsTask, Stands, field_of}
 use Rattle.aeth_paths.proofs.GiveUpLemmas.{AllCost}
-use Rattle.aeth_paths.proofs.JoinLemmas.{in-numbers, leaving-goes, onward-from-walk, route-from-walk}
+use Rattle.aeth_paths.proofs.JoinLemmas.{begins-sent, leaving-begins, onward-from-walk}
+use Rattle.aeth_paths.proofs.JoinLemmas.{route-from-walk}
 
 -- No link leads from an interface to an interface.
 pub no-direct : (chip : ChipData) → IsChip chip → (a b : NiId) (link : LinkId)
@@ -35,16 +36,15 @@ no-direct chip is a b link goes =
     let inside : IsNode chip.routers chip.nis (Ni a) =
     subst (IsNode chip.routers chip.nis) goes.begins (is.links link.0 goes.link goes.is).from in
     let single = is.single a inside in
-    let begins : begins_at (Ni a) goes.link ≡ true = rw goes.begins (same_node-refl (Ni a)) in
-    let among = in-numbers (begins_at (Ni a)) 0 chip.links link.0 goes.link goes.is begins in
-    let one : 0 + link.0 ≡ single.leaving.0 =
-    elim (Contains-cases single.leaving.0 [] (0 + link.0)
-    (subst (λ (ls : List ℕ). Contains ls (0 + link.0)) single.sends among)) [
+    let one : link.0 ≡ single.leaving.0 =
+    elim (Contains-cases single.leaving.0 [] link.0
+    (subst (λ (ls : List ℕ). Contains ls link.0) single.sends
+    (begins-sent chip.links link (Ni a) (Ni b) goes))) [
       | inl same ↦ sym same
       | inr none ↦ Contains-nil none
     ] in
     let at : slice_get chip.links link.0 ≡ Some single.out =
-    ap (slice_get chip.links) (omega (arith, one)) ∙ single.is_out in
+    ap (slice_get chip.links) one ∙ single.is_out in
     let same : goes.link ≡ single.out = same_Some _ _ (sym goes.is ∙ at) in
     let ends : Router single.router ≡ Ni b =
     sym single.to ∙ ap (λ (l : Link). l.to) (sym same) ∙ goes.ends in
@@ -54,31 +54,33 @@ module _ (book : BookData) (prices : List ℕ) (ask : Request) (b : NiId) (most 
     (none : (a : NiId) (link : LinkId) → IsLinkFrom book.links link (Ni a) (Ni b) → ⊥) where
   -- The least number of links is that of each list that walks on, or less.
   pub near-walk : (node : Node) (path : List LinkId) (more : ℕ)
-      → IsLeastFrom book.links b node (Some more) → Stands (end_of book.links) node path
+      → IsLeastFrom book.links b node (Some more) → Stands (to_of book.links) node path
       → (rest : List LinkId) → Walks (field book prices ask b most) node path rest
       → more ≤ length rest
   near-walk (Router r) path more least stands rest walks =
       least.none_shorter rest (onward-from-walk book prices ask b most r path rest stands walks)
   near-walk (Ni a) path more least stands rest walks =
       least.none_shorter rest (route-from-walk book prices ask b most a rest (none a)
-      (subst (λ (p : List LinkId). Walks (field book prices ask b most) (Ni a) p rest) stands walks))
+      (subst (λ (p : List LinkId). Walks (field book prices ask b most) (Ni a) p rest) stands
+      walks))
 
   -- Where there is none, no list walks on.
   pub never-walk : (node : Node) (path : List LinkId)
-      → IsLeastFrom book.links b node None → Stands (end_of book.links) node path
+      → IsLeastFrom book.links b node None → Stands (to_of book.links) node path
       → (rest : List LinkId) → Walks (field book prices ask b most) node path rest → ⊥
   never-walk (Router r) path least stands rest walks =
       least rest (onward-from-walk book prices ask b most r path rest stands walks)
   never-walk (Ni a) path least stands rest walks =
       least rest (route-from-walk book prices ask b most a rest (none a)
-      (subst (λ (p : List LinkId). Walks (field book prices ask b most) (Ni a) p rest) stands walks))
+      (subst (λ (p : List LinkId). Walks (field book prices ask b most) (Ni a) p rest) stands
+      walks))
 
 -- Each link that leaves a node of a chip costs something.
 pub all-cost : (chip : ChipData) (book : BookData) (prices : List ℕ) (ask : Request) (b : NiId)
     (most : ℕ) → IsChip chip → IsBook book → book.links ≡ chip.links → AreCosts prices
     → AllCost (field book prices ask b most)
 all-cost chip book prices ask b most is is_book same costs node link leaves =
-    let goes = leaving-goes book.links node link leaves in
+    let goes = leaving-begins book.links link node leaves in
     let at : slice_get chip.links link.0 ≡ Some goes.link =
     ap (λ (ls : List Link). slice_get ls link.0) (sym same) ∙ goes.is in
     let of_chip = is.links link.0 goes.link at in
@@ -92,23 +94,12 @@ all-cost chip book prices ask b most is is_book same costs node link leaves =
       is_book.within,
     ))
 
--- There is one least number.
-pub one-least : (P : List LinkId → Type 0) (first second : Option ℕ) → IsLeast P first
-    → IsLeast P second → first ≡ second
-one-least P None None never none = refl
-one-least P None (Some n) never least = absurd (never least.path least.has)
-one-least P (Some m) None least never = absurd (never least.path least.has)
-one-least P (Some m) (Some n) first second =
-    let up = first.none_shorter second.path second.has in
-    let down = second.none_shorter first.path first.has in
-    ap Some (omega (arith, up, down, first.length_is, second.length_is))
-
 -- The function gives what was asked.
 pub least-is : (links : List Link) (least : NiId → Node → Option ℕ) → AreLeast links least
     → (b : NiId) (node : Node) (told : Option ℕ) → IsLeastFrom links b node told
     → least b node ≡ told
-least-is links least are b (Router r) told is = one-least _ _ told (are.onward r b) is
-least-is links least are b (Ni a) told is = one-least _ _ told (are.between a b) is
+least-is links least are b (Router r) told is = IsLeast-unique _ _ told (are.onward r b) is
+least-is links least are b (Ni a) told is = IsLeast-unique _ _ told (are.between a b) is
 
 -- A live list whose end is near enough is open.
 pub open-from : (f : Field) (least : Node → Option ℕ) (node : Node) (path : List LinkId)
@@ -132,11 +123,12 @@ module _ (task : Task) (goal : Goal) (prefix : Prefix) where
   told : (more : Option ℕ) → IsTask task → IsLeastFrom task.far.now goal.ni prefix.end more
       → IsLeastFrom task.book.now.links goal.ni prefix.end more
   told more is least =
-      subst (λ (ls : List Link). IsLeastFrom ls goal.ni prefix.end more) (is.far ∙ sym is.book) least
+      subst (λ (ls : List Link). IsLeastFrom ls goal.ni prefix.end more) (is.far ∙ sym is.book)
+      least
 
   -- A list that walks on has at least so many links.
   pub task-near : (more : ℕ) → IsTask task
-      → Stands (end_of task.book.now.links) prefix.end prefix.path
+      → Stands (to_of task.book.now.links) prefix.end prefix.path
       → IsLeastFrom task.far.now goal.ni prefix.end (Some more)
       → (rest : List LinkId) → Walks (field_of task goal) prefix.end prefix.path rest
       → more ≤ length rest
@@ -145,7 +137,7 @@ module _ (task : Task) (goal : Goal) (prefix : Prefix) where
       prefix.path more (told (Some more) is least) stands
 
   -- No list walks on.
-  pub task-never : IsTask task → Stands (end_of task.book.now.links) prefix.end prefix.path
+  pub task-never : IsTask task → Stands (to_of task.book.now.links) prefix.end prefix.path
       → IsLeastFrom task.far.now goal.ni prefix.end None
       → (rest : List LinkId) → Walks (field_of task goal) prefix.end prefix.path rest → ⊥
   task-never is stands least =

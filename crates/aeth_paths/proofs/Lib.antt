@@ -1,6 +1,6 @@
 pub mod FirstLemmas
-mod WalkLemmas
 mod JoinLemmas
+mod WalkLemmas
 mod LiveLemmas
 mod GiveUpLemmas
 mod StepLemmas

@@ -94,10 +94,12 @@ suitable-cut set need gap most told is wide tells =
 
 -- A path's delay with one more link.
 pub path_delay-push : (book : BookData) (path : List LinkId) (link : LinkId)
-    → path_delay book.links (path ++ link ∷ []) ≡ path_delay book.links path + delay_of book.links link
+    → path_delay book.links (path ++ link ∷ [])
+    ≡ path_delay book.links path + delay_of book.links link
 path_delay-push book path link =
     sum_by-append (delay_of book.links) path (link ∷ [])
-    ∙ ap (λ n. path_delay book.links path + n) (sum_by-cons (delay_of book.links) link [] ∙ omega arith)
+    ∙ ap (λ n. path_delay book.links path + n)
+    (sum_by-cons (delay_of book.links) link [] ∙ omega arith)
 
 -- With one more link no slots become suitable.
 dead-push : (book : BookData) (ask : Request) (path : List LinkId) (link : LinkId) → IsBook book

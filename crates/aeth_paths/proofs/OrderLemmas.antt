@@ -1,5 +1,6 @@
 -- The order of paths, key by key and link by link.
-use Rattle.std.proofs.Common.{◌≡◌, ◌≢◌, ◌∙◌, ◌+◌, ◌≤◌, ◌&&◌, ◌||◌, ℕ, Bool, true, false, cond, eqb, ltb, List}
+use Rattle.std.proofs.Common.{◌≡◌, ◌≢◌, ◌∙◌, ◌+◌, ◌≤◌, ◌&&◌, ◌||◌, ℕ, Bool, true, false, cond, eqb}
+use Rattle.std.proofs.Common.{ltb, List}
 use Rattle.std.proofs.Common.{[], ◌∷◌, length, drop, map, Some, slice_get, refl, ap, arith}
 use Rattle.std.specs.Cmp.Lexicographic.{slice_cmp}
 use Rattle.std.specs.Ordering.{is_lt, nat_cmp, ordering_then}
@@ -47,7 +48,11 @@ pub before-length : (cost : ℕ) (path : List LinkId) (its : ℕ) (other : List 
     → length path ≢ length other → ltb (length path) (length other) ≡ is_before cost path its other
 before-length cost path its other same differ =
     let go : (a : Bool) → a ≡ (a || false) = elim [ true ↦ refl | false ↦ refl ] in
-    rw (le-ltb cost its (omega arith), eq-eqb cost its same, ne_eqb (length path) (length other) differ)
+    rw (
+      le-ltb cost its (omega arith),
+      eq-eqb cost its same,
+      ne_eqb (length path) (length other) differ,
+    )
     (go (ltb (length path) (length other)))
 
 -- Else the links do.
@@ -75,7 +80,8 @@ module _ (path other : List LinkId) (place : ℕ) (link its : LinkId)
   heads : slice_cmp nat_cmp (numbers (drop place path)) (numbers (drop place other))
       ≡ slice_cmp nat_cmp (link.0 ∷ numbers (drop (place + 1) path))
       (its.0 ∷ numbers (drop (place + 1) other))
-  heads = ap (λ ls. slice_cmp nat_cmp ls (numbers (drop place other))) (drop-link path place link at)
+  heads = ap (λ ls. slice_cmp nat_cmp ls (numbers (drop place other)))
+      (drop-link path place link at)
       ∙ ap (slice_cmp nat_cmp (link.0 ∷ numbers (drop (place + 1) path)))
       (drop-link other place its at')
 

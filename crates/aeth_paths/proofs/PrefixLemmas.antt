@@ -1,5 +1,6 @@
 -- What is known of a list with one more link, and of the nodes that it passes.
-use Rattle.std.proofs.Common.{◌≡◌, ◌≢◌, ◌∙◌, ◌+◌, ◌*◌, ◌<◌, ◌≤◌, ◌^◌, ◌%◌, ◌++◌, ◌↔◌, ◌⊎◌, ℕ, zero, suc}
+use Rattle.std.proofs.Common.{◌≡◌, ◌≢◌, ◌∙◌, ◌+◌, ◌*◌, ◌<◌, ◌≤◌, ◌^◌, ◌%◌, ◌++◌, ◌↔◌, ◌⊎◌, ℕ, zero}
+use Rattle.std.proofs.Common.{suc}
 use Rattle.std.proofs.Common.{true, List, [], ◌∷◌, length, map, Option, None, Some, slice_get}
 use Rattle.std.proofs.Common.{bit_or, sym, refl, ap, subst, inl, inr, arith, length-append}
 use Rattle.std.specs.Int.{bit_at, w64}
@@ -17,8 +18,8 @@ use Rattle.aeth_chip.specs.declared.node.Node.{Node}
 use Rattle.aeth_chip.specs.declared.node.Node.TheVariants.{Ni, Router}
 use Rattle.aeth_base.specs.Limits.{max_link_delay}
 use Rattle.aeth_chip.specs.Nodes.{same_node}
-use Rattle.aeth_chip.specs.Paths.{delay_in, delay_of, path_delay}
-use Rattle.aeth_chip.proofs.NodeLemmas.{same_node-refl}
+use Rattle.aeth_chip.specs.Paths.{delay_in, delay_of, path_delay, to_in, to_of}
+use Rattle.aeth_chip.proofs.NodeLemmas.{same_node-refl, same_node-true}
 use Rattle.aeth_slots.specs.SlotSet.{Slots}
 use Rattle.aeth_book.specs.Book.{BookData}
 use Rattle.aeth_book.specs.Free.{free_starts, narrowed, used_slots}
@@ -29,9 +30,8 @@ use Rattle.aeth_paths.specs.Candidates.{link_cost, path_cost}
 use Rattle.aeth_paths.specs.Costs.{price}
 use Rattle.aeth_paths.specs.Limits.{max_cost}
 use Rattle.aeth_paths.specs.Search.{passes}
-use Rattle.aeth_paths.specs.Task.{end_in, end_of}
 use Rattle.aeth_paths.specs.Walk.{ArePassed, IsPrefix}
-use Rattle.aeth_paths.proofs.JoinLemmas.{one-node, passes-push}
+use Rattle.aeth_paths.proofs.JoinLemmas.{passes-push}
 use Rattle.aeth_paths.proofs.LiveLemmas.{path_delay-push}
 
 -- ---- the bits of routers
@@ -93,11 +93,11 @@ module _ (task : Task) (prefix : Prefix) (link : LinkId) (target : Link)
   -- The routers that are passed.
   passed-push : (passed : ℕ) → ((r : RouterId) → r.0 < max_routers
       → (bit_at passed r.0 ≡ 1) ↔ ((bit_at prefix.passed r.0 ≡ 1) ⊎ (target.to ≡ Router r)))
-      → ArePassed (end_of task.book.now.links) longer passed
+      → ArePassed (to_of task.book.now.links) longer passed
   passed-push passed bits_are r below =
-      let to : LinkId → Node = end_of task.book.now.links in
+      let to : LinkId → Node = to_of task.book.now.links in
       let whole = passes-push to prefix.path link (Router r) in
-      let ends : to link ≡ target.to = ap end_in at in (
+      let ends : to link ≡ target.to = ap to_in at in (
         (λ one. whole ∙ elim ((bits_are r below).0 one) [
           | inl before ↦ or_left (passes to prefix.path (Router r)) _
               ((known.passed r below).0 before)
@@ -108,7 +108,7 @@ module _ (task : Task) (prefix : Prefix) (link : LinkId) (target : Link)
         (λ passes'. (bits_are r below).1
             (elim (or_cases (passes to prefix.path (Router r)) _ (sym whole ∙ passes')) [
               | inl before ↦ inl ((known.passed r below).1 before)
-              | inr here ↦ inr (sym ends ∙ one-node (to link) (Router r) here)
+              | inr here ↦ inr (sym ends ∙ same_node-true (to link) (Router r) here)
             ])),
       )
 
@@ -142,7 +142,7 @@ module _ (task : Task) (prefix : Prefix) (link : LinkId) (target : Link)
       ∙ ap (λ n. path_cost book task.prices.now task.ask.unit prefix.path + n)
       (sum_by-cons (link_cost book task.prices.now task.ask.unit) link [] ∙ omega arith) in
       record {
-        passed = subst (λ (p : List LinkId). ArePassed (end_of book.links) p passed)
+        passed = subst (λ (p : List LinkId). ArePassed (to_of book.links) p passed)
             (sym is_longer) (passed-push passed bits_are);
         delay = omega (
           arith,

@@ -1,13 +1,14 @@
 -- Steps of the search: one more link of those that leave a node, and how many steps it may take.
 use Rattle.std.proofs.Common.{◌≡◌, ◌∙◌, ◌+◌, ◌-◌, ◌<◌, ◌≤◌, ◌++◌, ℕ, zero, suc, true, cond}
-use Rattle.std.proofs.Common.{List, [], ◌∷◌, length, take, Option, Some, slice_get, sym, refl, ap, subst}
-use Rattle.std.proofs.Common.{arith, Contains, None, inl, inr}
+use Rattle.std.proofs.Common.{List, [], ◌∷◌, length, take, Option, Some, slice_get, sym, refl, ap}
+use Rattle.std.proofs.Common.{subst}
+use Rattle.std.proofs.Common.{arith, None, inl, inr}
 use Rattle.std.specs.List.{flat_map}
 use Rattle.std.specs.Prelude.{sum_by}
 use Rattle.std.proofs.lemmas.Bool.{and_parts, cond-true, false≢true, or_right}
 use Rattle.std.proofs.lemmas.Grind.{flat_map-append}
 use Rattle.std.proofs.lemmas.List.{append-nil, length-map, take_all}
-use Rattle.std.proofs.lemmas.Option.{get_or_from_slice_get, none-some, slice_get_cases}
+use Rattle.std.proofs.lemmas.Option.{none-some, slice_get_cases}
 use Rattle.std.proofs.lemmas.Option.{slice_get_within}
 use Rattle.std.proofs.lemmas.List.Concat.{flat_map-cons}
 use Rattle.std.proofs.lemmas.List.Sums.{sum_by-append, sum_by-cons}
@@ -16,9 +17,8 @@ use Rattle.aeth_chip.specs.declared.node.Link.{Link}
 use Rattle.aeth_chip.specs.declared.node.Node.{Node}
 use Rattle.aeth_chip.specs.declared.node.Node.TheVariants.{Ni, Router}
 use Rattle.aeth_chip.specs.Chip.{ChipData, IsChip, IsNode}
-use Rattle.aeth_chip.specs.LeastDistance.{is_router}
 use Rattle.aeth_chip.specs.Limits.{max_ports}
-use Rattle.aeth_chip.specs.Nodes.{begins_at, same_node, sends_on}
+use Rattle.aeth_chip.specs.Nodes.{begins_at, is_router, same_node, sends_on}
 use Rattle.aeth_chip.proofs.NodeLemmas.{length-numbers_from, same_node-refl}
 use Rattle.aeth_group.proofs.ListLemmas.{take-at}
 use Rattle.aeth_paths.specs.declared.search.Priced.{Priced}
@@ -30,12 +30,13 @@ use Rattle.aeth_paths.specs.Search.{passes, turn_of}
 use Rattle.aeth_paths.specs.Task.{links_from}
 use Rattle.aeth_paths.specs.declared.search.Task.{Task}
 use Rattle.aeth_paths.specs.Walk.{IsTask, Stands, path_in, priced}
-use Rattle.aeth_paths.proofs.JoinLemmas.{leaving-goes, passes-push}
+use Rattle.aeth_paths.proofs.JoinLemmas.{leaving-begins, passes-push, place-contains}
 use Rattle.aeth_paths.proofs.FirstLemmas.{first_from-append}
 use Rattle.aeth_paths.proofs.WalkLemmas.{turn-goes}
 
 -- The path of a priced best is the best.
-pub path_in-priced : (cost : LinkId → ℕ) (best : Option (List LinkId)) → path_in (priced cost best) ≡ best
+pub path_in-priced : (cost : LinkId → ℕ) (best : Option (List LinkId))
+    → path_in (priced cost best) ≡ best
 path_in-priced cost =
     elim [ None ↦ refl | Some path ↦ refl ]
 
@@ -120,14 +121,16 @@ pub best-step : (f : Field) (path : List LinkId) (more : Node → List LinkId �
     → old ≡ priced f.cost (first_from f first (flat_map (along f path more) (take place links)))
     → new ≡ priced f.cost (first_from f (path_in old) (by_turn turn ((path ++ link ∷ []) ∷ [])
     (more (f.to link) (path ++ link ∷ []))))
-    → new ≡ priced f.cost (first_from f first (flat_map (along f path more) (take (place + 1) links)))
+    → new
+    ≡ priced f.cost (first_from f first (flat_map (along f path more) (take (place + 1) links)))
 best-step f path more first links place link turn old new at is was gives =
     let best : Option (List LinkId) =
     first_from f first (flat_map (along f path more) (take place links)) in
     let over : Turn → List (List LinkId) =
     λ t. by_turn t ((path ++ link ∷ []) ∷ []) (more (f.to link) (path ++ link ∷ [])) in
     gives
-    ∙ ap (λ o. priced f.cost (first_from f o (over turn))) (ap path_in was ∙ path_in-priced f.cost best)
+    ∙ ap (λ o. priced f.cost (first_from f o (over turn)))
+    (ap path_in was ∙ path_in-priced f.cost best)
     ∙ ap (λ t. priced f.cost (first_from f best (over t))) is
     ∙ ap (priced f.cost) (sym (along-more f path more first links place link at))
 
@@ -140,9 +143,11 @@ pub best-end : (f : Field) (left : ℕ) (node : Node) (path : List LinkId)
     → now ≡ priced f.cost (first_from f first (completions f left node path))
 best-end f left node path first place now some all is =
     is
-    ∙ ap (λ ls. priced f.cost (first_from f first (flat_map (along f path (completions f (left - 1))) ls)))
+    ∙ ap (λ ls. priced f.cost (first_from f first
+    (flat_map (along f path (completions f (left - 1))) ls)))
     (take_all place (f.leaving node) all)
-    ∙ ap (λ ps. priced f.cost (first_from f first ps)) (sym (completions-some f left node path some))
+    ∙ ap (λ ps. priced f.cost (first_from f first ps))
+    (sym (completions-some f left node path some))
 
 -- One more link: the steps so far.
 pub steps-away : (g : LinkId → ℕ) (links : List LinkId) (place : ℕ) (link : LinkId)
@@ -167,15 +172,11 @@ steps-end f least left node path place old now some opens within all was =
     )
 
 -- A link by its place among those that leave a node is a link of the chip.
-pub place-contains : {X : Type 0} (xs : List X) (place : ℕ) (x : X)
-    → slice_get xs place ≡ Some x → Contains xs x
-place-contains xs place x at =
-    (place, slice_get_within xs place x at, get_or_from_slice_get xs place x x at)
-
 pub link-below : (links : List Link) (node : Node) (place : ℕ) (link : LinkId)
     → slice_get (links_from links node) place ≡ Some link → link.0 < length links
 link-below links node place link at =
-    let goes = leaving-goes links node link (place-contains (links_from links node) place link at) in
+    let goes = leaving-begins links link node
+    (place-contains (links_from links node) place link at) in
     slice_get_within links link.0 goes.link goes.is
 
 -- No more links leave a node than a router has ports.

@@ -1,6 +1,7 @@
 -- What is best after some paths were tried, and that the search tries all of a pair.
 use Rattle.std.proofs.Common.{◌≡◌, ◌⊎◌, ◌+◌, ◌<◌, ◌++◌, ℕ, true, false, List, [], ◌∷◌}
-use Rattle.std.proofs.Common.{length, min, take, get_or, Contains, Option, None, Some, sym, refl, ap, subst}
+use Rattle.std.proofs.Common.{length, min, take, get_or, Contains, Option, None, Some, sym, refl}
+use Rattle.std.proofs.Common.{ap, subst}
 use Rattle.std.proofs.Common.{inl, inr, arith}
 use Rattle.std.proofs.lemmas.Bool.{and_from, and_parts, le-leb, leb-true}
 use Rattle.std.proofs.lemmas.List.{take_more}
@@ -12,6 +13,7 @@ use Rattle.aeth_base.specs.declared.ids.NiId.{NiId}
 use Rattle.aeth_base.proofs.Members.{Contains-cases, Contains-here, Contains-nil}
 use Rattle.aeth_chip.specs.declared.node.Node.TheVariants.{Ni}
 use Rattle.aeth_chip.specs.Paths.{IsDistance, IsLinkFrom, IsPath}
+use Rattle.aeth_chip.proofs.LeastDistanceLemmas.{IsLeast-unique}
 use Rattle.aeth_book.specs.Book.{BookData}
 use Rattle.aeth_paths.specs.declared.request.Request.{Request}
 use Rattle.aeth_paths.specs.Candidates.{is_live, link_cost}
@@ -21,7 +23,6 @@ use Rattle.aeth_paths.specs.Search.{Field, completions, first_from, is_candidate
 use Rattle.aeth_paths.specs.Task.{field}
 use Rattle.aeth_paths.proofs.FirstLemmas.{first_from-is, first_from-kept, first_from-least}
 use Rattle.aeth_paths.proofs.FirstLemmas.{not_beaten-itself, not_beaten-past}
-use Rattle.aeth_paths.proofs.HopelessLemmas.{one-least}
 use Rattle.aeth_paths.proofs.JoinLemmas.{route-from-walk, walk-from-route}
 use Rattle.aeth_paths.proofs.WalkLemmas.{completion-walks, walk-completes}
 
@@ -130,7 +131,7 @@ module _ (book : BookData) (prices : List ℕ) (ask : Request) (crowded : List N
   offered-listed path offered =
       let admissible = offered.admissible in
       let same : Some admissible.least ≡ Some distance =
-      one-least (IsPath book.links a b) (Some admissible.least) (Some distance)
+      IsLeast-unique (IsPath book.links a b) (Some admissible.least) (Some distance)
       admissible.distance far in
       let number : Option ℕ → ℕ = elim [ None ↦ 0 | Some n ↦ n ] in
       let least = ap number same in (

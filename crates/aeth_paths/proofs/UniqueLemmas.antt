@@ -1,22 +1,24 @@
 -- There is one first candidate.
-use Rattle.std.proofs.Common.{◌≡◌, ◌≢◌, ◌∙◌, ◌-◌, ℕ, List, [], ◌∷◌, length, get_or, map, Some, slice_get, sym}
+use Rattle.std.proofs.Common.{◌≡◌, ◌≢◌, ◌∙◌, ℕ, List, [], ◌∷◌, map}
+use Rattle.std.proofs.Common.{sym}
 use Rattle.std.proofs.Common.{refl, ap, subst, arith}
 use Rattle.std.specs.Ordering.{ordering_reverse, ordering_then}
 use Rattle.std.specs.declared.cmp.Ordering.{Ordering}
 use Rattle.std.specs.declared.cmp.Ordering.TheVariants.{Equal, Greater, Less}
 use Rattle.std.proofs.lemmas.Map.Lookups.{exact_bytes}
-use Rattle.std.proofs.lemmas.Option.{same_Some, slice_get-get_or}
+use Rattle.std.proofs.lemmas.Option.{same_Some}
 use Rattle.aeth_base.specs.declared.ids.LinkId.{LinkId}
 use Rattle.aeth_base.specs.declared.ids.NiId.{NiId}
 use Rattle.aeth_chip.specs.declared.node.Link.{Link}
 use Rattle.aeth_chip.specs.declared.node.Node.{Node}
 use Rattle.aeth_chip.specs.declared.node.Node.TheVariants.{Ni, Router}
-use Rattle.aeth_chip.specs.Paths.{IsPath}
+use Rattle.aeth_chip.specs.Paths.{IsPath, to_of}
+use Rattle.aeth_chip.proofs.JoinedLaws.{end_of-ends}
 use Rattle.aeth_book.specs.Book.{BookData}
 use Rattle.aeth_paths.specs.declared.request.Found.{Found}
 use Rattle.aeth_paths.specs.declared.request.Request.{Request}
 use Rattle.aeth_paths.specs.Candidates.{IsFirst, link_cost, path_order, slots_of}
-use Rattle.aeth_paths.proofs.EndLemmas.{joins-first, joins-last, joins-some}
+use Rattle.aeth_paths.proofs.EndLemmas.{path-some}
 use Rattle.aeth_paths.proofs.FirstLemmas.{path_total}
 
 equal-from : (order turned : Ordering) → order ≡ ordering_reverse turned → order ≢ Less
@@ -59,24 +61,18 @@ same-ni a b same =
 pub one-start : (links : List Link) (a b c d : NiId) (path : List LinkId)
     → IsPath links a b path → IsPath links c d path → a ≡ c
 one-start links a b c d [] first second =
-    absurd (omega (arith, joins-some links (Ni a) first.routers (Ni b) [] first.joins))
+    absurd (omega (arith, path-some links a b [] first))
 one-start links a b c d (link ∷ path) first second =
-    let one = joins-first links (Ni a) first.routers (Ni b) (link ∷ path) link first.joins refl in
-    let two = joins-first links (Ni c) second.routers (Ni d) (link ∷ path) link second.joins refl in
-    let same : one.1.link ≡ two.1.link = same_Some _ _ (sym one.1.is ∙ two.1.is) in
-    same-ni a c (sym one.1.begins ∙ ap (λ (l : Link). l.from) same ∙ two.1.begins)
+    let one = first.joins.joined.0 in
+    let two = second.joins.joined.0 in
+    let same : one.link ≡ two.link = same_Some _ _ (sym one.is ∙ two.is) in
+    same-ni a c (sym one.begins ∙ ap (λ (l : Link). l.from) same ∙ two.begins)
 
 pub one-end : (links : List Link) (a b c d : NiId) (path : List LinkId)
     → IsPath links a b path → IsPath links c d path → b ≡ d
 one-end links a b c d path first second =
-    let some = joins-some links (Ni a) first.routers (Ni b) path first.joins in
-    let last : LinkId = get_or path (length path - 1) (record { 0 = 0 }) in
-    let at : slice_get path (length path - 1) ≡ Some last =
-    slice_get-get_or path (length path - 1) (record { 0 = 0 }) (omega (arith, some)) in
-    let one = joins-last links (Ni a) first.routers (Ni b) path last first.joins at in
-    let two = joins-last links (Ni c) second.routers (Ni d) path last second.joins at in
-    let same : one.1.link ≡ two.1.link = same_Some _ _ (sym one.1.is ∙ two.1.is) in
-    same-ni b d (sym one.1.ends ∙ ap (λ (l : Link). l.to) same ∙ two.1.ends)
+    same-ni b d (sym (end_of-ends (to_of links) (Ni a) path _ (Ni b) first.joins.ends)
+    ∙ end_of-ends (to_of links) (Ni a) path _ (Ni d) second.joins.ends)
 
 -- There is one first candidate: so what is found is a function of the book, the costs, the request
 -- and the lists of interfaces.

@@ -1,18 +1,20 @@
 -- The paths that go on from a list are those lists of links that walk on to the goal.
 use Rattle.std.proofs.Common.{◌≡◌, ◌∙◌, ◌≤◌, ◌++◌, ℕ, zero, suc, Bool, true, false}
-use Rattle.std.proofs.Common.{cond, List, [], ◌∷◌, length, Contains, sym, refl, subst, inl, inr, arith}
+use Rattle.std.proofs.Common.{cond, List, [], ◌∷◌, length, Contains, sym, refl, ap, subst, inl, inr}
+use Rattle.std.proofs.Common.{arith}
 use Rattle.std.proofs.Common.{append_assoc}
 use Rattle.std.proofs.lemmas.Bool.{and_parts, cond-true, cond-false, false≢true}
 use Rattle.aeth_base.specs.declared.ids.LinkId.{LinkId}
 use Rattle.aeth_chip.specs.declared.node.Node.{Node}
 use Rattle.aeth_chip.specs.declared.node.Node.TheVariants.{Ni, Router}
-use Rattle.aeth_chip.specs.LeastDistance.{is_router}
-use Rattle.aeth_chip.specs.Nodes.{same_node}
+use Rattle.aeth_chip.specs.Nodes.{is_router, same_node}
+use Rattle.aeth_chip.proofs.NodeLemmas.{same_node-refl}
 use Rattle.aeth_base.proofs.Members.{Contains-cases, Contains-flat_map, Contains-here, Contains-nil}
 use Rattle.aeth_base.proofs.Members.{flat_map-Contains}
 use Rattle.aeth_paths.specs.declared.search.Turn.{Turn}
 use Rattle.aeth_paths.specs.declared.search.Turn.TheVariants.{Away, Ends, Goes}
 use Rattle.aeth_paths.specs.Search.{Field, Walks, along, by_turn, completions, is_new, turn_of}
+use Rattle.aeth_paths.proofs.JoinLemmas.{walks-first, walks-more, walks-none, walks-one}
 
 -- ---- what a link is
 
@@ -48,12 +50,6 @@ pub record WalksOn (f : Field) (left : ℕ) (node : Node) (path found : List Lin
   pub few : length rest ≤ left
   pub walks : Walks f node path rest
 
-walks-more : (f : Field) (node : Node) (path : List LinkId) (link : LinkId) (rest : List LinkId)
-    → Contains (f.leaving node) link → is_new f path (f.to link) ≡ true
-    → Walks f (f.to link) (path ++ link ∷ []) rest → Walks f node path (link ∷ rest)
-walks-more f node path link [] has new walks = absurd walks
-walks-more f node path link (next ∷ rest) has new walks = (has, new, walks)
-
 pub completion-walks : (f : Field) (left : ℕ) (node : Node) (path found : List LinkId)
     → Contains (completions f left node path) found → WalksOn f left node path found
 unfolding completions
@@ -71,7 +67,7 @@ completion-walks f (suc left) node path found has =
           rest = link ∷ [];
           whole = sym whole;
           few = omega arith;
-          walks = (over.1, turn-ends f path link is);
+          walks = walks-one f node path link over.1 (turn-ends f path link is);
         }
         | inr none ↦ Contains-nil none
       ]
@@ -107,25 +103,30 @@ pub walk-completes : (f : Field) (left : ℕ) (node : Node) (path rest : List Li
     → is_router f.goal ≡ false → Walks f node path rest → length rest ≤ left
     → Contains (completions f left node path) (path ++ rest)
 unfolding completions
-walk-completes f left node path [] outside walks few = absurd walks
+walk-completes f left node path [] outside walks few = walks-none f node path walks
 walk-completes f zero node path (link ∷ rest) outside walks few = absurd (omega (arith, few))
-walk-completes f (suc left) node path (link ∷ []) outside (has, ends) few =
-    let whole : List LinkId = path ++ link ∷ [] in
-    Contains-flat_map (along f path (completions f left)) (f.leaving node) link whole has
-    (subst (λ (t : Turn). Contains (by_turn t (whole ∷ []) (completions f left (f.to link) whole))
-    whole)
-    (sym (cond-true (same_node (f.to link) f.goal) Ends _ ends))
-    (Contains-here whole []))
-walk-completes f (suc left) node path (link ∷ next ∷ rest) outside (has, new, walks) few =
+walk-completes f (suc left) node path (link ∷ rest) outside walks few =
     let longer : List LinkId = path ++ link ∷ [] in
-    let whole : List LinkId = path ++ link ∷ next ∷ rest in
-    let goes : turn_of f path link ≡ Goes =
-    cond-false (same_node (f.to link) f.goal) Ends _ (new-is-away f path (f.to link) outside new)
-    ∙ cond-true (is_new f path (f.to link)) Goes Away new in
-    let on = walk-completes f left (f.to link) longer (next ∷ rest) outside walks
-    (omega (arith, few)) in
-    Contains-flat_map (along f path (completions f left)) (f.leaving node) link whole has
-    (subst (λ (t : Turn). Contains (by_turn t (longer ∷ []) (completions f left (f.to link) longer))
-    whole) (sym goes)
-    (subst (Contains (completions f left (f.to link) longer))
-    (append_assoc path (link ∷ []) (next ∷ rest)) on))
+    let more : List (List LinkId) = completions f left (f.to link) longer in
+    Contains-flat_map (along f path (completions f left)) (f.leaving node) link
+    (path ++ link ∷ rest) walks.joined.0
+    (elim (walks-first f node path link rest walks) [
+      | inl (none, ends) ↦
+          let goal : same_node (f.to link) f.goal ≡ true =
+          ap (λ n. same_node n f.goal) ends ∙ same_node-refl f.goal in
+          rw (
+            none,
+            cond-true (same_node (f.to link) f.goal) Ends
+                (cond (is_new f path (f.to link)) Goes Away) goal,
+          )
+          (Contains-here longer [])
+      | inr on ↦
+          let goes : turn_of f path link ≡ Goes =
+          cond-false (same_node (f.to link) f.goal) Ends _
+          (new-is-away f path (f.to link) outside on.new)
+          ∙ cond-true (is_new f path (f.to link)) Goes Away on.new in
+          subst (λ (t : Turn). Contains (by_turn t (longer ∷ []) more) (path ++ link ∷ rest))
+          (sym goes)
+          (subst (Contains more) (append_assoc path (link ∷ []) rest)
+          (walk-completes f left (f.to link) longer rest outside on.walks (omega (arith, few))))
+    ])

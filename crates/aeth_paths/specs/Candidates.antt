@@ -7,7 +7,8 @@
 --   IsAllowed      which pairs of interfaces may be joined
 --   IsCandidate      a path between an allowed pair, and its slots
 --   path_order, IsFirst      the order of candidates, and the first one
-use Rattle.std.specs.Prelude.{ℕ, ◌+◌, ◌-◌, ◌≡◌, ◌≢◌, Bool, List, Option, Some, Contains, length, map}
+use Rattle.std.specs.Prelude.{ℕ, ◌+◌, ◌-◌, ◌≡◌, ◌≢◌, Bool, List, Option, Some, Contains, length}
+use Rattle.std.specs.Prelude.{map}
 use Rattle.std.specs.Prelude.{sum_by}
 use Rattle.std.specs.Cmp.Lexicographic.{slice_cmp}
 use Rattle.std.specs.declared.cmp.Ordering.{Ordering}

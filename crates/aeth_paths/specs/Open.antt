@@ -6,7 +6,8 @@
 --   open_steps      the number of pairs of an open list and a link that leaves its end
 --   pair_steps, allowed_steps, all_steps      those of a pair of interfaces, if it is allowed, and
 --                                             of all allowed pairs
-use Rattle.std.specs.Prelude.{ℕ, ◌+◌, ◌++◌, ◌&&◌, ◌==◌, nat_le, if◌then◌else◌, zero, suc, Bool, false}
+use Rattle.std.specs.Prelude.{ℕ, ◌+◌, ◌++◌, ◌&&◌, ◌==◌, nat_le, if◌then◌else◌, zero, suc, Bool}
+use Rattle.std.specs.Prelude.{false}
 use Rattle.std.specs.Prelude.{List, [], ◌∷◌, Option, None, Some, length, min, sum_by}
 use Rattle.std.specs.List.{list_any}
 use Rattle.aeth_base.specs.declared.ids.LinkId.{LinkId}
@@ -36,11 +37,12 @@ is_near most path (Some more) = nat_le (length path + more) most
 -- number of links to the goal it is short enough.
 abbrev pub is_open : Field → (Node → Option ℕ) → Node → List LinkId → Bool
 is_open f least node [] = is_near f.most [] (least node)
-is_open f least node (link ∷ path) = f.live (link ∷ path) && is_near f.most (link ∷ path) (least node)
+is_open f least node (link ∷ path) =
+    f.live (link ∷ path) && is_near f.most (link ∷ path) (least node)
 
 -- The number of pairs of an open list and a link that leaves its end, over the lists of links that
--- begin with a list, which ends at a node, have fewer than so many more links, and pass only routers
--- that are new.
+-- begin with a list, which ends at a node, have fewer than so many more links, and pass only
+-- routers that are new.
 unfoldable pub open_steps : Field → (Node → Option ℕ) → ℕ → Node → List LinkId → ℕ
 open_steps f least zero node path = 0
 open_steps f least (suc left) node path =
@@ -53,8 +55,8 @@ abbrev pub pair_steps : BookData → List ℕ → Request → (Node → Option �
     → ℕ
 pair_steps book prices ask least a b None = 0
 pair_steps book prices ask least a b (Some distance) =
-    open_steps (field book prices ask b (min (distance + ask.detour) max_path_links)) least max_path_links
-    (Ni a) []
+    open_steps (field book prices ask b (min (distance + ask.detour) max_path_links)) least
+    max_path_links (Ni a) []
 
 -- Whether a pair is one crowded interface.
 abbrev pub is_crowded : List NiId → NiId → NiId → Bool

@@ -4,20 +4,23 @@
 --   is_candidate, keep, first_from      the first of what was best and the candidates of a list
 --   is_new, turn_of      what a link is for a search with the links that led to it
 --   completions, Walks      the paths that go on from a list of links, as lists and as facts
-use Rattle.std.specs.Prelude.{ℕ, ◌++◌, ◌&&◌, nat_le, if◌then◌else◌, zero, suc, Bool, not, List, [], ◌∷◌}
-use Rattle.std.specs.Prelude.{Option, None, Some, length, Contains, ◌≡◌, true}
+use Rattle.std.specs.Prelude.{◌≡◌, ◌++◌, ◌&&◌, nat_le, if◌then◌else◌, ℕ, zero, suc, Bool, false}
+use Rattle.std.specs.Prelude.{not, List, [], ◌∷◌, Option, None, Some, length, map, Contains}
 use Rattle.std.specs.List.{flat_map, list_any}
 use Rattle.std.specs.Ordering.{is_lt}
 use Rattle.aeth_base.specs.declared.ids.LinkId.{LinkId}
+use Rattle.aeth_base.specs.declared.ids.RouterId.{RouterId}
 use Rattle.aeth_chip.specs.declared.node.Node.{Node}
-use Rattle.aeth_chip.specs.LeastDistance.{is_router}
-use Rattle.aeth_chip.specs.Nodes.{same_node}
+use Rattle.aeth_chip.specs.declared.node.Node.TheVariants.{Router}
+use Rattle.aeth_chip.specs.Joined.{IsJoined}
+use Rattle.aeth_chip.specs.Nodes.{is_router, same_node}
+use Rattle.aeth_chip.specs.Paths.{AreDistinct}
 use Rattle.aeth_paths.specs.declared.search.Turn.{Turn}
 use Rattle.aeth_paths.specs.declared.search.Turn.TheVariants.{Away, Ends, Goes}
 use Rattle.aeth_paths.specs.Candidates.{path_order}
 
--- What a search to one goal reads: the links that leave a node, where a link ends and what it costs,
--- whether a list of links may have suitable starts, the goal, and the most links of a path.
+-- What a search to one goal reads: the links that leave a node, where a link ends and what it
+-- costs, whether a list of links may have suitable starts, the goal, and the most links of a path.
 pub record Field : Type 0 where
   pub leaving : Node → List LinkId
   pub to : LinkId → Node
@@ -60,7 +63,8 @@ is_new f path node = is_router node && not (passes f.to path node)
 -- neither.
 abbrev pub turn_of : Field → List LinkId → LinkId → Turn
 turn_of f path link =
-    if same_node (f.to link) f.goal then Ends else (if is_new f path (f.to link) then Goes else Away)
+    if same_node (f.to link) f.goal then Ends
+    else (if is_new f path (f.to link) then Goes else Away)
 
 -- One of two lists, by what a link is.
 abbrev pub by_turn : Turn → List (List LinkId) → List (List LinkId) → List (List LinkId)
@@ -80,11 +84,11 @@ unfoldable pub completions : Field → ℕ → Node → List LinkId → List (Li
 completions f zero node path = []
 completions f (suc left) node path = flat_map (along f path (completions f left)) (f.leaving node)
 
--- A list of links goes on from a list, which ends at a node, to the goal: each link leaves the node
--- where the one before ends, the last ends at the goal, and the others end at new routers.
-abbrev pub Walks : Field → Node → List LinkId → List LinkId → Type 0
-Walks f node path [] = ⊥
-Walks f node path (link ∷ []) =
-    Contains (f.leaving node) link × (same_node (f.to link) f.goal ≡ true)
-Walks f node path (link ∷ next ∷ rest) = Contains (f.leaving node) link
-    × (is_new f path (f.to link) ≡ true) × Walks f (f.to link) (path ++ link ∷ []) (next ∷ rest)
+-- A list of links goes on from a list, which ends at a node, to the goal: links that are joined
+-- from the node on and end at distinct new routers, and then at the goal.
+pub record Walks (f : Field) (node : Node) (path rest : List LinkId) : Type 0 where
+  pub routers : List RouterId
+  pub joined : IsJoined (λ link from. Contains (f.leaving from) link) f.to node rest
+  pub ends : map f.to rest ≡ map (λ r. Router r) routers ++ f.goal ∷ []
+  pub distinct : AreDistinct routers
+  pub new : (r : RouterId) → Contains routers r → passes f.to path (Router r) ≡ false

@@ -5,7 +5,8 @@
 --   is_before      the order of paths, by their costs
 --   path_in, priced, costs_of      a path of a best one, a path with its cost, and what links cost
 --   IsLeastFrom, GainsNothing      why a list may be given up
-use Rattle.std.specs.Prelude.{◌≡◌, ◌<◌, ◌≤◌, ◌*◌, ◌↔◌, ◌==◌, ◌&&◌, ◌||◌, nat_lt, ℕ, Bool, true, List, []}
+use Rattle.std.specs.Prelude.{◌≡◌, ◌<◌, ◌≤◌, ◌*◌, ◌↔◌, ◌==◌, ◌&&◌, ◌||◌, nat_lt, ℕ, Bool, true}
+use Rattle.std.specs.Prelude.{List, []}
 use Rattle.std.specs.Prelude.{Option, length, map, option_map, sum_by}
 use Rattle.std.specs.Int.{bit_at}
 use Rattle.std.specs.Cmp.Lexicographic.{slice_cmp}
@@ -19,14 +20,14 @@ use Rattle.aeth_chip.specs.declared.node.Node.{Node}
 use Rattle.aeth_chip.specs.declared.node.Node.TheVariants.{Ni, Router}
 use Rattle.aeth_base.specs.Limits.{max_link_delay}
 use Rattle.aeth_chip.specs.Chip.{IsChip}
-use Rattle.aeth_chip.specs.Paths.{IsDistance, IsOnwardDistance, path_delay}
+use Rattle.aeth_chip.specs.Paths.{IsDistance, IsOnwardDistance, path_delay, to_of}
 use Rattle.aeth_book.specs.Book.{IsBook}
 use Rattle.aeth_book.specs.Free.{free_starts}
 use Rattle.aeth_paths.specs.Candidates.{link_cost, path_cost}
 use Rattle.aeth_paths.specs.Costs.{AreCosts}
 use Rattle.aeth_paths.specs.Limits.{max_cost}
 use Rattle.aeth_paths.specs.Search.{Field, completions, first_from, passes}
-use Rattle.aeth_paths.specs.Task.{end_of, field}
+use Rattle.aeth_paths.specs.Task.{field}
 use Rattle.aeth_paths.specs.declared.search.Goal.{Goal}
 use Rattle.aeth_paths.specs.declared.search.Prefix.{Prefix}
 use Rattle.aeth_paths.specs.declared.search.Priced.{Priced}
@@ -51,7 +52,7 @@ ArePassed to path passed = (r : RouterId) → r.0 < max_routers
 
 -- What is known of a list of links: its routers, its delay, its cost, its free starts, and bounds.
 pub record IsPrefix (task : Task) (prefix : Prefix) : Type 0 where
-  pub passed : ArePassed (end_of task.book.now.links) prefix.path prefix.passed
+  pub passed : ArePassed (to_of task.book.now.links) prefix.path prefix.passed
   pub delay : prefix.delay ≡ path_delay task.book.now.links prefix.path
   pub cost : prefix.cost ≡ path_cost task.book.now task.prices.now task.ask.unit prefix.path
   pub free : prefix.free ≡ free_starts task.book.now task.ask.unit prefix.path

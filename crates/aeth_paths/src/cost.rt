@@ -14,6 +14,7 @@ const USED_COUNT: usize = MAX_SLOTS as usize + 1;
 const COST_COUNT: usize = MAX_LINK_DELAY as usize * USED_COUNT;
 
 /// The answers of a cost function, seen as their table.
+#[derive(Drop)]
 pub(crate) struct Prices {
     answers: [u32; COST_COUNT],
 }
@@ -30,7 +31,8 @@ impl Model for Prices {
 }
 
 impl Prices {
-    /// The cost of a link by its delay, 1 to 4 cycles, and by the number of its slots that are used.
+    /// The cost of a link by its delay, 1 to 4 cycles, and by the number of its slots that are
+    /// used.
     pub(crate) fn of(&self, delay: u32, used: u32) -> u32
         requires some { 1 ≤ delay }
         requires delay { delay ≤ max_link_delay }
@@ -48,6 +50,7 @@ impl Prices {
 ///
 /// Seen as the table of the answers that its function gave when it was made: for each delay from 1
 /// to 4 cycles and each number of used slots from 0 to 128. This project's own.
+#[derive(Drop)]
 pub struct Cost<F> {
     _function: F,
     prices: Prices,
@@ -64,9 +67,12 @@ impl<F> Model for Cost<F> {
 impl<F: Fn(u32, u32) -> u32> Cost<F> {
     /// The cost that a function gives. It is called once for each delay and number of used slots.
     pub fn new(function: F) -> Cost<F>
-        requires callable { (d u : ℕ) → 1 ≤ d → d ≤ max_link_delay → u ≤ max_slots → F.pre function d u }
-        requires answers { (d u : ℕ) → 1 ≤ d → d ≤ max_link_delay → u ≤ max_slots → HasOneAnswer (F.post function d u) }
-        ensures { (d u : ℕ) → 1 ≤ d → d ≤ max_link_delay → u ≤ max_slots → F.post function d u (price result d u) }
+        requires callable { (d u : ℕ) → 1 ≤ d → d ≤ max_link_delay → u ≤ max_slots
+            → F.pre function d u }
+        requires answers { (d u : ℕ) → 1 ≤ d → d ≤ max_link_delay → u ≤ max_slots
+            → HasOneAnswer (F.post function d u) }
+        ensures { (d u : ℕ) → 1 ≤ d → d ≤ max_link_delay → u ≤ max_slots
+            → F.post function d u (price result d u) }
     {
         let mut answers = [0; COST_COUNT];
         for i in 0..COST_COUNT {
@@ -81,8 +87,8 @@ impl<F: Fn(u32, u32) -> u32> Cost<F> {
 }
 
 impl<F> Cost<F> {
-    /// The cost of a link by its delay, 1 to 4 cycles, and by the number of its slots that are used,
-    /// 0 to 128.
+    /// The cost of a link by its delay, 1 to 4 cycles, and by the number of its slots that are
+    /// used, 0 to 128.
     pub fn of(&self, delay: u32, used: u32) -> u32
         requires some { 1 ≤ delay }
         requires delay { delay ≤ max_link_delay }

@@ -1,6 +1,7 @@
 // The search: it extends a list of links link by link, and gives up a list from which no better
 // path goes on.
-ghost use Rattle.std.specs.Prelude.{◌≡◌, ◌+◌, ◌*◌, ◌<◌, ◌≤◌, ◌++◌, ◌∷◌, ◌↔◌, ◌⊎◌, [], ℕ, Option, true, false};
+ghost use Rattle.std.specs.Prelude.{◌≡◌, ◌+◌, ◌*◌, ◌<◌, ◌≤◌, ◌++◌, ◌∷◌, ◌↔◌, ◌⊎◌, [], ℕ, Option};
+ghost use Rattle.std.specs.Prelude.{true, false};
 ghost use Rattle.std.specs.Prelude.{IsTrue, length, slice_get};
 ghost use Rattle.std.specs.Int.{bit_at};
 ghost use Rattle.aeth_base.specs.Limits.{max_path_links};
@@ -10,11 +11,13 @@ ghost use Rattle.aeth_chip.specs.Limits.{max_routers};
 ghost use Rattle.aeth_chip.specs.declared.node.Node.TheVariants.{Router};
 ghost use Rattle.aeth_chip.specs.declared.node.Node.{Node};
 ghost use Rattle.aeth_chip.specs.Chip.{IsNode};
+ghost use Rattle.aeth_chip.specs.Paths.{to_of};
 ghost use Rattle.aeth_paths.specs.Candidates.{is_live};
 ghost use Rattle.aeth_paths.specs.Open.{AreLeast, is_open, open_steps};
 ghost use Rattle.aeth_paths.specs.Search.{completions, first_from, is_better, keep, turn_of};
-ghost use Rattle.aeth_paths.specs.Task.{end_of, links_from};
-ghost use Rattle.aeth_paths.specs.Walk.{GainsNothing, IsLeastFrom, IsPrefix, IsTask, Stands, field_of};
+ghost use Rattle.aeth_paths.specs.Task.{links_from};
+ghost use Rattle.aeth_paths.specs.Walk.{GainsNothing, IsLeastFrom, IsPrefix, IsTask, Stands};
+ghost use Rattle.aeth_paths.specs.Walk.{field_of};
 ghost use Rattle.aeth_paths.specs.Walk.{costs_of, is_before, path_in, priced};
 
 use crate::cost::Prices;
@@ -118,7 +121,7 @@ fn grown<L: Ledger>(task: &Task, prefix: &Prefix, link: LinkId, steps: &mut Step
     requires link { link.0 < length task.now.chip.now.links }
     ensures prefix { IsPrefix task.now result }
     ensures path { result.path ≡ prefix.now.path ++ link ∷ [] }
-    ensures end { result.end ≡ end_of task.now.book.now.links link }
+    ensures end { result.end ≡ to_of task.now.book.now.links link }
     ensures node { IsNode task.now.chip.now.routers task.now.chip.now.nis result.end }
     ensures steps { steps.new ≡ steps.old + 1 }
 {
@@ -226,12 +229,12 @@ fn onward(task: &Task, goal: &Goal, node: Node) -> Option<u32>
     }
 }
 
-/// Whether no better path goes on from a list: its free starts are dead, its end is too far from the
-/// goal, or with the least cost of the links that are still needed it costs more than the best.
+/// Whether no better path goes on from a list: its free starts are dead, its end is too far from
+/// the goal, or with the least cost of the links that are still needed it costs more than the best.
 fn is_hopeless(task: &Task, goal: &Goal, prefix: &Prefix, best: &Option<Priced>) -> bool
     requires task { IsTask task.now }
     requires prefix { IsPrefix task.now prefix.now }
-    requires stands { Stands (end_of task.now.book.now.links) prefix.now.end prefix.now.path }
+    requires stands { Stands (to_of task.now.book.now.links) prefix.now.end prefix.now.path }
     requires best { best.now ≡ priced (costs_of task.now) (path_in best.now) }
     ensures none { IsTrue result → GainsNothing (field_of task.now goal.now) (path_in best.now)
         prefix.now.end prefix.now.path }
@@ -255,8 +258,8 @@ fn is_hopeless(task: &Task, goal: &Goal, prefix: &Prefix, best: &Option<Priced>)
     !is_live(task, prefix)
 }
 
-/// The first of what was best and the candidates among the paths that go on from a list over at most
-/// so many links.
+/// The first of what was best and the candidates among the paths that go on from a list over at
+/// most so many links.
 pub(crate) fn extend<L: Ledger>(
     task: &Task,
     goal: &Goal,
@@ -268,7 +271,7 @@ pub(crate) fn extend<L: Ledger>(
     requires task { IsTask task.now }
     requires prefix { IsPrefix task.now prefix.now }
     requires node { IsNode task.now.chip.now.routers task.now.chip.now.nis prefix.now.end }
-    requires stands { Stands (end_of task.now.book.now.links) prefix.now.end prefix.now.path }
+    requires stands { Stands (to_of task.now.book.now.links) prefix.now.end prefix.now.path }
     requires best { best ≡ priced (costs_of task.now) (path_in best) }
     requires room { length prefix.now.path + left ≤ max_path_links }
     ensures best { result ≡ priced (costs_of task.now)

@@ -29,7 +29,8 @@ returns-in-Some-clause-found g c =
     let from = c.args.from.now in
     let to = c.args.to.now in
     let crowded = c.args.crowded.now in
-    subst (λ (k : Request). IsFirst c.args.book.now c.args.cost.now k from to crowded c.found.result)
+    subst (λ (k : Request). IsFirst c.args.book.now c.args.cost.now k from to crowded
+    c.found.result)
     task.ensures.ask
     (subst (λ (prices : List ℕ). IsFirst c.args.book.now prices task.result.ask from to crowded
     c.found.result) task.ensures.prices

@@ -38,7 +38,7 @@ returns-in_default-clause-tries g c =
     (IsOffered task.book.now task.ask c.args.crowded.now c.args.a c.args.b)
     (λ path offered.
     let far = subst (λ (ls : List Link). IsDistance ls c.args.a c.args.b None)
-    (c.requires.task.far ∙ sym c.requires.task.book) c.in_default.ensures in
+    (c.requires.task.far ∙ sym c.requires.task.book) c.in_default.ensures.distance in
     far path offered.admissible.is_path)
 
 -- The sender is an interface of the chip.
@@ -46,7 +46,7 @@ pub extend-requires-clause-node : goal.extend-requires-clause-node
 extend-requires-clause-node g c =
     let chip = c.args.task.now.chip.now in
     let far = subst (λ (ls : List Link). IsDistance ls c.args.a c.args.b (Some c.in-Some.distance))
-    c.requires.task.far c.in-Some.ensures in
+    c.requires.task.far c.in-Some.ensures.distance in
     subst (IsNode chip.routers chip.nis) (sym c.start.ensures.end)
     (from-inside chip c.args.a c.args.b far.path c.requires.task.is_chip far.has)
 
@@ -58,8 +58,9 @@ returns-clause-tries g c =
     let pair : Goal = record { ni = c.args.b; most = c.min-most.result } in
     let f = field_of task pair in
     let far = subst (λ (ls : List Link). IsDistance ls c.args.a c.args.b (Some c.in-Some.distance))
-    (c.requires.task.far ∙ sym c.requires.task.book) c.in-Some.ensures in
-    let apart : (link : LinkId) → IsLinkFrom task.book.now.links link (Ni c.args.a) (Ni c.args.b) → ⊥ =
+    (c.requires.task.far ∙ sym c.requires.task.book) c.in-Some.ensures.distance in
+    let apart : (link : LinkId)
+    → IsLinkFrom task.book.now.links link (Ni c.args.a) (Ni c.args.b) → ⊥ =
     λ link. subst (λ (ls : List Link). IsLinkFrom ls link (Ni c.args.a) (Ni c.args.b) → ⊥)
     (sym c.requires.task.book)
     (no-direct task.chip.now c.requires.task.is_chip c.args.a c.args.b link) in

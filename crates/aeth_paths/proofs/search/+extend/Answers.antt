@@ -13,7 +13,8 @@ use Rattle.aeth_paths.specs.Task.{links_from}
 use Rattle.aeth_paths.specs.Walk.{costs_of, field_of, path_in, priced}
 use Rattle.aeth_paths.proofs.StepLemmas.{all-left, all-ports}
 use Rattle.aeth_paths.proofs.StepLemmas.{best-end, best-step, completions-none}
-use Rattle.aeth_paths.proofs.StepLemmas.{link-below, priced-again, stands-goes, steps-away, steps-end}
+use Rattle.aeth_paths.proofs.StepLemmas.{link-below, priced-again, stands-goes, steps-away}
+use Rattle.aeth_paths.proofs.StepLemmas.{steps-end}
 use Rattle.aeth_paths.proofs.StepLemmas.{steps_over, steps_over-goes}
 use Rattle.aeth_paths.proofs.search.+extend.Goals.{in-Away, in-Ends, in-Goes}
 use Rattle.aeth_paths.proofs.search.+extend.Goals as goal
@@ -68,6 +69,7 @@ extend-best-requires g t c lives kept =
     let f = field_of c.args.task.now c.args.goal.now in
     let path = c.args.prefix.now.path in
     let longer = c.grown-longer.result in
+    let now = c.loop-place in
     let more : length longer.path ≡ length path + 1 =
     ap (λ (p : List LinkId). length p) c.grown-longer.ensures.path
     ∙ length-append path (c.in-Some.link ∷ []) in (
@@ -84,7 +86,7 @@ extend-best-requires g t c lives kept =
                 stands-goes f path longer.path c.in-Some.link longer.end (sym c.in-Goes.ensures)
                     c.grown-longer.ensures.path c.grown-longer.ensures.end,
                 (
-                  priced-again (costs_of c.args.task.now) _ c.loop-place.best c.loop-place.invariant.best,
+                  priced-again (costs_of c.args.task.now) _ now.best now.invariant.best,
                   omega (arith, more, c.requires.room),
                 ),
               ),
@@ -105,7 +107,8 @@ loop-place-preserved g t c =
     let link = c.in-Some.link in
     let left : ℕ = c.args.left - 1 in
     let at : slice_get links place ≡ Some link =
-    ap (λ (ls : List Link). slice_get (links_from ls c.args.prefix.now.end) place) c.requires.task.book
+    ap (λ (ls : List Link). slice_get (links_from ls c.args.prefix.now.end) place)
+    c.requires.task.book
     ∙ sym c.in-Some.ensures in
     let inside = slice_get_within links place link at in
     let step = best-step f path (completions f left) (path_in c.args.best) links place link in
@@ -132,7 +135,8 @@ loop-place-preserved g t c =
         best = step Ends c.loop-place.best c.match-turn_at.best at w.in-Ends.ensures
             c.loop-place.invariant.best
             (w.best-is ∙ w.consider-best.ensures
-            ∙ ap (λ p. priced f.cost (keep f (path_in c.loop-place.best) p)) w.grown-path.ensures.path);
+            ∙ ap (λ p. priced f.cost (keep f (path_in c.loop-place.best) p))
+            w.grown-path.ensures.path);
         steps = λ least are.
             few least (omega (arith, w.steps-is, w.grown-path.ensures.steps))
             (c.loop-place.invariant.steps least are);

@@ -10,7 +10,8 @@ use Rattle.aeth_paths.proofs.search.grown.Goals as goal
 pub returns-clause-prefix : goal.returns-clause-prefix
 returns-clause-prefix g c =
     prefix-push c.args.task.now c.args.prefix.now c.args.link c.link-to.result c.requires.prefix
-    (ap (λ (ls : List Link). slice_get ls c.args.link.0) c.requires.task.book ∙ c.link-to.ensures.link)
+    (ap (λ (ls : List Link). slice_get ls c.args.link.0) c.requires.task.book
+    ∙ c.link-to.ensures.link)
     c.push.new.self c.with_node.result c.used.result c.of.result c.narrow-free.result
     c.link-to.ensures.delay.1
     (OnTrue_at (true_from c.push.result (c.push.ensures.room.1 c.requires.short))

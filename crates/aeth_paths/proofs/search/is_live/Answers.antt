@@ -16,4 +16,5 @@ returns c =
     c.min.ensures c.suitable.ensures.suitable)
     ∙ ap (λ n. is_suitable ask.need n c.args.prefix.now.free)
     (c.saturating_sub-gap.ensures ∙ ap (λ d. ask.latency + 1 - d) known.delay)
-    ∙ ap (is_suitable ask.need (gap_on c.args.task.now.book.now ask c.args.prefix.now.path)) known.free
+    ∙ ap (is_suitable ask.need (gap_on c.args.task.now.book.now ask c.args.prefix.now.path))
+    known.free

@@ -28,7 +28,8 @@ pub invariant_of-result : goal.invariant_of-result
 invariant_of-result g c =
     let answers = c.loop-i.answers in
     let one : (i : ℕ) → i < cost_count → IsCost (get_or answers i 0) =
-    λ i within. one-cost (λ r. goal.F-post g c.args.function (1 + i / used_count) (i % used_count) r)
+    λ i within.
+    one-cost (λ r. goal.F-post g c.args.function (1 + i / used_count) (i % used_count) r)
     (get_or answers i 0)
     (c.requires.answers (1 + i / used_count) (i % used_count) (omega arith) (omega arith)
     (omega arith))
