@@ -28,7 +28,8 @@ use Rattle.aeth_check.proofs.RouteLaws.{is_admissible-Decides}
 
 -- ---- Units
 
-side_is : (a b : Side) → same_side a b ≡ true → a ≡ b
+-- Sides that pass are one.
+pub side_is : (a b : Side) → same_side a b ≡ true → a ≡ b
 side_is Fwd Fwd same = refl
 side_is Fwd Back same = absurd (false≢true same)
 side_is Back Fwd same = absurd (false≢true same)

@@ -44,7 +44,8 @@ meeting_from test starts links after [] found = absurd (false≢true found)
 meeting_from test starts links after (k ∷ path) found =
     elim (or_cases (list_any (λ x. test k.0 ((x + after) % starts.size)) starts.slots) _ found) [
       | inl here ↦
-          let start = passes_from_any (λ x. test k.0 ((x + after) % starts.size)) starts.slots here in
+          let start =
+          passes_from_any (λ x. test k.0 ((x + after) % starts.size)) starts.slots here in
           let now : after + 0 ≡ after = omega arith in
           record {
             place = 0;
@@ -55,7 +56,8 @@ meeting_from test starts links after (k ∷ path) found =
             passes = rw now start.passes;
           }
       | inr onward ↦
-          let rest = meeting_from test starts links (after + delay_of links k) path onward in record {
+          let rest = meeting_from test starts links (after + delay_of links k) path onward in
+          record {
             place = suc rest.place;
             link = rest.link;
             start = rest.start;
@@ -114,7 +116,8 @@ conflicts-Decides links groups a b = (
           on_path = at.on_path;
           is_link = refl;
           starts = at.starts_in;
-          slot = ap (λ n. (at.start + n) % a.slots.size) (sym (zero-add (offset links a.path at.place)));
+          slot = ap (λ n. (at.start + n) % a.slots.size)
+              (sym (zero-add (offset links a.path at.place)));
         }));
         second = at.passes;
       })),

@@ -11,11 +11,12 @@ use Rattle.aeth_base.proofs.Members.{Contains-cases, Contains-here, Contains-nil
 use Rattle.aeth_text.specs.Order.{line_after}
 use Rattle.aeth_check.specs.Firsts.{NoTwo, first_line, first_pair, pair_or}
 
--- An item at a place is in the list, and one that is in the list stands at a place.
+-- An item at a place is in the list.
 pub contains_at : {X : Type 0} (xs : List X) (i : ℕ) (x : X) → slice_get xs i ≡ Some x
     → Contains xs x
 contains_at xs i x at = (i, slice_get_within xs i x at, get_or_from_slice_get xs i x x at)
 
+-- An item that is in a list stands at a place.
 pub place_in : {X : Type 0} (xs : List X) (x : X) → Contains xs x
     → (i : ℕ) × (slice_get xs i ≡ Some x)
 place_in xs x has = (has.0, slice_get-get_or xs has.0 x has.1 ∙ ap Some has.2)
@@ -91,7 +92,7 @@ module _ {X : Type 0} where
       ∙ no_pair_of test (line_after line 1) xs (λ i j a b less at_i at_j.
       fails (suc i) (suc j) a b (omega arith) at_i at_j)
 
-  -- So with facts that a test decides.
+  -- No two items are related where no pair is told.
   pub two_apart : (test : X → X → Bool) (Related : X → X → Type 0) (line : ℕ) (xs : List X)
       → ((a b : X) → Decides (test a b) (Related a b))
       → (first_pair test line xs ≡ None) ↔ NoTwo Related xs
@@ -104,6 +105,7 @@ module _ {X : Type 0} where
         apart i j a b less at_i at_j ((decides a b).0 passes)))),
   )
 
+  -- Each item holds where no line is told of one that fails.
   pub all_hold : (test : X → Bool) (Holds : X → Type 0) (line : ℕ) (xs : List X)
       → ((x : X) → Decides (test x) (Holds x))
       → (first_line (λ x. not (test x)) line xs ≡ None) ↔ ((x : X) → Contains xs x → Holds x)

@@ -14,3 +14,5 @@ mod SeatLaws
 mod ChannelLaws
 mod AcceptedLaws
 mod PlanParts
+mod GrantOrder
+mod Halves

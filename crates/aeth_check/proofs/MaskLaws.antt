@@ -175,8 +175,8 @@ pub row_step : (size : ℕ) (starts : Slots) (links : List Link) (u : ℕ) (path
     → Puts size (length links) (hits_row starts links u (take i path)) old now
     → Puts size (length links) (hits_row starts links u (take (i + 1) path)) old
     (set now (u * length links + k.0) new)
-row_step size starts links u path i k after old now mask other new on_path is_after low within at turned
-    is puts =
+row_step size starts links u path i k after old now mask other new on_path is_after low within at
+    turned is puts =
     let place : ℕ = u * length links + k.0 in
     let found : slice_get now place ≡ Some mask =
     slice_get-get_or now place mask within ∙ ap Some (sym at) in

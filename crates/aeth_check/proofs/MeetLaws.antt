@@ -1,4 +1,4 @@
--- Laws of meetings: slots that a mask and turned starts have in common, and grants that meet tables.
+-- Laws of meetings: slots that a mask and turned starts have in common, and paths link by link.
 use Rattle.std.proofs.Common.{◌≡◌, ◌∙◌, ◌<◌, ◌≤◌, ◌+◌, ◌*◌, ◌-◌, ◌%◌, ◌||◌, ℕ, Bool, true, false}
 use Rattle.std.proofs.Common.{List, [], ◌∷◌, Contains, length, Some, slice_get, drop, refl, sym, ap}
 use Rattle.std.proofs.Common.{arith, get_or}
@@ -76,16 +76,16 @@ common_decides size test starts after some is =
     lt-ltb 0 _ (has_item (common mask turned).slots slot
     ((Contains-common mask turned slot).1 (in_mask, in_turned))))
 
--- The mask of a use case and link has a slot in common with turned starts where a start comes to one
--- of its slots.
+-- The mask of a use case and link has a slot in common with turned starts where a start comes to
+-- one of its slots.
 pub mask_meets : (size links u k : ℕ) (test : ℕ → ℕ → ℕ → Bool) (masks : List Slots)
     (mask turned starts : Slots) (after : ℕ) (answer : Bool) → 0 < size → starts.size ≡ size
     → IsTable size links test masks → k < links → u * links + k < length masks
     → mask ≡ get_or masks (u * links + k) mask → turned ≡ rotated after starts
     → answer ≡ nat_lt 0 (length (common mask turned).slots)
     → answer ≡ list_any (λ x. test u k ((x + after) % starts.size)) starts.slots
-mask_meets size links u k test masks mask turned starts after answer some is table low within at turns
-    answers =
+mask_meets size links u k test masks mask turned starts after answer some is table low within at
+    turns answers =
     let was : mask ≡ slots_where size (test u k) =
     at ∙ same_Some _ _ (sym (slice_get-get_or masks (u * links + k) mask within)
     ∙ table u k low within) in

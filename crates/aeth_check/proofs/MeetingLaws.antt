@@ -1,6 +1,7 @@
 -- The first item that meets one behind it, and the first pair.
 use Rattle.std.proofs.Common.{◌≡◌, ◌∙◌, ◌<◌, ◌≤◌, ◌+◌, ◌-◌, ◌||◌, ℕ, suc, Bool, true, false, cond}
-use Rattle.std.proofs.Common.{List, [], ◌∷◌, Option, Some, None, drop, length, slice_get, refl, sym, ap}
+use Rattle.std.proofs.Common.{List, [], ◌∷◌, Option, Some, None, drop, length, slice_get, refl}
+use Rattle.std.proofs.Common.{sym, ap}
 use Rattle.std.proofs.Common.{arith, get_or, take}
 use Rattle.std.specs.Prelude.{IfSome}
 use Rattle.std.specs.List.{list_any}
@@ -121,7 +122,8 @@ module _ {X : Type 0} where
   drop_back xs left x some within at =
       let next : left - 1 + 1 ≡ left = omega arith in
       let low : left - 1 < length xs = omega arith in
-      drop-slice_get xs (left - 1) x (slice_get-get_or xs (left - 1) x low ∙ ap (λ y. Some y) (sym at))
+      drop-slice_get xs (left - 1) x
+      (slice_get-get_or xs (left - 1) x low ∙ ap (λ y. Some y) (sym at))
       ∙ ap (λ n. x ∷ drop n xs) next
 
   -- One item more is met with those behind it.

@@ -21,6 +21,7 @@ pub connections_of : (app : AppData) (groups : GroupsData) → groups ≡ groups
 unfolding groups_of
 connections_of app groups is = ap (λ (g : GroupsData). g.connections) is
 
+-- The grants name what there is.
 pub are_within : (chip : ChipData) (app : AppData) (groups : GroupsData) (plan : PlanData)
     → IsPlanOf chip app groups plan → All (IsWithin chip app) plan.grants
 are_within chip app groups plan of =
@@ -30,6 +31,7 @@ are_within chip app groups plan of =
       links = All-from_recursion _ grant.path is.links;
     }) plan.grants of.grants)
 
+-- Their links are the chip's, and their slots are of its table size.
 pub are_placed : (chip : ChipData) → IsChip chip → (app : AppData) (groups : GroupsData)
     (plan : PlanData) → IsPlanOf chip app groups plan → All (IsPlaced chip) plan.grants
 are_placed chip is_chip app groups plan of =

@@ -9,7 +9,8 @@ use Rattle.aeth_base.specs.declared.ids.NiId.{NiId}
 use Rattle.aeth_app.specs.App.{is_ni}
 use Rattle.aeth_app.specs.declared.connection.Core.{Core}
 use Rattle.aeth_group.specs.declared.grant.SeatLine.{SeatLine}
-use Rattle.aeth_check.specs.Seats.{IsOneSeat, first_misseated, is_elsewhere, is_misseated, is_one_seat}
+use Rattle.aeth_check.specs.Seats.{IsOneSeat, first_misseated, is_elsewhere, is_misseated}
+use Rattle.aeth_check.specs.Seats.{is_one_seat}
 use Rattle.aeth_check.specs.Seats.{ni_of, seat_line}
 
 -- The test decides whether two seats are one.

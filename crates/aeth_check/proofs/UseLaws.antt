@@ -36,8 +36,8 @@ next_use has v u e is = elim (cases_lt v u) [
 ]
 
 -- One more use case, which has the unit, has put its slots in.
-pub uses_step : (size : ℕ) (starts : Slots) (links : List Link) (groups : GroupsData) (unit : GroupUnit)
-    (path : List LinkId) (u : ℕ) (old now new : List Slots) → has_unit groups unit u ≡ true
+pub uses_step : (size : ℕ) (starts : Slots) (links : List Link) (groups : GroupsData)
+    (unit : GroupUnit) (path : List LinkId) (u : ℕ) (old now new : List Slots) → has_unit groups unit u ≡ true
     → Puts size (length links) (hits_uses starts links groups unit path u) old now
     → Puts size (length links) (hits_row starts links u path) now new
     → Puts size (length links) (hits_uses starts links groups unit path (u + 1)) old new
@@ -60,8 +60,8 @@ no_use has v u e is = elim (cases_lt v u) [
 ]
 
 -- One that doesn't have it has not.
-pub uses_skip : (size : ℕ) (starts : Slots) (links : List Link) (groups : GroupsData) (unit : GroupUnit)
-    (path : List LinkId) (u : ℕ) (old now : List Slots) → has_unit groups unit u ≡ false
+pub uses_skip : (size : ℕ) (starts : Slots) (links : List Link) (groups : GroupsData)
+    (unit : GroupUnit) (path : List LinkId) (u : ℕ) (old now : List Slots) → has_unit groups unit u ≡ false
     → Puts size (length links) (hits_uses starts links groups unit path u) old now
     → Puts size (length links) (hits_uses starts links groups unit path (u + 1)) old now
 uses_skip size starts links groups unit path u old now lacks puts =

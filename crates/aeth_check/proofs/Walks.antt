@@ -12,7 +12,7 @@ use Rattle.aeth_chip.specs.declared.node.Node.{Node}
 use Rattle.aeth_app.specs.declared.connection.Core.{Core}
 use Rattle.aeth_group.specs.declared.grant.SeatLine.{SeatLine}
 use Rattle.aeth_base.proofs.Lists.{drop-slice_get}
-use Rattle.aeth_check.specs.Routes.{follows, is_fresh, is_there}
+use Rattle.aeth_chip.specs.PathTests.{follows, is_fresh, is_there}
 use Rattle.aeth_check.specs.Seats.{first_misseated, is_misseated, seat_line}
 
 -- An item passes at a place, so some item passes.

@@ -1,5 +1,5 @@
--- When a plan is accepted: seven facts about a finished plan, a chip, an application and its groups,
--- without the search and the book that may have made the plan. This project's own.
+-- When a plan is accepted: seven facts about a finished plan, a chip, an application and its
+-- groups, without the search and the book that may have made the plan. This project's own.
 use Rattle.std.specs.Prelude.{◌≡◌, Some, slice_get, Contains, IsTrue}
 use Rattle.aeth_base.specs.declared.ids.CoreId.{CoreId}
 use Rattle.aeth_base.specs.declared.ids.NiId.{NiId}

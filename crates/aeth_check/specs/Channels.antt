@@ -2,7 +2,8 @@
 -- and slots that suffice.
 --
 --   sender, receiver      the cores of a channel
---   is_for, has_side, lacking_side, first_lacking      the grants of a unit's sides, and the first side without
+--   is_for, is_before, has_side      the grants of a unit's sides
+--   lacking_side, first_lacking      the first side without a grant
 --   fits_path, IsOnPath      a grant's path leads from the sender's seat to the receiver's
 --   fits_slots, HasSlots      a grant's slots suffice for what the channel needs and wishes
 -- Connections: after Æthereal (2005). The rest: this project's own.
@@ -23,6 +24,7 @@ use Rattle.aeth_app.specs.Rates.{need_of}
 use Rattle.aeth_app.specs.declared.connection.Connection.{Connection}
 use Rattle.aeth_group.specs.declared.grant.Grant.{Grant}
 use Rattle.aeth_group.specs.declared.grant.SeatLine.{SeatLine}
+use Rattle.aeth_plan.specs.Plan.{grant_before}
 use Rattle.aeth_check.specs.Routes.{is_admissible}
 use Rattle.aeth_check.specs.Seats.{ni_of}
 
@@ -49,6 +51,11 @@ same_side Back Back = true
 abbrev pub is_for : GroupUnit → Side → Grant → Bool
 is_for unit side grant = grant.unit.conn.0 == unit.conn.0
     && (grant.unit.group.0 == unit.group.0 && same_side grant.side side)
+
+-- Whether a grant comes before those for a side of a unit.
+abbrev pub is_before : GroupUnit → Side → Grant → Bool
+is_before unit side grant = grant_before grant
+    (record { unit = unit; side = side; path = grant.path; slots = grant.slots })
 
 -- Whether some grant is for a side of a unit.
 abbrev pub has_side : List Grant → GroupUnit → Side → Bool
@@ -113,7 +120,8 @@ gap_for chip connection grant =
 abbrev pub fits_slots : ChipData → AppData → Grant → Option Connection → Bool
 fits_slots chip app grant None = false
 fits_slots chip app grant (Some connection) =
-    is_suitable (need_of app.slots connection grant.side) (gap_for chip connection grant) grant.slots
+    is_suitable (need_of app.slots connection grant.side) (gap_for chip connection grant)
+    grant.slots
 
 -- The grant's slots are as many as the channel needs, and none is too far from the next.
 pub record HasSlots (chip : ChipData) (app : AppData) (grant : Grant) : Type 0 where

@@ -13,8 +13,8 @@ use Rattle.aeth_group.specs.Members.{GroupsData, has_unit}
 use Rattle.aeth_group.specs.Occupation.{holds_in}
 use Rattle.aeth_group.specs.declared.grant.Grant.{Grant}
 
--- Whether a flit that starts in one of these slots, and so many cycles later enters the path, enters
--- some link in a slot that passes a test of links and slots.
+-- Whether a flit that starts in one of these slots, and so many cycles later enters the path,
+-- enters some link in a slot that passes a test of links and slots.
 abbrev pub meets : (ℕ → ℕ → Bool) → Slots → List Link → ℕ → List LinkId → Bool
 meets test starts links after [] = false
 meets test starts links after (k ∷ path) =

@@ -3,8 +3,8 @@
 --   IsOneSeat, is_one_seat      two lines seat cores on one seat
 --   ni_of, seat_line      the interface of a core's seat, and the seat's line
 --   is_misseated, first_misseated      cores that are fixed to an interface and not seated there
-use Rattle.std.specs.Prelude.{◌≡◌, ◌+◌, ◌==◌, ◌&&◌, ℕ, Bool, false, not, List, [], ◌∷◌, Option, Some}
-use Rattle.std.specs.Prelude.{None, unwrap_or, if◌then◌else◌}
+use Rattle.std.specs.Prelude.{◌≡◌, ◌+◌, ◌==◌, ◌&&◌, ℕ, Bool, false, not, List, [], ◌∷◌, Option}
+use Rattle.std.specs.Prelude.{Some, None, unwrap_or, if◌then◌else◌}
 use Rattle.aeth_base.specs.declared.ids.CoreId.{CoreId}
 use Rattle.aeth_base.specs.declared.ids.NiId.{NiId}
 use Rattle.aeth_app.specs.App.{is_ni}

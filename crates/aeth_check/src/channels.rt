@@ -1,9 +1,11 @@
 // Rules 3 and 4: units and their sides.
-ghost use Rattle.aeth_check.specs.Channels.{first_lacking, has_side, is_for, lacking_side};
-ghost use Rattle.aeth_check.specs.Channels.{same_side};
+ghost use Rattle.aeth_check.specs.Channels.{first_lacking, has_side, is_before, is_for};
+ghost use Rattle.aeth_check.specs.Channels.{lacking_side, same_side};
 ghost use Rattle.aeth_check.specs.Firsts.{first_line};
 ghost use Rattle.aeth_check.specs.Verdict.{lacking, stranger};
 ghost use Rattle.aeth_group.specs.Members.{is_member, units_of, units_with};
+ghost use Rattle.aeth_plan.specs.Plan.{grant_before};
+ghost use Rattle.aeth_text.specs.Order.{Rises};
 ghost use Rattle.std.specs.Prelude.{◌≡◌, not};
 
 use crate::lines::grants_begin;
@@ -65,15 +67,46 @@ fn is_for(unit: Unit, side: Side, grant: &Grant) -> bool
         && same_side(grant.side, side)
 }
 
-/// Whether some grant is for a side of a unit.
+/// Whether a grant comes before those for a side of a unit.
+fn is_before(unit: Unit, side: Side, grant: &Grant) -> bool
+    ensures { result ≡ is_before unit side grant.now }
+{
+    if grant.unit.conn.0 != unit.conn.0 {
+        return grant.unit.conn.0 < unit.conn.0;
+    }
+    if grant.unit.group.0 != unit.group.0 {
+        return grant.unit.group.0 < unit.group.0;
+    }
+    match grant.side {
+        Side::Fwd => match side {
+            Side::Fwd => false,
+            Side::Back => true,
+        },
+        Side::Back => false,
+    }
+}
+
+/// Whether some grant is for a side of a unit, by a search by halves.
 fn has_side(grants: &[Grant], unit: Unit, side: Side) -> bool
+    requires { Rises grant_before grants.now }
     ensures { result ≡ has_side grants.now unit side }
 {
-    grants.iter().any(|grant| is_for(unit, side, grant))
+    let mut low = 0;
+    let mut high = grants.len();
+    'halves: while low < high {
+        let middle = low + (high - low) / 2;
+        if is_before(unit, side, &grants[middle]) {
+            low = middle + 1;
+        } else {
+            high = middle;
+        }
+    }
+    low < grants.len() && is_for(unit, side, &grants[low])
 }
 
 /// The first side of a unit without a grant.
 fn lacking_side(grants: &[Grant], unit: Unit) -> Option<Side>
+    requires { Rises grant_before grants.now }
     ensures { result ≡ lacking_side grants.now unit }
 {
     if !has_side(grants, unit, Side::Fwd) {
@@ -88,6 +121,7 @@ fn lacking_side(grants: &[Grant], unit: Unit) -> Option<Side>
 /// The first side without a grant of the units of a connection.
 #[tactic(auto, using(aeth_base::proofs::Ranges::range_more))]
 fn lacking_with(grants: &[Grant], groups: &Groups, conn: ConnId) -> Option<(Unit, Side)>
+    requires { Rises grant_before grants.now }
     ensures { result ≡ first_lacking grants.now (units_with groups.now conn.0) }
 {
     for g in 0..groups.count() {
@@ -105,7 +139,8 @@ fn lacking_with(grants: &[Grant], groups: &Groups, conn: ConnId) -> Option<(Unit
 /// The first side of a unit without a grant.
 #[tactic(auto, using(aeth_base::proofs::Ranges::range_more))]
 fn first_lacking(grants: &[Grant], groups: &Groups, connections: u32) -> Option<(Unit, Side)>
-    requires { groups.now.connections ≡ connections }
+    requires order { Rises grant_before grants.now }
+    requires connections { groups.now.connections ≡ connections }
     ensures { result ≡ first_lacking grants.now (units_of groups.now) }
 {
     for c in 0..connections {
@@ -119,7 +154,8 @@ fn first_lacking(grants: &[Grant], groups: &Groups, connections: u32) -> Option<
 /// Rule 4: a unit lacks a side.
 #[tactic(auto, unfolding(crate::specs::Verdict::lacking))]
 pub(crate) fn lacking(groups: &Groups, connections: u32, plan: &Plan) -> Option<Verdict>
-    requires { groups.now.connections ≡ connections }
+    requires order { Rises grant_before plan.now.grants }
+    requires connections { groups.now.connections ≡ connections }
     ensures { result ≡ lacking groups.now plan.now }
 {
     let (unit, side) = first_lacking(plan.grants(), groups, connections)?;

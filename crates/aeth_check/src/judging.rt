@@ -4,12 +4,13 @@ ghost use Rattle.aeth_check.specs.Calls.{IsPlaced, IsWithin};
 ghost use Rattle.aeth_check.specs.Verdict.{verdict_of};
 ghost use Rattle.aeth_chip.specs.Chip.{IsChip};
 ghost use Rattle.aeth_group.specs.Members.{groups_of};
-ghost use Rattle.aeth_plan.specs.Plan.{IsPlanOf};
+ghost use Rattle.aeth_plan.specs.Plan.{IsPlanOf, grant_before};
+ghost use Rattle.aeth_text.specs.Order.{Rises};
 ghost use Rattle.std.specs.Prelude.{◌≡◌, ◌↔◌, All, IfOk, length};
 
 use crate::channels::{lacking, stranger};
 use crate::conflicts::conflict;
-use crate::routes::{stray_path, unfit_slots};
+use crate::grants::{stray_path, unfit_slots};
 use crate::seats::{misseated, shared_seat};
 use crate::verdict::Verdict;
 use aeth_app::App;
@@ -29,6 +30,7 @@ fn judge(
 ) -> Result<Verdict, NoMemory>
     requires chip { IsChip chip.now }
     requires connections { groups.now.connections ≡ length app.now.connections }
+    requires order { Rises grant_before plan.now.grants }
     requires within { All (IsWithin chip.now app.now) plan.now.grants }
     requires placed { All (IsPlaced chip.now) plan.now.grants }
     ensures { IfOk result (λ verdict.

@@ -3,6 +3,7 @@
 
 mod channels;
 mod conflicts;
+mod grants;
 mod judging;
 mod lines;
 mod masks;

@@ -88,12 +88,12 @@ fn put_row(chip: &Chip, u: u32, grant: &Grant, masks: &mut [SlotSet])
     for i in 0..grant.path.len() {
         let link = grant.path.link(i);
         let at = u as usize * chip.links() as usize + link.0 as usize;
-        let turned = grant.slots.rotate(chip.offset(&grant.path, i));
-        masks[at] = masks[at].join(&turned);
+        let slots = grant.slots.rotate(chip.offset(&grant.path, i));
+        masks[at] = masks[at].join(&slots);
     }
 }
 
-/// Puts the slots that flits of a grant take into the masks of the first use cases.
+/// Puts the slots that flits of a grant take into the masks of its use cases.
 pub(crate) fn put(chip: &Chip, groups: &Groups, grant: &Grant, masks: &mut [SlotSet])
     requires rows { length masks.old ≡ length groups.now.uses * length chip.now.links }
     requires grant { IsPlaced chip.now grant.now }

@@ -1,25 +1,14 @@
-// Rules 5 and 6: paths and slots of grants.
-ghost use Rattle.aeth_app.specs.App.{IsWish, wish_of};
-ghost use Rattle.aeth_check.specs.Channels.{fits_path, fits_slots, leads, receiver, sender};
-ghost use Rattle.aeth_check.specs.Firsts.{first_line};
-ghost use Rattle.aeth_check.specs.Calls.{IsWithin};
-ghost use Rattle.aeth_check.specs.Routes.{comes_to, follows, is_admissible, is_fresh, is_near};
-ghost use Rattle.aeth_check.specs.Routes.{is_there};
-ghost use Rattle.aeth_check.specs.Verdict.{stray_path, unfit_slots};
+// Whether a finished path is admissible, by walking it.
+ghost use Rattle.aeth_check.specs.Channels.{leads};
+ghost use Rattle.aeth_check.specs.Routes.{is_admissible, is_near};
 ghost use Rattle.aeth_chip.specs.Chip.{IsChip};
 ghost use Rattle.aeth_chip.specs.LeastDistance.{least_distance};
+ghost use Rattle.aeth_chip.specs.PathTests.{comes_to, follows, is_fresh, is_there};
 ghost use Rattle.aeth_chip.specs.declared.node.Node.TheVariants.{Ni};
-ghost use Rattle.std.specs.Prelude.{◌≡◌, ◌<◌, ◌≤◌, All, drop, length, not, slice_get};
+ghost use Rattle.std.specs.Prelude.{◌≡◌, ◌<◌, ◌≤◌, All, drop, length};
 
-use crate::lines::grants_begin;
-use crate::seats::ni_of;
-use crate::verdict::Verdict;
-use aeth_app::{App, Connection, Wish};
-use aeth_base::{Channel, CoreId, MAX_PATH_LINKS, MIN_PATH_LINKS, NiId, Path, RouterId, Side};
+use aeth_base::{MAX_PATH_LINKS, MIN_PATH_LINKS, NiId, Path, RouterId};
 use aeth_chip::{Chip, Distances, Node};
-use aeth_group::{Grant, SeatLine};
-use aeth_plan::Plan;
-use aeth_text::line_after;
 
 /// Whether a link of a path, from a place on, ends at a router.
 fn comes_to(chip: &Chip, router: RouterId, path: &Path, from: u32) -> bool
@@ -111,7 +100,8 @@ fn is_admissible(
         && is_near(detour, least_distance(chip, distances, a, b), path)
 }
 
-fn leads(
+/// Whether a flit may take a path from an interface to an interface, both of which may be missing.
+pub(crate) fn leads(
     chip: &Chip,
     distances: &Distances,
     detour: u32,
@@ -131,149 +121,4 @@ fn leads(
             Some(b) => is_admissible(chip, distances, detour, a, b, path),
         },
     }
-}
-
-fn sender(connection: &Connection, side: Side) -> CoreId
-    ensures { result ≡ sender connection.now side }
-{
-    match side {
-        Side::Fwd => connection.from,
-        Side::Back => connection.to,
-    }
-}
-
-fn receiver(connection: &Connection, side: Side) -> CoreId
-    ensures { result ≡ receiver connection.now side }
-{
-    match side {
-        Side::Fwd => connection.to,
-        Side::Back => connection.from,
-    }
-}
-
-/// Whether a grant's path leads from the sender's seat to the receiver's.
-fn fits_path(
-    chip: &Chip,
-    app: &App,
-    distances: &Distances,
-    seats: &[SeatLine],
-    grant: &Grant,
-) -> bool
-    requires chip { IsChip chip.now }
-    requires distances { distances.now ≡ chip.now.links }
-    requires conn { grant.now.unit.conn.0 < length app.now.connections }
-    requires links { All (λ link. link.0 < length chip.now.links) grant.now.path }
-    ensures { result ≡ fits_path chip.now app.now seats.now grant.now
-        (slice_get app.now.connections grant.now.unit.conn.0) }
-{
-    let connection = app.connection(grant.unit.conn);
-    let from = ni_of(seats, sender(&connection, grant.side));
-    let to = ni_of(seats, receiver(&connection, grant.side));
-    leads(chip, distances, app.detour(), from, to, &grant.path)
-}
-
-/// What a connection wishes on a side.
-fn wish_of(connection: &Connection, side: Side) -> Wish
-    requires fwd { IsWish connection.now.fwd }
-    requires back { IsWish connection.now.back }
-    ensures wish { result ≡ wish_of connection.now side }
-    ensures within { IsWish result }
-{
-    match side {
-        Side::Fwd => connection.fwd,
-        Side::Back => connection.back,
-    }
-}
-
-/// Whether a grant's slots suffice for what its channel needs and wishes.
-fn fits_slots(chip: &Chip, app: &App, grant: &Grant) -> bool
-    requires conn { grant.now.unit.conn.0 < length app.now.connections }
-    requires links { All (λ link. link.0 < length chip.now.links) grant.now.path }
-    ensures { result ≡ fits_slots chip.now app.now grant.now
-        (slice_get app.now.connections grant.now.unit.conn.0) }
-{
-    let conn = grant.unit.conn;
-    let side = grant.side;
-    let wish = wish_of(&app.connection(conn), side);
-    let gap = (wish.latency + 1).saturating_sub(chip.path_delay(&grant.path));
-    let need = app.need(Channel { conn, side });
-    grant.slots.suitable(need, gap)
-}
-
-/// The line of the first grant whose path doesn't lead from the sender's seat to the receiver's.
-fn first_stray(
-    chip: &Chip,
-    app: &App,
-    distances: &Distances,
-    plan: &Plan,
-    first: u32,
-    grants: &[Grant],
-) -> Option<u32>
-    requires chip { IsChip chip.now }
-    requires distances { distances.now ≡ chip.now.links }
-    requires grants { All (IsWithin chip.now app.now) grants.now }
-    ensures { result ≡ first_line (λ grant. not (fits_path chip.now app.now plan.now.seats grant
-        (slice_get app.now.connections grant.unit.conn.0))) first grants.now }
-{
-    let mut line = first;
-    for grant in grants {
-        if !fits_path(chip, app, distances, plan.seats(), grant) {
-            return Some(line);
-        }
-        line = line_after(line, 1);
-    }
-    None
-}
-
-/// Rule 5: a path isn't admissible from the sender's interface to the receiver's, or one of the two
-/// isn't seated.
-#[tactic(auto, unfolding(crate::specs::Verdict::stray_path))]
-pub(crate) fn stray_path(
-    chip: &Chip,
-    app: &App,
-    distances: &Distances,
-    plan: &Plan,
-) -> Option<Verdict>
-    requires chip { IsChip chip.now }
-    requires distances { distances.now ≡ chip.now.links }
-    requires grants { All (IsWithin chip.now app.now) plan.now.grants }
-    ensures { result ≡ stray_path chip.now app.now plan.now }
-{
-    let first = grants_begin(plan);
-    let line = first_stray(chip, app, distances, plan, first, plan.grants())?;
-    Some(Verdict::Broken {
-        rule: 5,
-        line,
-        other: 0,
-    })
-}
-
-/// The line of the first grant whose slots don't suffice.
-fn first_unfit(chip: &Chip, app: &App, first: u32, grants: &[Grant]) -> Option<u32>
-    requires { All (IsWithin chip.now app.now) grants.now }
-    ensures { result ≡ first_line (λ grant. not (fits_slots chip.now app.now grant
-        (slice_get app.now.connections grant.unit.conn.0))) first grants.now }
-{
-    let mut line = first;
-    for grant in grants {
-        if !fits_slots(chip, app, grant) {
-            return Some(line);
-        }
-        line = line_after(line, 1);
-    }
-    None
-}
-
-/// Rule 6: slots aren't suitable.
-#[tactic(auto, unfolding(crate::specs::Verdict::unfit_slots))]
-pub(crate) fn unfit_slots(chip: &Chip, app: &App, plan: &Plan) -> Option<Verdict>
-    requires { All (IsWithin chip.now app.now) plan.now.grants }
-    ensures { result ≡ unfit_slots chip.now app.now plan.now }
-{
-    let line = first_unfit(chip, app, grants_begin(plan), plan.grants())?;
-    Some(Verdict::Broken {
-        rule: 6,
-        line,
-        other: 0,
-    })
 }

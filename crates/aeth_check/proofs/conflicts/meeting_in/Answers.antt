@@ -1,4 +1,5 @@
-use Rattle.std.proofs.Common.{◌∙◌, ◌-◌, ◌≡◌, ◌∷◌, [], List, Some, drop, length, sym, ap, subst, arith}
+use Rattle.std.proofs.Common.{◌∙◌, ◌-◌, ◌≡◌, ◌∷◌, [], List, Some, drop, length, sym, ap, subst}
+use Rattle.std.proofs.Common.{arith}
 use Rattle.std.proofs.lemmas.Bool.{cond-false, cond-true}
 use Rattle.std.proofs.lemmas.List.{drop_all}
 use Rattle.aeth_group.specs.declared.grant.Grant.{Grant}
@@ -16,8 +17,8 @@ grants-init c =
     let none : drop (length grants) grants ≡ [] = drop_all (length grants) grants (omega arith) in
     record {
       within = omega arith;
-      held = subst (λ (gs : List Grant). Holds c.args.chip.now c.args.groups.now gs c.args.masks.now)
-          (sym none) c.requires.empty;
+      held = subst (λ (gs : List Grant). Holds c.args.chip.now c.args.groups.now gs
+          c.args.masks.now) (sym none) c.requires.empty;
       found = sym (ap (first_meeting (conflicts c.args.chip.now.links c.args.groups.now)
           (length grants)) none);
     }
@@ -47,8 +48,8 @@ grants-preserved c =
     c.index-grants-left.is in
     record {
       within = omega (arith, c.grants.invariant.within);
-      held = subst (λ (gs : List Grant). Holds c.args.chip.now c.args.groups.now gs c.hold.new.masks)
-          (sym at) (c.hold.ensures behind c.grants.invariant.held);
+      held = subst (λ (gs : List Grant). Holds c.args.chip.now c.args.groups.now gs
+          c.hold.new.masks) (sym at) (c.hold.ensures behind c.grants.invariant.held);
       found = meeting_back (conflicts c.args.chip.now.links c.args.groups.now) grants left grant
           c.grants.found c.if-meets_some.found c.meets_some.result c.grants-test.true at
           c.grants.invariant.found (c.meets_some.ensures behind c.grants.invariant.held)

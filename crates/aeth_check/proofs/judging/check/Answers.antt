@@ -6,6 +6,7 @@ pub judge-requires : goal.judge-requires
 judge-requires c = record {
   chip = c.slots-slots.ensures.chip;
   connections = connections_of c.args.app.now c.args.groups.now c.requires.groups;
+  order = c.requires.plan.in_order.grants;
   within = are_within c.args.chip.now c.args.app.now c.args.groups.now c.args.plan.now
       c.requires.plan;
   placed = are_placed c.args.chip.now c.slots-slots.ensures.chip c.args.app.now c.args.groups.now

@@ -18,7 +18,7 @@ join-requires c =
     c.link-link.result.0 c.index-masks-at.result
     (still_table c.args.chip.now.slots (length links) _ c.args.masks.now c.loop-i.masks
     c.loop-i.invariant c.requires.table) low within)
-    ∙ sym c.requires.grant.size ∙ sym (ap (λ (s : Slots). s.size) c.rotate-turned.ensures)
+    ∙ sym c.requires.grant.size ∙ sym (ap (λ (s : Slots). s.size) c.rotate-slots.ensures)
 
 -- The row lies within the table.
 pub bounds-masks-at-in-loop-i : goal.bounds-masks-at-in-loop-i
@@ -43,7 +43,7 @@ loop-i-preserved c =
     let at = rw c.links.ensures.links at c.index-masks-at.is in
     rw c.links.ensures.links (row_step c.args.chip.now.slots c.args.grant.now.slots links c.args.u
     c.args.grant.now.path c.loop-i.i c.link-link.result c.offset.result c.args.masks.now
-    c.loop-i.masks c.index-masks-at.result c.rotate-turned.result c.join.result
-    c.link-link.ensures c.offset.ensures.offset low within at c.rotate-turned.ensures
+    c.loop-i.masks c.index-masks-at.result c.rotate-slots.result c.join.result
+    c.link-link.ensures c.offset.ensures.offset low within at c.rotate-slots.ensures
     (rw c.links.ensures.links at c.join.ensures
-    ∙ ap (λ m. joined m c.rotate-turned.result) (sym at)) c.loop-i.invariant)
+    ∙ ap (λ m. joined m c.rotate-slots.result) (sym at)) c.loop-i.invariant)

@@ -1,5 +1,5 @@
 use Rattle.std.proofs.Common.{◌≡◌, drop}
-use Rattle.aeth_check.specs.Routes.{comes_to}
+use Rattle.aeth_chip.specs.PathTests.{comes_to}
 use Rattle.aeth_check.proofs.routes.comes_to.Given as goal
 
 -- A link that ends there is among those that are left.

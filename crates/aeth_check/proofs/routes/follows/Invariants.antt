@@ -1,6 +1,6 @@
 use Rattle.std.proofs.Common.{◌≡◌, drop}
 use Rattle.aeth_chip.specs.declared.node.Node.TheVariants.{Ni}
-use Rattle.aeth_check.specs.Routes.{follows}
+use Rattle.aeth_chip.specs.PathTests.{follows}
 use Rattle.aeth_check.proofs.routes.follows.Given as goal
 
 -- The links that are left lead on.

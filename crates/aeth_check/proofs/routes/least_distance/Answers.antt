@@ -5,4 +5,4 @@ use Rattle.aeth_check.proofs.routes.least_distance.Goals as goal
 pub returns : goal.returns
 returns c =
     distance_is_least_distance c.args._chip.now c.requires.chip c.args.a c.args.b c.between.result
-    (rw c.requires.distances at c.between.ensures)
+    (rw c.requires.distances at c.between.ensures.distance)

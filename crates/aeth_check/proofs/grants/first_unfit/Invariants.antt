@@ -1,7 +1,7 @@
 use Rattle.std.proofs.Common.{◌≡◌, drop, not, slice_get}
 use Rattle.aeth_check.specs.Firsts.{first_line}
 use Rattle.aeth_check.specs.Channels.{fits_slots}
-use Rattle.aeth_check.proofs.routes.first_unfit.Given as goal
+use Rattle.aeth_check.proofs.grants.first_unfit.Given as goal
 
 -- The first unfit slots are among those that are left.
 abbrev pub invariant-loop-grant : goal.invariant-loop-grant

@@ -1,7 +1,7 @@
 use Rattle.std.proofs.Common.{◌≡◌, drop, not, slice_get}
 use Rattle.aeth_check.specs.Firsts.{first_line}
 use Rattle.aeth_check.specs.Channels.{fits_path}
-use Rattle.aeth_check.proofs.routes.first_stray.Given as goal
+use Rattle.aeth_check.proofs.grants.first_stray.Given as goal
 
 -- The first stray path is among those that are left.
 abbrev pub invariant-loop-grant : goal.invariant-loop-grant
