@@ -2,7 +2,7 @@
 --
 --   number_to, named      a number up to a limit, the place of a name
 --   three_of, four_of      the fields of a record that has just so many
---   has_channel_header, channel_in      the columns that words and receivers have
+--   heads_channels, channel_in      the columns that words and receivers have
 -- This project's own.
 use Rattle.std.specs.Prelude.{ℕ, ◌&&◌, Bool, false, codes, List, length, nat_le, Option}
 use Rattle.std.specs.Prelude.{Some, None, is_none, unwrap_or, if◌then◌else◌}

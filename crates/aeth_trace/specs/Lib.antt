@@ -4,6 +4,7 @@ pub mod Left
 pub mod Records
 pub mod Fields
 pub mod Rules
+pub mod Channels
 pub mod Words
 pub mod Receivers
 pub mod Spans

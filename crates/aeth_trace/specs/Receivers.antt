@@ -1,14 +1,20 @@
 -- The receivers' rows of a file, or the first rule that it breaks; and what a receiver takes.
+--
+--   heads_receivers, pull_in      the columns of receivers
+--   receivers_of, AreReceiversOf      the rows of a file, and what holds of them
+--   pulls_on, pulls_until      the rows of a channel; those that aren't later than a cycle
+--   pull_of, pull_at      what the last of some rows says; what a receiver takes in a cycle
 -- This project's own.
-use Rattle.std.specs.Prelude.{ℕ, ◌&&◌, ◌==◌, Bool, codes, List, length, map, nat_le}
-use Rattle.std.specs.Prelude.{true, false, Option, None, option_map, Result, Ok, filter, unwrap_or}
+use Rattle.std.specs.Prelude.{◌≤◌, ◌<◌, ℕ, All, Bool, codes, List, length, map, Option, None}
+use Rattle.std.specs.Prelude.{option_map, Result, Ok, unwrap_or}
 use Rattle.std.specs.List.{last_or}
+use Rattle.std.specs.List.Sorted.{IsNonDecreasingBy}
 use Rattle.aeth_app.specs.App.{AppData}
 use Rattle.aeth_base.specs.Faults.{BrokenRule}
 use Rattle.aeth_base.specs.declared.ids.Channel.{Channel}
-use Rattle.aeth_base.specs.declared.ids.Side.{Side}
-use Rattle.aeth_base.specs.declared.ids.Side.TheVariants.{Back, Fwd}
+use Rattle.aeth_base.specs.Limits.{max_cycles}
 use Rattle.aeth_document.specs.Chain.{◌>>=◌}
+use Rattle.aeth_trace.specs.Channels.{rows_on, rows_until}
 use Rattle.aeth_trace.specs.Fields.{channel_in, four_of, heads_channels}
 use Rattle.aeth_trace.specs.Limits.{max_pull, max_rows, usual_pull}
 use Rattle.aeth_trace.specs.Records.{records_of}
@@ -39,25 +45,27 @@ receivers_of app bytes = do
   few ← are_few max_rows (length rows)
   Ok rows
 
--- Whether two sides are the same.
-abbrev pub is_side : Side → Side → Bool
-is_side Fwd Fwd = true
-is_side Back Back = true
-is_side Fwd Back = false
-is_side Back Fwd = false
+-- What holds of the receivers' rows of a file that was read with an application.
+pub record AreReceiversOf (app : AppData) (rows : List PullRow) : Type 0 where
+  pub few : length rows ≤ max_rows
+  pub known : All (λ row. row.channel.conn.0 < length app.connections) rows
+  pub order : IsNonDecreasingBy (λ row. row.cycle) rows
+  pub cycles : All (λ row. row.cycle ≤ max_cycles) rows
+  pub pulls : All (λ row. row.pull ≤ max_pull) rows
 
--- Whether a row is of this channel.
-abbrev pub is_for : Channel → PullRow → Bool
-is_for channel row =
-    channel.conn.0 == row.channel.conn.0 && is_side channel.side row.channel.side
+-- The rows of a channel, in file order.
+abbrev pub pulls_on : List PullRow → Channel → List PullRow
+pulls_on rows channel = rows_on (λ row. row.channel) channel rows
 
--- Whether a row says what a channel's receiver takes in this cycle, unless a later row does.
-abbrev pub counts_in : Channel → ℕ → PullRow → Bool
-counts_in channel cycle row = is_for channel row && nat_le row.cycle cycle
+-- The rows of a channel whose cycle isn't later: the first ones, since cycles ascend.
+abbrev pub pulls_until : List PullRow → Channel → ℕ → List PullRow
+pulls_until rows channel cycle = rows_until (λ row. row.cycle) cycle (pulls_on rows channel)
+
+-- What the last of some rows says, and 2 where there is none.
+abbrev pub pull_of : List PullRow → ℕ
+pull_of rows = unwrap_or (last_or None (map (λ row. row.pull) rows)) usual_pull
 
 -- What the receiver of a channel takes in a cycle at most: what the last row of the channel says
 -- whose cycle isn't later, and 2 where there is none.
 abbrev pub pull_at : List PullRow → Channel → ℕ → ℕ
-pull_at rows channel cycle =
-    unwrap_or (last_or None (map (λ row. row.pull) (filter (counts_in channel cycle) rows)))
-    usual_pull
+pull_at rows channel cycle = pull_of (pulls_until rows channel cycle)

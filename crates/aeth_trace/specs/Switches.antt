@@ -2,10 +2,12 @@
 --
 --   heads_switches, switch_in      the columns of switches
 --   go_after, are_apart, is_first_at_zero      rules 4 and 6
---   switches_of      the switches of a file
+--   switches_of, AreSwitchesOf      the switches of a file, and what holds of them
 -- This project's own.
+use Rattle.std.specs.Prelude.{◌≡◌, ◌≤◌, ◌<◌, All}
 use Rattle.std.specs.Prelude.{ℕ, ◌+◌, ◌&&◌, ◌==◌, Bool, false, codes, List, [], ◌∷◌, length, map}
 use Rattle.std.specs.Prelude.{nat_lt, Option, Some, None, Result, Ok, Err, if◌then◌else◌}
+use Rattle.std.specs.List.Sorted.{IsNonDecreasingBy}
 use Rattle.std.specs.Str.{bytes_eq}
 use Rattle.aeth_app.specs.App.{AppData}
 use Rattle.aeth_base.specs.Faults.{BrokenRule}
@@ -90,3 +92,14 @@ switches_of app spans bytes = do
   few ← are_few max_switch_rows (length rows)
   first ← is_first_at_zero rows
   Ok rows
+
+-- What holds of the switches of a file that was read with an application, whose switches take so
+-- long.
+pub record AreSwitchesOf (app : AppData) (spans : SpanData) (rows : List SwitchRow) : Type 0 where
+  pub few : length rows ≤ max_switch_rows
+  pub known : All (λ row. row.to.0 < length app.uses) rows
+  pub order : IsNonDecreasingBy (λ row. row.cycle) rows
+  pub cycles : All (λ row. row.cycle ≤ max_cycles) rows
+  pub drains : All (λ row. row.drain ≤ max_cycles) rows
+  pub apart : are_apart spans rows ≡ Ok tt
+  pub first : is_first_at_zero rows ≡ Ok tt

@@ -1,10 +1,14 @@
--- The words of a file, or the first rule that it breaks.
+-- The words of a file, or the first rule that it breaks; and the words of a channel.
 -- This project's own.
-use Rattle.std.specs.Prelude.{ℕ, Bool, codes, List, length, map, Option, option_map, Result, Ok}
+use Rattle.std.specs.Prelude.{◌≤◌, ◌<◌, ℕ, All, Bool, codes, List, length, map, Option, option_map}
+use Rattle.std.specs.Prelude.{Result, Ok}
+use Rattle.std.specs.List.Sorted.{IsNonDecreasingBy}
 use Rattle.aeth_app.specs.App.{AppData}
 use Rattle.aeth_base.specs.Faults.{BrokenRule}
 use Rattle.aeth_base.specs.declared.ids.Channel.{Channel}
+use Rattle.aeth_base.specs.Limits.{max_cycles}
 use Rattle.aeth_document.specs.Chain.{◌>>=◌}
+use Rattle.aeth_trace.specs.Channels.{rows_on, rows_until}
 use Rattle.aeth_trace.specs.Fields.{channel_in, four_of, heads_channels}
 use Rattle.aeth_trace.specs.Limits.{max_rows, max_value}
 use Rattle.aeth_trace.specs.Records.{records_of}
@@ -37,3 +41,18 @@ words_of app bytes = do
   order ← are_in_order 0 1 (map (λ row. row.cycle) rows)
   few ← are_few max_rows (length rows)
   Ok rows
+
+-- What holds of the words of a file that was read with an application.
+pub record AreWordsOf (app : AppData) (words : List WordRow) : Type 0 where
+  pub few : length words ≤ max_rows
+  pub known : All (λ row. row.channel.conn.0 < length app.connections) words
+  pub order : IsNonDecreasingBy (λ row. row.cycle) words
+  pub cycles : All (λ row. row.cycle ≤ max_cycles) words
+
+-- The words of a channel, in file order.
+abbrev pub words_on : List WordRow → Channel → List WordRow
+words_on words channel = rows_on (λ row. row.channel) channel words
+
+-- The words of a channel that are offered up to a cycle: the first ones, since cycles ascend.
+abbrev pub words_until : List WordRow → Channel → ℕ → List WordRow
+words_until words channel cycle = rows_until (λ row. row.cycle) cycle (words_on words channel)

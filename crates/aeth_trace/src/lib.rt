@@ -1,6 +1,7 @@
 //! Traces: the words, the receivers' pulls and the switches of a run, as files in CSV tell them.
 #![tactic(auto)]
 
+mod by_channel;
 mod fault;
 mod fields;
 mod judging;

@@ -1,13 +1,15 @@
 // What receivers take.
-ghost use Rattle.std.specs.Prelude.{◌≡◌, ◌<◌, length, All};
+ghost use Rattle.std.specs.Prelude.{◌≡◌, ◌≤◌, ◌<◌, IfOk, length, take};
 ghost use Rattle.aeth_base.specs.Faults.{Reads};
 ghost use Rattle.aeth_trace.specs.Fault.{rule_of};
-ghost use Rattle.aeth_trace.specs.Receivers.{is_for, pull_at, receivers_of};
+ghost use Rattle.aeth_trace.specs.Receivers.{AreReceiversOf, pull_at, pull_of, pulls_on};
+ghost use Rattle.aeth_trace.specs.Receivers.{pulls_until, receivers_of};
 
+use crate::by_channel::ByChannel;
 use crate::fault::TraceFault;
 use crate::fields::{channel_in, heads_channels};
 use crate::judging::{judge_count, judge_known, judge_order};
-use crate::row::Row;
+use crate::row::{OnChannel, Row};
 use crate::table::read_table;
 use crate::words::MAX_ROWS;
 use aeth_app::App;
@@ -66,19 +68,34 @@ impl Row for PullRow {
     }
 }
 
-/// Rows of receivers in the order of their cycles. They are seen as the list of these.
+impl OnChannel for PullRow {
+    ghost on = { λ row. row.channel };
+
+    fn channel(&self) -> Channel {
+        self.channel
+    }
+}
+
+/// Rows of receivers in the order of their cycles. They are seen as the list of these; an index
+/// finds those of a channel.
 #[derive(Drop)]
 pub struct Receivers {
     rows: Vec<PullRow>,
+    index: ByChannel,
 }
 
 impl Model for Receivers {
     ghost use Rattle.std.specs.Prelude.{List};
+    ghost use Rattle.std.specs.List.Sorted.{IsNonDecreasingBy};
+    ghost use Rattle.aeth_trace.specs.Channels.{IsByChannel};
     ghost use Rattle.aeth_trace.specs.declared.receivers.PullRow.{PullRow};
 
     ghost Value = { List PullRow };
 
     ghost view = { λ receivers. receivers.rows.items };
+
+    ghost invariant = { λ receivers. IsNonDecreasingBy (λ row. row.cycle) receivers.rows.items
+        × IsByChannel (λ row. row.channel) receivers.rows.items receivers.index.lists.items };
 }
 
 impl Receivers {
@@ -88,6 +105,29 @@ impl Receivers {
     {
         &self.rows
     }
+
+    /// What the receiver of a channel takes in a cycle at most, where so many rows of the channel
+    /// are known not to be later; then all such rows are. It takes a step for each further one, so
+    /// that a run asks from cycle to cycle without a search.
+    pub fn next_pull(&self, channel: Channel, cycle: u32, known: &mut usize) -> u32
+        requires { known.old ≤ length (pulls_until self.now channel cycle) }
+        ensures known { known.new ≡ length (pulls_until self.now channel cycle) }
+        ensures gives { result ≡ pull_at self.now channel cycle }
+    {
+        *known = self.index.next_until(&self.rows, channel, cycle, *known);
+        self.pull_of(channel, *known)
+    }
+
+    // What the last of so many rows of a channel says, and what is usual where there is none.
+    fn pull_of(&self, channel: Channel, count: usize) -> u32
+        requires { count ≤ length (pulls_on self.now channel) }
+        ensures { result ≡ pull_of (take count (pulls_on self.now channel)) }
+    {
+        if count == 0 {
+            return USUAL_PULL;
+        }
+        self.index.row(&self.rows, channel, count - 1).pull
+    }
 }
 
 /// The receivers' rows of a file's bytes, for an application; or the first rule that the file
@@ -95,32 +135,24 @@ impl Receivers {
 /// 1,000,000, pulls 0 to 255.
 #[tactic(auto, unfolding(crate::specs::Receivers::receivers_of))]
 pub fn read_receivers(alloc: Global, bytes: &[u8], app: &App) -> Result<Receivers, TraceFault>
-    ensures { Reads rule_of (λ receivers. receivers) result (receivers_of app.now bytes.now) }
+    ensures reads { Reads rule_of (λ receivers. receivers) result (receivers_of app.now bytes.now) }
+    ensures receivers { IfOk result (λ receivers. AreReceiversOf app.now receivers) }
 {
     let rows: Vec<PullRow> = read_table(alloc, bytes, app)?;
     judge_known(&rows, 1, app.connections())?;
     judge_order(&rows)?;
     judge_count(rows.len(), MAX_ROWS)?;
-    Ok(Receivers { rows })
-}
-
-// Whether a row is of this channel.
-fn is_for(channel: Channel, row: &PullRow) -> bool
-    ensures { result ≡ is_for channel row.now }
-{
-    channel.conn.0 == row.channel.conn.0 && channel.side == row.channel.side
+    let index = ByChannel::of(alloc, app.connections(), &rows)?;
+    Ok(Receivers { rows, index })
 }
 
 /// How many words the receiver of a channel takes in a cycle at most: what the last row of the
-/// channel says whose cycle isn't later, and 2 where there is none.
+/// channel says whose cycle isn't later, and 2 where there is none. It takes about as many steps as
+/// the channel's number of rows has digits; a run that goes from cycle to cycle asks
+/// [`Receivers::next_pull`].
 pub fn pull(receivers: &Receivers, channel: Channel, cycle: u32) -> u32
     ensures { result ≡ pull_at receivers.now channel cycle }
 {
-    let mut last = None;
-    for row in &receivers.rows {
-        if is_for(channel, row) && row.cycle <= cycle {
-            last = Some(row.pull);
-        }
-    }
-    last.unwrap_or(USUAL_PULL)
+    let count = receivers.index.until(&receivers.rows, channel, cycle);
+    receivers.pull_of(channel, count)
 }

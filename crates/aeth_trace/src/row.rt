@@ -2,8 +2,10 @@
 ghost use Rattle.std.specs.Prelude.{◌≡◌, ℕ, Bool, List, Option};
 ghost use Rattle.csv.specs.Records.{fields_of};
 ghost use Rattle.aeth_app.specs.App.{AppData};
+ghost use Rattle.aeth_base.specs.declared.ids.Channel.{Channel};
 
 use aeth_app::App;
+use aeth_base::Channel;
 use csv::ByteRecord;
 
 // A row of a trace file.
@@ -35,4 +37,14 @@ pub(crate) trait Row: Copy {
     // The cycle of the row.
     fn cycle(&self) -> u32
         ensures { result ≡ at self.now };
+}
+
+// A row that is of a channel.
+pub(crate) trait OnChannel: Row {
+    // The channel of the row.
+    ghost on: { Self → Channel };
+
+    // The channel of the row.
+    fn channel(&self) -> Channel
+        ensures { result ≡ on self.now };
 }

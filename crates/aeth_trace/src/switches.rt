@@ -1,9 +1,9 @@
 // The switches between use cases.
-ghost use Rattle.std.specs.Prelude.{◌≡◌, ◌<◌, length, All};
+ghost use Rattle.std.specs.Prelude.{◌≡◌, ◌<◌, length, All, IfOk};
 ghost use Rattle.csv.specs.Records.{fields_of};
 ghost use Rattle.aeth_base.specs.Faults.{Reads};
 ghost use Rattle.aeth_trace.specs.Fault.{rule_of};
-ghost use Rattle.aeth_trace.specs.Switches.{are_apart, are_apart_from, go_after, heads_switches};
+ghost use Rattle.aeth_trace.specs.Switches.{AreSwitchesOf, are_apart, are_apart_from, go_after};
 ghost use Rattle.aeth_trace.specs.Switches.{is_first_at_zero, switches_of};
 
 use crate::fault::TraceFault;
@@ -180,8 +180,9 @@ pub fn read_switches(
     spans: &Spans,
 ) -> Result<Switches, TraceFault>
     requires { spans.now.uses ≡ length app.now.uses }
-    ensures { Reads rule_of (λ switches. switches) result
+    ensures reads { Reads rule_of (λ switches. switches) result
         (switches_of app.now spans.now bytes.now) }
+    ensures switches { IfOk result (λ switches. AreSwitchesOf app.now spans.now switches) }
 {
     let rows: Vec<SwitchRow> = read_table(alloc, bytes, app)?;
     judge_known(&rows, 2, app.uses())?;

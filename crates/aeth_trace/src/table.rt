@@ -8,14 +8,23 @@ ghost use Rattle.aeth_trace.specs.Rules.{rows_from, table_of};
 use crate::fault::TraceFault;
 use crate::records::{next_row, open};
 use crate::row::Row;
+use crate::words::MAX_ROWS;
 use aeth_app::App;
 use csv::{ByteRecord, Reader};
 use std::alloc::Global;
 
-// The rows under the header.
+// Room for as many rows as a file has lines, and for no more than are allowed and one: so a list of
+// rows needn't grow where each has a line of its own.
+fn room_for(bytes: &[u8]) -> usize {
+    let lines = bytes.iter().filter(|byte| **byte == b'\n').count();
+    lines.min(MAX_ROWS as usize + 1)
+}
+
+// The rows under the header, in a list that begins with so much room.
 fn rows_of<R: Row>(
     alloc: Global,
     app: &App,
+    room: usize,
     reader: &mut Reader<&[u8]>,
     fields: &mut ByteRecord,
 ) -> Result<Vec<R>, TraceFault>
@@ -23,7 +32,7 @@ fn rows_of<R: Row>(
     ensures { Reads rule_of (λ rows. rows.items) result
         (rows_from (R.told app.now) 1 (left reader.old)) }
 {
-    let mut rows = Vec::new(alloc);
+    let mut rows = Vec::with_capacity(alloc, room)?;
     for row in 1..u32::MAX {
         if !next_row(reader, fields)? {
             return Ok(rows);
@@ -53,5 +62,5 @@ pub(crate) fn read_table<R: Row>(
     if !R::is_header(&fields) {
         return Err(TraceFault::BadRow { row: 0 });
     }
-    rows_of(alloc, app, &mut reader, &mut fields)
+    rows_of(alloc, app, room_for(bytes), &mut reader, &mut fields)
 }

@@ -1,13 +1,14 @@
 // The words that are offered to channels.
-ghost use Rattle.std.specs.Prelude.{◌≡◌, ◌<◌, length, All};
+ghost use Rattle.std.specs.Prelude.{◌≡◌, ◌≤◌, ◌<◌, IfOk, Some, length, slice_get};
 ghost use Rattle.aeth_base.specs.Faults.{Reads};
 ghost use Rattle.aeth_trace.specs.Fault.{rule_of};
-ghost use Rattle.aeth_trace.specs.Words.{words_of};
+ghost use Rattle.aeth_trace.specs.Words.{AreWordsOf, words_of, words_on, words_until};
 
+use crate::by_channel::ByChannel;
 use crate::fault::TraceFault;
 use crate::fields::{channel_in, heads_channels};
 use crate::judging::{judge_count, judge_known, judge_order};
-use crate::row::Row;
+use crate::row::{OnChannel, Row};
 use crate::table::read_table;
 use aeth_app::App;
 use aeth_base::Channel;
@@ -64,20 +65,34 @@ impl Row for WordRow {
     }
 }
 
+impl OnChannel for WordRow {
+    ghost on = { λ row. row.channel };
+
+    fn channel(&self) -> Channel {
+        self.channel
+    }
+}
+
 /// Words in the order of their cycles, and within a cycle in file order. They are seen as the list
-/// of these.
+/// of these; an index finds those of a channel.
 #[derive(Drop)]
 pub struct Words {
     rows: Vec<WordRow>,
+    index: ByChannel,
 }
 
 impl Model for Words {
     ghost use Rattle.std.specs.Prelude.{List};
+    ghost use Rattle.std.specs.List.Sorted.{IsNonDecreasingBy};
+    ghost use Rattle.aeth_trace.specs.Channels.{IsByChannel};
     ghost use Rattle.aeth_trace.specs.declared.words.WordRow.{WordRow};
 
     ghost Value = { List WordRow };
 
     ghost view = { λ words. words.rows.items };
+
+    ghost invariant = { λ words. IsNonDecreasingBy (λ row. row.cycle) words.rows.items
+        × IsByChannel (λ row. row.channel) words.rows.items words.index.lists.items };
 }
 
 impl Words {
@@ -87,6 +102,30 @@ impl Words {
     {
         &self.rows
     }
+
+    /// How many words a channel has.
+    pub fn count_on(&self, channel: Channel) -> usize
+        ensures { result ≡ length (words_on self.now channel) }
+    {
+        self.index.count(channel)
+    }
+
+    /// A word of a channel, by its place among these from 0. It takes one step.
+    pub fn nth_word(&self, channel: Channel, place: usize) -> WordRow
+        requires { place < length (words_on self.now channel) }
+        ensures { slice_get (words_on self.now channel) place ≡ Some result }
+    {
+        self.index.row(&self.rows, channel, place)
+    }
+
+    /// How many words of a channel are offered up to a cycle, where so many are known to be. It
+    /// takes a step for each further one, so that a run asks from cycle to cycle without a search.
+    pub fn offered(&self, channel: Channel, cycle: u32, known: usize) -> usize
+        requires { known ≤ length (words_until self.now channel cycle) }
+        ensures { result ≡ length (words_until self.now channel cycle) }
+    {
+        self.index.next_until(&self.rows, channel, cycle, known)
+    }
 }
 
 /// The words of a file's bytes, for an application; or the first rule that the file breaks; or
@@ -94,11 +133,13 @@ impl Words {
 /// 0 to 4,294,967,295.
 #[tactic(auto, unfolding(crate::specs::Words::words_of))]
 pub fn read_words(alloc: Global, bytes: &[u8], app: &App) -> Result<Words, TraceFault>
-    ensures { Reads rule_of (λ words. words) result (words_of app.now bytes.now) }
+    ensures reads { Reads rule_of (λ words. words) result (words_of app.now bytes.now) }
+    ensures words { IfOk result (λ words. AreWordsOf app.now words) }
 {
     let rows: Vec<WordRow> = read_table(alloc, bytes, app)?;
     judge_known(&rows, 1, app.connections())?;
     judge_order(&rows)?;
     judge_count(rows.len(), MAX_ROWS)?;
-    Ok(Words { rows })
+    let index = ByChannel::of(alloc, app.connections(), &rows)?;
+    Ok(Words { rows, index })
 }

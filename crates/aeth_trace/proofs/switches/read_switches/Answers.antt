@@ -1,3 +1,5 @@
+use Rattle.aeth_trace.specs.Records.{records_of}
+use Rattle.aeth_trace.proofs.FileLemmas.{are_switches}
 use Rattle.aeth_trace.proofs.KnownLemmas.{are_known-All}
 use Rattle.aeth_trace.specs.declared.switches.SwitchRow.{SwitchRow}
 use Rattle.aeth_trace.proofs.switches.read_switches.Goals as goal
@@ -8,3 +10,16 @@ judge_apart-requires c =
     rw (c.deref-3.ensures.value, ← c.deref.ensures.value, c.requires, ← c.uses.ensures.uses)
     (are_known-All (λ (row : SwitchRow). row.to.0) 2 c.uses.result 1 c.deref.result.now
     c.in_ok-judge_known.field-0 c.in_ok-judge_known.ensures)
+
+-- The rows keep the rules.
+pub returns-clause-switches : goal.returns-clause-switches
+returns-clause-switches c =
+    are_switches c.args.app.now c.args.spans.now (records_of c.args.bytes.now)
+    c.in_ok-rows.rows.items c.in_ok-judge_known.field-0 c.in_ok-judge_order.field-0
+    c.in_ok-judge_apart.field-0 c.in_ok-judge_count.field-0 c.in_ok-judge_first.field-0
+    c.in_ok-rows.ensures
+    (rw (c.deref.ensures.value, c.uses.ensures.uses) at c.in_ok-judge_known.ensures)
+    (rw c.deref-2.ensures.value at c.in_ok-judge_order.ensures)
+    (rw c.deref-3.ensures.value at c.in_ok-judge_apart.ensures)
+    (rw (c.len.ensures, c.in_ok-rows.rows.ok.0) at c.in_ok-judge_count.ensures)
+    (rw c.deref-4.ensures.value at c.in_ok-judge_first.ensures)

@@ -1,0 +1,91 @@
+-- What holds of the rows of a file that keeps the rules.
+use Rattle.std.proofs.Common.{◌≡◌, ◌≤◌, ℕ, List, Ok, length, map, arith}
+use Rattle.std.proofs.lemmas.Bool.Decides.{nat_tests}
+use Rattle.std.proofs.lemmas.List.Elements.{All-weaker}
+use Rattle.aeth_app.specs.App.{AppData}
+use Rattle.aeth_base.specs.Limits.{max_cycles}
+use Rattle.aeth_trace.specs.Limits.{max_pull, max_rows, max_switch_rows}
+use Rattle.aeth_trace.specs.Receivers.{AreReceiversOf, heads_receivers, pull_in}
+use Rattle.aeth_trace.specs.Rules.{are_few, are_in_order, are_known, table_of}
+use Rattle.aeth_trace.specs.Spans.{SpanData}
+use Rattle.aeth_trace.specs.Switches.{AreSwitchesOf, are_apart, heads_switches, is_first_at_zero}
+use Rattle.aeth_trace.specs.Switches.{switch_in, use_names}
+use Rattle.aeth_trace.specs.Words.{AreWordsOf, connection_names, heads_words, word_in}
+use Rattle.aeth_trace.specs.declared.receivers.PullRow.{PullRow}
+use Rattle.aeth_trace.specs.declared.switches.SwitchRow.{SwitchRow}
+use Rattle.aeth_trace.specs.declared.words.WordRow.{WordRow}
+use Rattle.aeth_trace.proofs.KnownLemmas.{are_known-All}
+use Rattle.aeth_trace.proofs.OrderLemmas.{in_order-rises}
+use Rattle.aeth_trace.proofs.ToldLemmas.{pull_in-within, switch_in-within, table-All, word_in-within}
+
+-- Where the rule on their number is kept, rows are few.
+few : (most rows : ℕ) (kept : Unit {0}) → are_few most rows ≡ Ok kept → rows ≤ most
+few most rows kept is = grind (arith, nat_tests)
+
+-- The words of a file that keeps the rules.
+pub are_words : (app : AppData) (records : List (List (List ℕ))) (rows : List WordRow)
+    (known order small : Unit {0})
+    → table_of heads_words (word_in (connection_names app)) records ≡ Ok rows
+    → are_known 1 (length app.connections) 1 (map (λ row. row.channel.conn.0) rows) ≡ Ok known
+    → are_in_order 0 1 (map (λ row. row.cycle) rows) ≡ Ok order
+    → are_few max_rows (length rows) ≡ Ok small → AreWordsOf app rows
+are_words app records rows known order small told names cycles count = record {
+  few = few max_rows (length rows) small count;
+  known = are_known-All (λ (row : WordRow). row.channel.conn.0) 1 (length app.connections) 1 rows
+      known names;
+  order = (in_order-rises (λ (row : WordRow). row.cycle) 0 1 rows order cycles).1;
+  cycles = table-All heads_words (word_in (connection_names app))
+      (λ row. row.cycle ≤ max_cycles) (word_in-within (connection_names app)) records rows told;
+}
+
+-- The numbers of a receiver's row, and of a switch, are within their limits.
+abbrev IsSmallPull : PullRow → Type 0
+IsSmallPull row = (row.cycle ≤ max_cycles) × (row.pull ≤ max_pull)
+
+abbrev IsSmallSwitch : SwitchRow → Type 0
+IsSmallSwitch row = (row.cycle ≤ max_cycles) × (row.drain ≤ max_cycles)
+
+-- The receivers' rows of a file that keeps the rules.
+pub are_receivers : (app : AppData) (records : List (List (List ℕ))) (rows : List PullRow)
+    (known order small : Unit {0})
+    → table_of heads_receivers (pull_in (connection_names app)) records ≡ Ok rows
+    → are_known 1 (length app.connections) 1 (map (λ row. row.channel.conn.0) rows) ≡ Ok known
+    → are_in_order 0 1 (map (λ row. row.cycle) rows) ≡ Ok order
+    → are_few max_rows (length rows) ≡ Ok small → AreReceiversOf app rows
+are_receivers app records rows known order small told names cycles count =
+    let within = table-All heads_receivers (pull_in (connection_names app)) IsSmallPull
+    (pull_in-within (connection_names app)) records rows told in
+    record {
+      few = few max_rows (length rows) small count;
+      known = are_known-All (λ (row : PullRow). row.channel.conn.0) 1 (length app.connections) 1
+          rows known names;
+      order = (in_order-rises (λ (row : PullRow). row.cycle) 0 1 rows order cycles).1;
+      cycles = All-weaker IsSmallPull (λ row. row.cycle ≤ max_cycles) (λ row both. both.0) rows
+          within;
+      pulls = All-weaker IsSmallPull (λ row. row.pull ≤ max_pull) (λ row both. both.1) rows
+          within;
+    }
+
+-- The switches of a file that keeps the rules.
+pub are_switches : (app : AppData) (spans : SpanData) (records : List (List (List ℕ)))
+    (rows : List SwitchRow) (known order parted small begun : Unit {0})
+    → table_of heads_switches (switch_in (use_names app)) records ≡ Ok rows
+    → are_known 2 (length app.uses) 1 (map (λ row. row.to.0) rows) ≡ Ok known
+    → are_in_order 0 1 (map (λ row. row.cycle) rows) ≡ Ok order
+    → are_apart spans rows ≡ Ok parted → are_few max_switch_rows (length rows) ≡ Ok small
+    → is_first_at_zero rows ≡ Ok begun → AreSwitchesOf app spans rows
+are_switches app spans records rows known order parted small begun told names cycles apart count
+    first =
+    let within = table-All heads_switches (switch_in (use_names app)) IsSmallSwitch
+    (switch_in-within (use_names app)) records rows told in
+    record {
+      few = few max_switch_rows (length rows) small count;
+      known = are_known-All (λ (row : SwitchRow). row.to.0) 2 (length app.uses) 1 rows known names;
+      order = (in_order-rises (λ (row : SwitchRow). row.cycle) 0 1 rows order cycles).1;
+      cycles = All-weaker IsSmallSwitch (λ row. row.cycle ≤ max_cycles) (λ row both. both.0)
+          rows within;
+      drains = All-weaker IsSmallSwitch (λ row. row.drain ≤ max_cycles) (λ row both. both.1)
+          rows within;
+      apart = apart;
+      first = first;
+    }

@@ -1,0 +1,21 @@
+use Rattle.std.proofs.Common.{◌∙◌}
+use Rattle.aeth_trace.specs.Receivers.{pulls_on}
+use Rattle.aeth_trace.specs.declared.receivers.PullRow.{PullRow}
+use Rattle.aeth_trace.proofs.OrderLemmas.{until_few}
+use Rattle.aeth_trace.proofs.PullLemmas.{pull_of-first}
+use Rattle.aeth_trace.proofs.receivers.pull.Goals as goal
+
+-- There are so many rows.
+pub pull_of-requires : goal.pull_of-requires
+pull_of-requires c =
+    rw (c.until-count.ensures, c.deref.ensures.value, c.receivers.view_is)
+    (until_few (λ (row : PullRow). row.cycle) c.args.cycle
+    (pulls_on c.args.receivers.now c.args.channel))
+
+-- They are the first ones of the channel.
+pub returns : goal.returns
+returns c =
+    c.pull_of.ensures
+    ∙ rw (c.until-count.ensures, c.deref.ensures.value, c.receivers.view_is)
+    (pull_of-first c.args.receivers.now c.args.channel c.args.cycle
+    (rw c.receivers.view_is at c.receivers.invariant.0))
