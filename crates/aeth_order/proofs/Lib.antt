@@ -1,0 +1,7 @@
+mod FirstByLemmas
+mod TurnLemmas
+mod NextLemmas
+mod FilterLemmas
+mod GridLemmas
+mod QueueLemmas
+mod StartLemmas

@@ -1,0 +1,10 @@
+//! The order in which units take their turns.
+#![tactic(auto)]
+
+mod grid;
+mod keys;
+mod queue;
+mod units;
+
+pub use keys::UnitKeys;
+pub use units::{Units, next};
