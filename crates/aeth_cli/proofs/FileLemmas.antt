@@ -1,5 +1,5 @@
 -- Laws of files that are read and judged, one after the other.
-use Rattle.std.proofs.Common.{◌≡◌, ◌≤◌, ℕ, List, length, Option, Some, Result, Ok, Err}
+use Rattle.std.proofs.Common.{◌≡◌, ◌≤◌, IfOk, ℕ, List, length, Option, Some, Result, Ok, Err}
 use Rattle.std.proofs.Common.{refl, subst, arith, if◌then◌else◌}
 use Rattle.std.specs.Prelude.{nat_le}
 use Rattle.std.proofs.lemmas.Bool.{le-leb}
@@ -9,10 +9,10 @@ use Rattle.aeth_cli.specs.declared.answer.Stop.{Stop}
 use Rattle.aeth_cli.specs.declared.answer.Stop.TheVariants.{Ends, Memory}
 use Rattle.aeth_cli.specs.Files.{judgement, judged_file, text_file}
 use Rattle.aeth_cli.specs.Refusal.{refused_file, too_long}
-use Rattle.aeth_cli.specs.Job.{Job, done}
+use Rattle.aeth_cli.specs.Job.{Job, done, not_granted}
 use Rattle.aeth_cli.specs.Places.{Files}
 use Rattle.aeth_cli.specs.Status.{refused_status}
-use Rattle.aeth_cli.specs.Stop.{HandsOn, Judges, Leaves}
+use Rattle.aeth_cli.specs.Stop.{HandsOn, IfAnswer, Judges, Leaves}
 use Rattle.aeth_cli.specs.Task.{IsAnswer, Judging, Task, ends}
 use Rattle.aeth_cli.proofs.TaskLemmas.{IsAnswer-ends, Leaves-reads}
 
@@ -50,14 +50,44 @@ Judges-read old now file name bytes_of text rule_of view told_by (Ok value) came
     rw hands (λ next. rw reads at (took (λ bytes. judgement file (told_by bytes) next)))
 Judges-read old now file name bytes_of text rule_of view told_by (Err fault) (Ok value) took reads
     hands = absurd hands
-Judges-read old now file name bytes_of text rule_of view told_by (Err fault) (Err (Ends answer)) took
-    reads hands =
+Judges-read old now file name bytes_of text rule_of view told_by (Err fault) (Err (Ends answer))
+    took reads hands =
     let told : told_by (bytes_of text) ≡ Err hands.0 = rw hands.1 at reads in
     let refused : answer.status ≡ refused_status = rw hands.2 refl in
-    λ next. (rw (told, ← hands.2) at (took (λ bytes. judgement file (told_by bytes) next))) now answer
+    λ next. (rw (told, ← hands.2) at (took (λ bytes. judgement file (told_by bytes) next))) now
+    answer
     (IsAnswer-ends now now answer (omega (arith, refused)) (λ usage. omega (arith, refused, usage)))
 Judges-read old now file name bytes_of text rule_of view told_by (Err fault) (Err Memory) took reads
     hands = tt
+
+-- What holds of what a reader gave holds of what is handed on.
+pub HandsOn-keeps : {X E : Type 0} (rule_of : E → Option BrokenRule) (file : List ℕ)
+    (Holds : X → Type 0) (read : Result X E) (came : Result X Stop)
+    → IfOk read Holds → HandsOn rule_of file read came → IfOk came Holds
+HandsOn-keeps rule_of file Holds (Ok value) came holds hands = rw hands holds
+HandsOn-keeps rule_of file Holds (Err fault) (Ok value) holds hands = absurd hands
+HandsOn-keeps rule_of file Holds (Err fault) (Err stop) holds hands = tt
+
+-- What ends while it is judged ends the task.
+pub IfAnswer-stopped : {X A : Type 0} (old new : Files) (judging : Judging A) (view : X → A)
+    (next : A → Task) (stop : Stop) → Judges old new judging view (Err stop)
+    → IfAnswer (Err stop) (IsAnswer old new (judging next))
+IfAnswer-stopped old new judging view next (Ends answer) took = took next
+IfAnswer-stopped old new judging view next Memory took = tt
+
+-- What answers what is left answers the task.
+pub IfAnswer-left : (old now new : Files) (task rest : Task) (came : Result Job Stop)
+    → Leaves old now task rest → IfAnswer came (IsAnswer now new rest)
+    → IfAnswer came (IsAnswer old new task)
+IfAnswer-left old now new task rest (Ok answer) leaves answers = leaves new answer answers
+IfAnswer-left old now new task rest (Err (Ends answer)) leaves answers = leaves new answer answers
+IfAnswer-left old now new task rest (Err Memory) leaves answers = tt
+
+-- A job that isn't granted ends a task.
+pub IsAnswer-not_granted : (now : Files) (text : List ℕ) (answer : Job) → answer ≡ not_granted text
+    → IsAnswer now now (ends (not_granted text)) answer
+IsAnswer-not_granted now text answer is =
+    rw is (IsAnswer-ends now now (not_granted text) (omega arith) (λ usage. omega (arith, usage)))
 
 -- A job that is done with its text answers what is left.
 pub IsAnswer-done : (now : Files) (text : List ℕ) (answer : Job) → answer ≡ done text

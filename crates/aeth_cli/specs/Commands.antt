@@ -1,6 +1,7 @@
 -- The commands, and what each asks for.
 -- This project's own.
 pub mod App
+pub mod Check
 pub mod Chip
 pub mod Server
 pub mod Slots
@@ -9,6 +10,7 @@ use Rattle.std.specs.Str.{bytes_eq}
 use Rattle.aeth_cli.specs.declared.commands.Command.{Command}
 use Rattle.aeth_cli.specs.declared.commands.Command.TheVariants as command
 use Rattle.aeth_cli.specs.Commands.App.{app_command, app_task}
+use Rattle.aeth_cli.specs.Commands.Check.{check_command, check_task}
 use Rattle.aeth_cli.specs.Commands.Chip.{chip_command, chip_task}
 use Rattle.aeth_cli.specs.Commands.Server.{latency_job, server_command}
 use Rattle.aeth_cli.specs.Commands.Slots.{chosen_job, slots_command}
@@ -24,6 +26,7 @@ command_of (name ∷ words) =
     else if bytes_eq name (codes "server") then server_command words
     else if bytes_eq name (codes "chip") then chip_command words
     else if bytes_eq name (codes "app") then app_command words
+    else if bytes_eq name (codes "check") then check_command words
     else None
 
 -- What a command does.
@@ -32,6 +35,7 @@ task_of (command.Slots need gap free) = ends (chosen_job need gap free)
 task_of (command.Server need links slots) = ends (latency_job need links slots)
 task_of (command.Chip chip) = chip_task chip
 task_of (command.App chip app) = app_task chip app
+task_of (command.Check chip app plan) = check_task chip app plan
 
 -- What is asked for by a command, or by words that are none, where the contents on which it rests
 -- are told.

@@ -4,6 +4,7 @@
 --   judgement             what a file tells, or the end by the rule that it breaks
 --   judged_file           a file that is read and judged
 --   chip_file, app_file   a chip file; an application file
+--   plan_file             a plan text
 -- This project's own.
 use Rattle.std.specs.Prelude.{ℕ, nat_le, List, length, Result, Ok, Err, codes, if◌then◌else◌}
 use Rattle.aeth_app.specs.App.{AppData}
@@ -11,7 +12,10 @@ use Rattle.aeth_app.specs.AppFile.{app_of}
 use Rattle.aeth_base.specs.Faults.{BrokenRule}
 use Rattle.aeth_chip.specs.Chip.{ChipData}
 use Rattle.aeth_chip.specs.ChipFile.{chip_of}
+use Rattle.aeth_group.specs.Members.{groups_of}
 use Rattle.aeth_io.specs.Limits.{max_file_bytes}
+use Rattle.aeth_plan.specs.Plan.{PlanData}
+use Rattle.aeth_plan.specs.PlanText.{plan_of}
 use Rattle.aeth_cli.specs.Refusal.{refused_file, too_long}
 use Rattle.aeth_cli.specs.Task.{Judging, ends, reads}
 
@@ -40,3 +44,8 @@ chip_file name next = judged_file (codes "chip") chip_of name next
 -- An application file for a chip.
 abbrev pub app_file : ChipData → List ℕ → Judging AppData
 app_file chip name next = judged_file (codes "app") (app_of chip) name next
+
+-- A plan text for a chip and an application.
+abbrev pub plan_file : ChipData → AppData → List ℕ → Judging PlanData
+plan_file chip app name next =
+    judged_file (codes "plan") (plan_of chip app (groups_of app)) name next

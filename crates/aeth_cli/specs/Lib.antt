@@ -3,6 +3,7 @@ pub mod Files
 pub mod Job
 pub mod Limits
 pub mod Places
+pub mod Plans
 pub mod Promise
 pub mod Refusal
 pub mod Status

@@ -36,8 +36,8 @@ pub record Promise {H O E : Type 0} (h : shelf.Ghosts H) (o : sink.Ghosts O) (e 
       → e.written new.err ≡ appended (e.written old.err) (err_text asked)
   -- The words alone decide whether they are a command.
   pub usage_only : status ≡ usage_status → command_of words ≡ None
-  -- A file can't be read: its calls failed in this run, it is named on `err`, and all that is judged
-  -- before it was judged and not refused.
+  -- A file can't be read: its calls failed in this run, it is named on `err`, and all that is
+  -- judged before it was judged and not refused.
   pub read_fault : status ≡ read_fault_status
       → (command : Command) × (answer : Job) × (command_of words ≡ Some command)
       × IsReadFault (files_of h old.shelf) (files_of h new.shelf) (task_of command) answer

@@ -57,14 +57,14 @@ impl Answer {
         }
     }
 
-    /// What was asked for can't be granted, for the cause that the line says.
-    pub fn not_granted(alloc: Global, line: &str) -> Result<Answer, NoMemory>
-        ensures { IfOk result (λ answer. answer ≡ not_granted line.now) }
+    /// What was asked for can't be granted, for the cause that the text says.
+    pub fn not_granted(text: Vec<u8>) -> Answer
+        ensures { result ≡ not_granted text.items }
     {
-        Ok(Answer {
+        Answer {
             status: Status::NotGranted,
-            text: Vec::from_slice(alloc, line.as_bytes())?,
-        })
+            text,
+        }
     }
 
     /// The words are no command.

@@ -5,6 +5,7 @@ ghost use Rattle.aeth_cli.specs.Stop.{IfAnswer};
 ghost use Rattle.std.specs.Prelude.{◌≡◌, IfOk, map, string_bytes};
 
 mod app;
+mod check;
 mod chip;
 mod server;
 mod slots;
@@ -43,6 +44,12 @@ pub enum Command<'a> {
         chip: FileName<'a>,
         app: FileName<'a>,
     },
+    /// `check CHIP APP PLAN`: whether a plan is accepted, or the first rule that it breaks.
+    Check {
+        chip: FileName<'a>,
+        app: FileName<'a>,
+        plan: FileName<'a>,
+    },
 }
 
 /// The command that the words are, if they are one.
@@ -55,6 +62,7 @@ fn command_of(words: &[String]) -> Option<Command<'_>>
         "server" => server::command(words),
         "chip" => chip::command(words),
         "app" => app::command(words),
+        "check" => check::command(words),
         _ => None,
     }
 }
@@ -86,5 +94,6 @@ fn command_answer<H: Shelf>(alloc: Global, words: &[String], shelf: &mut H) -> R
         }
         Command::Chip { chip } => chip::answer(alloc, &chip, shelf),
         Command::App { chip, app } => app::answer(alloc, &chip, &app, shelf),
+        Command::Check { chip, app, plan } => check::answer(alloc, &chip, &app, &plan, shelf),
     }
 }

@@ -1,14 +1,19 @@
 // Files that a command reads and judges.
-ghost use Rattle.aeth_cli.specs.Files.{app_file, chip_file, text_file};
+ghost use Rattle.aeth_cli.specs.Files.{app_file, chip_file, plan_file, text_file};
 ghost use Rattle.aeth_cli.specs.Places.{files_of};
 ghost use Rattle.aeth_cli.specs.Stop.{HandsOn, Judges};
+ghost use Rattle.aeth_group.specs.Members.{groups_of};
+ghost use Rattle.aeth_plan.specs.Plan.{IsPlanOf};
+ghost use Rattle.std.specs.Prelude.{◌≡◌, IfOk};
 
 use crate::answer::{Answer, Stop};
 use crate::words::FileName;
 use aeth_app::{App, read_app};
 use aeth_base::Fault;
 use aeth_chip::{Chip, read_chip};
+use aeth_group::Groups;
 use aeth_io::{ReadFail, Shelf, read_all};
+use aeth_plan::{Plan, read_plan};
 use std::alloc::Global;
 
 /// How a chip file is called in texts.
@@ -16,6 +21,9 @@ const CHIP: &str = "chip";
 
 /// How an application file is called in texts.
 const APP: &str = "app";
+
+/// How a plan text is called in texts.
+const PLAN: &str = "plan";
 
 /// The bytes of a file, by its word in texts and its name on the shelf.
 fn read_file<H: Shelf>(
@@ -69,4 +77,22 @@ pub fn read_app_file<H: Shelf>(
 {
     let bytes = read_file(alloc, APP, name, shelf)?;
     judged(alloc, APP, read_app(alloc, &bytes, chip))
+}
+
+/// The plan of a text, for a chip and an application with its groups.
+pub fn read_plan_file<H: Shelf>(
+    alloc: Global,
+    chip: &Chip,
+    app: &App,
+    groups: &Groups,
+    name: &FileName,
+    shelf: &mut H,
+) -> Result<Plan, Stop>
+    requires { groups.now ≡ groups_of app.now }
+    ensures judges { Judges (files_of H.Shelf shelf.old) (files_of H.Shelf shelf.new)
+        (plan_file chip.now app.now name.now) (λ plan. plan) result }
+    ensures plan { IfOk result (IsPlanOf chip.now app.now groups.now) }
+{
+    let bytes = read_file(alloc, PLAN, name, shelf)?;
+    judged(alloc, PLAN, read_plan(alloc, &bytes, chip, app, groups))
 }

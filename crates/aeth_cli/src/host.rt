@@ -14,8 +14,8 @@ use std::process::ExitCode;
 use std::rt::{Env, Files, Stderr, Stdout};
 use std::{env, io};
 
-/// Runs the command that the arguments after the program's name are, over the files of the host, and
-/// gives the exit code with which the program ends: the number of the status.
+/// Runs the command that the arguments after the program's name are, over the files of the host,
+/// and gives the exit code with which the program ends: the number of the status.
 pub fn start<R: Env + Files + AllocGlobal + Clone + Drop>(
     rt: &R,
     out: Stdout,

@@ -5,6 +5,7 @@ mod answer;
 mod commands;
 mod files;
 mod host;
+mod plans;
 mod program;
 mod status;
 mod text;

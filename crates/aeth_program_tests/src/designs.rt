@@ -67,6 +67,27 @@ name = "u1"
 connections = ["c0", "c1"]
 "#;
 
+/// Two connections on the pair, one of them between cores on one interface.
+pub(crate) const LOCAL: &str = r#"version = 1
+detour = 0
+core = [ {name = "cpu", ni = "n0"}, {name = "mem", ni = "n1"}, {name = "dsp", ni = "n0"} ]
+[[connection]]
+name = "c0"
+from = "cpu"
+to = "mem"
+fwd = {words = 1, per = 2, latency = 6, delay = 0}
+back = {words = 0, per = 1, latency = 12, delay = 0}
+[[connection]]
+name = "c1"
+from = "cpu"
+to = "dsp"
+fwd = {words = 0, per = 1, latency = 12, delay = 0}
+back = {words = 0, per = 1, latency = 12, delay = 0}
+[[use]]
+name = "main"
+connections = ["c0", "c1"]
+"#;
+
 /// A mesh of four columns and four rows of routers, each with a network interface.
 pub(crate) const MESH: &str = r#"version = 1
 slots = 64

@@ -4,6 +4,8 @@
 #[cfg(test)]
 mod app_tests;
 #[cfg(test)]
+mod check_tests;
+#[cfg(test)]
 mod chip_tests;
 #[cfg(test)]
 mod designs;

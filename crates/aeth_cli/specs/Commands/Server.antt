@@ -11,8 +11,8 @@ use Rattle.aeth_cli.specs.declared.commands.Command.TheVariants as command
 use Rattle.aeth_cli.specs.Job.{Job, done, not_granted}
 use Rattle.aeth_cli.specs.Words.{◌>>=◌, number_within, slot_set_of}
 
--- SIZE and NEED from 1 to the size of the largest table, LINKS the delay of a path, in cycles, SLOTS
--- a list of slots.
+-- SIZE and NEED from 1 to the size of the largest table, LINKS the delay of a path, in cycles,
+-- SLOTS a list of slots.
 abbrev pub server_command : List (List ℕ) → Option Command
 server_command (size_word ∷ need_word ∷ links_word ∷ slots_word ∷ []) = do
   size ← number_within 1 max_slots size_word

@@ -34,7 +34,8 @@ pub fn answer(alloc: Global, need: u32, links: u32, slots: &SlotSet) -> Result<A
     ensures { IfOk result (λ answer. answer ≡ latency_job need links slots.now) }
 {
     if slots.count() < need {
-        return Answer::not_granted(alloc, "too few slots\n");
+        let text = Vec::from_slice(alloc, b"too few slots\n")?;
+        return Ok(Answer::not_granted(text));
     }
     Ok(Answer::done(latency_line(alloc, need, links, slots)?))
 }

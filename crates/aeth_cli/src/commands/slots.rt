@@ -33,7 +33,8 @@ pub fn answer(alloc: Global, need: u32, gap: u32, free: &SlotSet) -> Result<Answ
     ensures { IfOk result (λ answer. answer ≡ chosen_job need gap free.now) }
 {
     let Some(set) = choose(free, need, gap) else {
-        return Answer::not_granted(alloc, "no slots\n");
+        let text = Vec::from_slice(alloc, b"no slots\n")?;
+        return Ok(Answer::not_granted(text));
     };
     let mut text = Vec::new(alloc);
     push_slots(&mut text, &set)?;

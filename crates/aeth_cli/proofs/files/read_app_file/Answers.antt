@@ -23,5 +23,5 @@ pub returns : goal.returns
 returns g c =
     Judges-read (files_of g.H.Shelf c.args.shelf.now) (files_of g.H.Shelf c.read_file.new.shelf)
     (codes "app") c.args.name.now (λ (bytes : Vec ℕ Global). bytes.items) c.in_ok-bytes.bytes
-    rule_of (λ app. app) (app_of c.args.chip.now) c.read_app.result c.judged.result c.in_ok-bytes.ensures
-    (rw c.deref.ensures.value at c.read_app.ensures.gives) c.judged.ensures
+    rule_of (λ app. app) (app_of c.args.chip.now) c.read_app.result c.judged.result
+    c.in_ok-bytes.ensures (rw c.deref.ensures.value at c.read_app.ensures.gives) c.judged.ensures

@@ -9,6 +9,6 @@ abbrev pub invariant-loop-piece : goal.invariant-loop-piece
 invariant-loop-piece l = record {
   size : l.set.size ≡ l.size;
   below : Ascends 0 l.least l.set.slots;
-  read : IsReadSoFar l.size (slice_split (λ byte. byte == comma) l.fn.word) (length l.yielded) l.least
-      l.set.slots;
+  read : IsReadSoFar l.size (slice_split (λ byte. byte == comma) l.fn.word) (length l.yielded)
+      l.least l.set.slots;
 }

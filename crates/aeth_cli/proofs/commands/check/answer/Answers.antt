@@ -1,0 +1,25 @@
+use Rattle.std.proofs.Common.{ℕ, List}
+use Rattle.aeth_app.specs.App.{AppData}
+use Rattle.aeth_chip.specs.Chip.{ChipData}
+use Rattle.aeth_cli.specs.Commands.Check.{plan_task}
+use Rattle.aeth_cli.specs.Files.{app_file, chip_file}
+use Rattle.aeth_cli.specs.Places.{files_of}
+use Rattle.aeth_cli.specs.Task.{Task}
+use Rattle.aeth_cli.proofs.FileLemmas.{IfAnswer-left}
+use Rattle.aeth_cli.proofs.commands.check.answer.Goals as goal
+
+-- The plan is judged for the chip and the application that were read.
+pub returns : goal.returns
+returns g c =
+    let old = files_of g.H.Shelf c.args.shelf.now in
+    let chip_read = files_of g.H.Shelf c.read_chip_file.new.shelf in
+    let app_read = files_of g.H.Shelf c.read_app_file.new.shelf in
+    let now = files_of g.H.Shelf c.plan_answer.new.shelf in
+    let chip = c.in_ok-chip.chip in
+    let app = c.in_ok-app.app in
+    let planned : ChipData → AppData → Task = λ chip app. plan_task chip app c.args.plan.now in
+    let next : ChipData → Task = λ chip. app_file chip c.args.app.now (planned chip) in
+    IfAnswer-left old chip_read now (chip_file c.args.chip.now next) (next chip)
+    c.plan_answer.result (c.in_ok-chip.ensures next)
+    (IfAnswer-left chip_read app_read now (next chip) (planned chip app)
+    c.plan_answer.result (c.in_ok-app.ensures (planned chip)) c.plan_answer.ensures)
