@@ -3,6 +3,10 @@ mod Fronts
 mod NameCounts
 mod OwnNames
 mod StartLaws
+mod GrantOrder
+mod SeatedCores
+mod RisingLists
+pub mod MadePlans
 mod PrintLaws
 pub mod LineForms
 pub mod TextLaws

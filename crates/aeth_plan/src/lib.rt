@@ -6,6 +6,7 @@ mod known;
 mod laws;
 mod layout;
 mod lines;
+mod making;
 mod ordered;
 mod plan;
 mod printing;
@@ -14,7 +15,9 @@ mod reading;
 mod text;
 
 pub use fault::PlanFault;
-pub use laws::{plan_has_text, plan_is_for_chip, text_is_read};
+pub use laws::{
+    made_plan_is_for_chip, plan_has_text, plan_is_for_chip, plan_is_made_once, text_is_read,
+};
 pub use layout::{FIRST_SEAT_LINE, first_grant_line};
 pub use plan::Plan;
 pub use printing::print;
