@@ -71,8 +71,9 @@ impl<F: Fn(u32, u32) -> u32> Cost<F> {
             → F.pre function d u }
         requires answers { (d u : ℕ) → 1 ≤ d → d ≤ max_link_delay → u ≤ max_slots
             → HasOneAnswer (F.post function d u) }
-        ensures { (d u : ℕ) → 1 ≤ d → d ≤ max_link_delay → u ≤ max_slots
+        ensures answers { (d u : ℕ) → 1 ≤ d → d ≤ max_link_delay → u ≤ max_slots
             → F.post function d u (price result d u) }
+        ensures costs { AreCosts result }
     {
         let mut answers = [0; COST_COUNT];
         for i in 0..COST_COUNT {

@@ -1,7 +1,7 @@
 use Rattle.std.proofs.Common.{◌≢◌, ◌<◌, ◌+◌, ◌/◌, ◌%◌, ◌∙◌, ℕ, length, get_or, get_or-set_other}
 use Rattle.std.proofs.Common.{get_or-set_same, below_more, length-set, set, subst, sym, arith}
-use Rattle.aeth_paths.specs.Costs.{cost_count, used_count}
-use Rattle.aeth_paths.proofs.CostLemmas.{IsCost, one-cost}
+use Rattle.aeth_paths.specs.Costs.{used_count}
+use Rattle.aeth_paths.proofs.CostLemmas.{are-costs}
 use Rattle.aeth_paths.proofs.cost.Cost.new.Goals as goal
 
 -- One more answer is the function's.
@@ -25,17 +25,12 @@ loop-i-preserved g c =
 
 -- Each answer is from 1 to the greatest cost.
 pub invariant_of-result : goal.invariant_of-result
-invariant_of-result g c =
-    let answers = c.loop-i.answers in
-    let one : (i : ℕ) → i < cost_count → IsCost (get_or answers i 0) =
-    λ i within.
-    one-cost (λ r. goal.F-post g c.args.function (1 + i / used_count) (i % used_count) r)
-    (get_or answers i 0)
-    (c.requires.answers (1 + i / used_count) (i % used_count) (omega arith) (omega arith)
-    (omega arith))
-    (c.loop-i.invariant.told i (omega (arith, c.loop-i-test.false, within))) in
-    record {
-      count = c.loop-i.invariant.size;
-      some = λ i within. (one i within).some;
-      most = λ i within. (one i within).most;
-    }
+invariant_of-result g c = are-costs (λ d u r. goal.F-post g c.args.function d u r)
+    c.loop-i.answers c.requires.answers c.loop-i.invariant.size
+    (λ k within. c.loop-i.invariant.told k (omega (arith, c.loop-i-test.false, within)))
+
+-- The same of the new value.
+pub returns-clause-costs : goal.returns-clause-costs
+returns-clause-costs g c = are-costs (λ d u r. goal.F-post g c.args.function d u r)
+    c.loop-i.answers c.requires.answers c.loop-i.invariant.size
+    (λ k within. c.loop-i.invariant.told k (omega (arith, c.loop-i-test.false, within)))
