@@ -1,0 +1,22 @@
+//! Tests of books, first paths, plans and their check, above the libraries that have them.
+#![tactic(auto)]
+
+#[cfg(test)]
+mod apps;
+#[cfg(test)]
+mod books;
+#[cfg(test)]
+mod chips;
+mod costs;
+#[cfg(test)]
+mod grants;
+#[cfg(test)]
+mod paths;
+#[cfg(test)]
+mod plans;
+#[cfg(test)]
+mod searches;
+#[cfg(test)]
+mod setups;
+#[cfg(test)]
+mod texts;

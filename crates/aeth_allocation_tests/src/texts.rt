@@ -1,0 +1,85 @@
+// Plans that are read from texts, and what is asked of them.
+ghost use Rattle.aeth_app.specs.App.{IsAppOf};
+ghost use Rattle.aeth_group.specs.Members.{groups_of};
+ghost use Rattle.aeth_plan.specs.Making.{AreApart};
+ghost use Rattle.aeth_plan.specs.Plan.{IsPlanOf};
+ghost use Rattle.std.specs.Prelude.{◌≡◌, AllPairs};
+
+use aeth_app::App;
+use aeth_check::{Verdict, check};
+use aeth_chip::Chip;
+use aeth_group::{Grant, Groups};
+use aeth_plan::{Plan, print, read_plan};
+use aeth_seats::Seats;
+use std::alloc::Global;
+
+/// What is asked of a plan, with the answer.
+#[derive(Clone, Copy)]
+pub(crate) enum AskedOfPlan {
+    /// Whether it is printed as its text.
+    Text,
+    /// The table size, the seats and the grants of the plan that the first seats and its grants make.
+    Made(u32, usize, usize),
+    /// The verdict.
+    Verdict(Verdict),
+}
+
+/// Whether the answer is right.
+#[tactic(auto, using(aeth_plan::proofs::MadePlans::grants_apart))]
+pub(crate) fn is_plan_right(
+    alloc: Global,
+    chip: &Chip,
+    app: &App,
+    groups: &Groups,
+    text: &str,
+    asked: &AskedOfPlan,
+) -> Option<bool>
+    requires app { IsAppOf chip.now app.now }
+    requires groups { groups.now ≡ groups_of app.now }
+{
+    let text = text.as_bytes();
+    let Ok(plan) = read_plan(alloc, text, chip, app, groups) else {
+        return None;
+    };
+    match asked {
+        AskedOfPlan::Text => is_text(alloc, chip, app, groups, &plan, text),
+        AskedOfPlan::Made(slots, seats, grants) => {
+            is_made(alloc, chip, app, plan.grants(), (*slots, *seats, *grants))
+        }
+        AskedOfPlan::Verdict(verdict) => {
+            Some(check(alloc, chip, app, groups, &plan).ok()? == *verdict)
+        }
+    }
+}
+
+/// Whether a plan is printed so.
+#[tactic(auto, using(aeth_plan::proofs::PlanLaws::seats_named, aeth_plan::proofs::PlanLaws::grants_named))]
+fn is_text(
+    alloc: Global,
+    chip: &Chip,
+    app: &App,
+    groups: &Groups,
+    plan: &Plan,
+    text: &[u8],
+) -> Option<bool>
+    requires { IsPlanOf chip.now app.now groups.now plan.now }
+{
+    let printed = print(alloc, plan, chip, app).ok()?;
+    Some(printed.as_slice() == text)
+}
+
+/// Whether the plan that the first seats and these grants make has this size and so many of each.
+fn is_made(
+    alloc: Global,
+    chip: &Chip,
+    app: &App,
+    grants: &[Grant],
+    has: (u32, usize, usize),
+) -> Option<bool>
+    requires app { IsAppOf chip.now app.now }
+    requires apart { AllPairs AreApart grants.now }
+{
+    let seats = Seats::new(alloc, chip, app).ok()?;
+    let made = Plan::of(alloc, chip, &seats, grants).ok()?;
+    Some((made.slots(), made.seats().len(), made.grants().len()) == has)
+}
