@@ -1,0 +1,13 @@
+use Rattle.std.proofs.Common.{◌+◌, arith}
+use Rattle.aeth_trace.specs.Receivers.{pulls_on}
+use Rattle.aeth_trace.proofs.OrderLemmas.{until_later}
+use Rattle.aeth_runs_tests.proofs.channels.next_pulls_on.Goals as goal
+
+-- Up to the next cycle there aren't fewer.
+pub loop-cycle-preserved : goal.loop-cycle-preserved
+loop-cycle-preserved c =
+    let cycle = c.loop-cycle.cycle in
+    let later = until_later (λ row. row.cycle) cycle (cycle + 1)
+    (pulls_on c.args.receivers.now c.args.channel) (omega arith) in
+    let here = c.next_pull-taken.ensures.known in
+    omega arith
