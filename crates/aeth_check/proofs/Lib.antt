@@ -9,7 +9,7 @@ mod ConflictLaws
 mod HoldLaws
 mod MeetingLaws
 mod FirstLaws
-mod RouteLaws
+pub mod RouteLaws
 mod SeatLaws
 mod ChannelLaws
 mod AcceptedLaws
