@@ -1,0 +1,32 @@
+-- The table of an application's price is what a cost with these answers is seen as.
+use Rattle.std.proofs.Common.{◌≡◌, ◌∙◌, ◌<◌, ◌≤◌, ◌+◌, ◌-◌, ◌*◌, ◌/◌, ◌%◌, ℕ, List}
+use Rattle.std.proofs.Common.{ap, get_or, sym, arith}
+use Rattle.std.proofs.lemmas.List.{get_or_default, same_lists}
+use Rattle.std.proofs.lemmas.List.FromFn.{get_or-map-range_with_len, length-map-range_with_len}
+use Rattle.aeth_base.specs.Limits.{max_link_delay, max_slots}
+use Rattle.aeth_paths.specs.Costs.{AreCosts, cost_count, price, used_count}
+use Rattle.aeth_app.specs.declared.connection.Price.{Price}
+use Rattle.aeth_alloc.specs.Prices.{price_of, prices_of, table_of}
+
+-- A table whose answers are those of a function is the table of this function.
+same-table : (table : List ℕ) (cost : ℕ → ℕ → ℕ) → AreCosts table
+    → ((d u : ℕ) → 1 ≤ d → d ≤ max_link_delay → u ≤ max_slots → price table d u ≡ cost d u)
+    → table ≡ table_of cost
+same-table table cost are same =
+    let answer : ℕ → ℕ = λ i. cost (1 + i / used_count) (i % used_count) in
+    let size = length-map-range_with_len answer 0 cost_count in
+    same_lists table (table_of cost) (are.count ∙ sym size) (λ i d within.
+    let low : i < cost_count = omega (arith, within, are.count) in
+    let row : ℕ = 1 + i / used_count in
+    let place : used_count * (row - 1) + i % used_count ≡ i = omega arith in
+    get_or_default table i d 0 within
+    ∙ sym (ap (λ k. get_or table k 0) place)
+    ∙ same row (i % used_count) (omega arith) (omega (arith, low)) (omega arith)
+    ∙ sym (get_or-map-range_with_len answer 0 cost_count i i d low (omega arith)))
+
+-- So a cost with the answers of a price is seen as this price's table.
+pub price-table : (its : Price) (table : List ℕ) → AreCosts table
+    → ((d u : ℕ) → 1 ≤ d → d ≤ max_link_delay → u ≤ max_slots → price table d u ≡ price_of its d u)
+    → table ≡ prices_of its
+unfolding prices_of
+price-table its table = same-table table (price_of its)

@@ -1,0 +1,25 @@
+-- What links cost by an application's price, as tables of costs. This project's own.
+--
+--   table_of      the table of the answers of a function of a link's delay and its used slots
+--   hops, pressure, price_of      the two prices
+--   prices_of      the table of an application's price
+use Rattle.std.specs.Prelude.{ℕ, ◌+◌, ◌/◌, ◌%◌, List, map}
+use Rattle.std.specs.List.{range_with_len}
+use Rattle.aeth_app.specs.declared.connection.Price.{Price}
+use Rattle.aeth_app.specs.declared.connection.Price.TheVariants.{Hops, Pressure}
+use Rattle.aeth_paths.specs.Costs.{cost_count, used_count}
+
+-- The table of the answers of a function: a row for each delay from 1 on, with an answer for each
+-- number of used slots.
+abbrev pub table_of : (ℕ → ℕ → ℕ) → List ℕ
+table_of cost = map (λ i. cost (1 + i / used_count) (i % used_count)) (range_with_len 0 cost_count)
+
+-- By `hops` each link costs 1. By `pressure` it costs 1 and one more for each of its slots that is
+-- used.
+abbrev pub price_of : Price → ℕ → ℕ → ℕ
+price_of Hops delay used = 1
+price_of Pressure delay used = 1 + used
+
+-- The table of a price.
+unfoldable pub prices_of : Price → List ℕ
+prices_of price = table_of (price_of price)

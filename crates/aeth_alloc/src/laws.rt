@@ -1,0 +1,67 @@
+//! What holds of an allocation, over the definitions alone.
+ghost use Rattle.std.specs.Prelude.{◌≡◌, ◌≢◌, ℕ, [], Contains, List, None, Some};
+ghost use Rattle.aeth_app.specs.App.{AppData, IsApp, IsAppOf};
+ghost use Rattle.aeth_base.specs.declared.ids.NiId.{NiId};
+ghost use Rattle.aeth_book.specs.Book.{BookData, IsBook};
+ghost use Rattle.aeth_check.specs.Accepted.{IsAccepted};
+ghost use Rattle.aeth_chip.specs.Chip.{ChipData, IsChip};
+ghost use Rattle.aeth_group.specs.Members.{GroupsData, groups_of};
+ghost use Rattle.aeth_group.specs.declared.grant.Grant.{Grant};
+ghost use Rattle.aeth_paths.specs.Candidates.{IsCandidate, IsFirst};
+ghost use Rattle.aeth_paths.specs.declared.request.Found.{Found};
+ghost use Rattle.aeth_paths.specs.declared.request.Request.{Request};
+ghost use Rattle.aeth_plan.specs.Plan.{IsPlanOf};
+ghost use Rattle.aeth_alloc.specs.Allocation.{allocation, last_state};
+ghost use Rattle.aeth_alloc.specs.Channels.{Design};
+ghost use Rattle.aeth_alloc.specs.FirstCandidate.{first_candidate};
+ghost use Rattle.aeth_alloc.specs.Refusals.{IsRefused, LacksOnlyRefused};
+ghost use Rattle.aeth_alloc.specs.declared.outcome.Refused.{Refused};
+
+/// The first candidate as a function is the first candidate as a fact, and there is none exactly
+/// where nothing is a candidate.
+pub fn first_candidates()
+    ensures some { (chip : ChipData) (book : BookData) (prices : List ℕ) (ask : Request)
+        (from to crowded : List NiId) → IsChip chip → IsBook book → book.links ≡ chip.links
+        → (found : Found) → IsFirst book prices ask from to crowded found
+        → first_candidate chip book prices ask from to crowded ≡ Some found }
+    ensures none { (chip : ChipData) (book : BookData) (prices : List ℕ) (ask : Request)
+        (from to crowded : List NiId) → IsChip chip → IsBook book → book.links ≡ chip.links
+        → ((found : Found) → IsCandidate book ask from to crowded found → ⊥)
+        → first_candidate chip book prices ask from to crowded ≡ None }
+{}
+
+/// Each unit has its turn: after the last one none waits.
+pub fn turns()
+    ensures { (design : Design) (groups : GroupsData)
+        → (last_state design groups).units.waiting ≡ [] }
+{}
+
+/// A refused unit is that of its turn, the side for which it is refused had no candidate, and the turn
+/// leaves all that is reserved as it was.
+pub fn refusals()
+    ensures { (design : Design) → IsChip design.chip → IsApp design.app
+        → IsAppOf design.chip design.app → (refused : Refused)
+        → Contains (last_state design (groups_of design.app)).refused refused
+        → IsRefused design (groups_of design.app) refused }
+{}
+
+/// The plan is one for the chip, the application and its groups. It breaks no rule of an accepted plan
+/// but the one on missing sides, and that one for refused units alone. It has no grant for a refused
+/// unit. With no refusal it is accepted.
+pub fn plans()
+    ensures is_plan { (chip : ChipData) (app : AppData) (prices : List ℕ) → IsChip chip → IsApp app
+        → IsAppOf chip app
+        → IsPlanOf chip app (groups_of app) (allocation chip app (groups_of app) prices).plan }
+    ensures lacks { (chip : ChipData) (app : AppData) (prices : List ℕ) → IsChip chip → IsApp app
+        → IsAppOf chip app
+        → LacksOnlyRefused chip app (groups_of app) (allocation chip app (groups_of app) prices) }
+    ensures refused { (chip : ChipData) (app : AppData) (prices : List ℕ) → IsChip chip → IsApp app
+        → IsAppOf chip app → (refused : Refused)
+        → Contains (allocation chip app (groups_of app) prices).refused refused → (grant : Grant)
+        → Contains (allocation chip app (groups_of app) prices).plan.grants grant
+        → grant.unit ≢ refused.unit }
+    ensures accepted { (chip : ChipData) (app : AppData) (prices : List ℕ) → IsChip chip
+        → IsApp app → IsAppOf chip app
+        → (allocation chip app (groups_of app) prices).refused ≡ []
+        → IsAccepted chip app (groups_of app) (allocation chip app (groups_of app) prices).plan }
+{}

@@ -1,0 +1,11 @@
+//! The allocation: seats for cores, and paths and slots for their channels.
+#![tactic(auto)]
+
+mod allocation;
+mod channels;
+pub mod laws;
+mod outcome;
+mod turns;
+
+pub use allocation::{allocate, allocate_with};
+pub use outcome::{Outcome, Refused};
