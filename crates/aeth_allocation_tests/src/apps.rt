@@ -124,3 +124,25 @@ smooth = ['u1']
 name = 'u1'
 connections = ['c1']
 ";
+
+/// Two connections on the pair between cores of which one is fixed. The first has no candidate back: no
+/// path has a latency of 1.
+pub(crate) const ROLL: &str = "version = 1
+detour = 0
+core = [{name = 'cpu', ni = 'n0'}, {name = 'acc'}, {name = 'aux'}]
+[[connection]]
+name = 'c0'
+from = 'cpu'
+to = 'acc'
+fwd = {words = 1, per = 2, latency = 12, delay = 0}
+back = {words = 0, per = 1, latency = 1, delay = 0}
+[[connection]]
+name = 'c1'
+from = 'cpu'
+to = 'aux'
+fwd = {words = 0, per = 1, latency = 12, delay = 0}
+back = {words = 0, per = 1, latency = 12, delay = 0}
+[[use]]
+name = 'main'
+connections = ['c0', 'c1']
+";

@@ -37,6 +37,19 @@ link = [
 ]
 ";
 
+/// The twin links, of which the first has a delay of two cycles.
+pub(crate) const SLOW_TWIN: &str = "version = 2
+slots = 8
+routers = ['r0', 'r1']
+nis = ['n0', 'n1']
+link = [
+  {from = 'n0', to = 'r0'}, {from = 'r0', to = 'n0'},
+  {from = 'n1', to = 'r1'}, {from = 'r1', to = 'n1'},
+  {from = 'r0', to = 'r1', delay = 2}, {from = 'r1', to = 'r0'},
+  {from = 'r0', to = 'r1'},
+]
+";
+
 /// Three routers: the link from the first to the second takes as long as the two over the third.
 pub(crate) const TRIANGLE: &str = "version = 2
 slots = 8

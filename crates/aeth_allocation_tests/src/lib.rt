@@ -1,6 +1,8 @@
-//! Tests of books, first paths, plans and their check, above the libraries that have them.
+//! Tests of books, first paths, allocations, plans and their check, above the libraries that have them.
 #![tactic(auto)]
 
+#[cfg(test)]
+mod allocations;
 #[cfg(test)]
 mod apps;
 #[cfg(test)]
@@ -10,6 +12,8 @@ mod chips;
 mod costs;
 #[cfg(test)]
 mod grants;
+#[cfg(test)]
+mod outcomes;
 #[cfg(test)]
 mod paths;
 #[cfg(test)]

@@ -3,6 +3,7 @@
 ghost use Rattle.aeth_app.specs.App.{IsAppOf};
 
 use crate::grants::{AskedOfBook, is_book_right};
+use crate::outcomes::{AskedOfAllocation, is_allocation_right};
 use crate::texts::{AskedOfPlan, is_plan_right};
 use aeth_app::{App, read_app};
 use aeth_chip::{Chip, read_chip};
@@ -15,6 +16,8 @@ pub(crate) enum Question<'a> {
     /// After grants over links 0, 4 and 3, each a connection of the first group and the mask of its
     /// slots.
     OfBook(&'a [(u32, u64)], &'a AskedOfBook),
+    /// Of the allocation.
+    OfAllocation(&'a AskedOfAllocation),
     /// Of the plan of a text.
     OfPlan(&'a str, &'a AskedOfPlan),
 }
@@ -38,6 +41,7 @@ fn is_right_for(alloc: Global, chip: &Chip, app: &App, question: Question) -> Op
     let groups = Groups::of(alloc, app).ok()?;
     match question {
         Question::OfBook(grants, asked) => is_book_right(alloc, chip, app, &groups, grants, asked),
+        Question::OfAllocation(asked) => is_allocation_right(alloc, chip, app, &groups, asked),
         Question::OfPlan(text, asked) => is_plan_right(alloc, chip, app, &groups, text, asked),
     }
 }

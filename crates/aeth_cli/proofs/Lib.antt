@@ -1,3 +1,4 @@
+mod AllocationLemmas
 mod FileLemmas
 mod Listing
 mod PromiseLemmas

@@ -1,5 +1,6 @@
 -- The commands, and what each asks for.
 -- This project's own.
+pub mod Allocate
 pub mod App
 pub mod Check
 pub mod Chip
@@ -9,6 +10,7 @@ use Rattle.std.specs.Prelude.{ℕ, ◌≡◌, List, [], ◌∷◌, Option, Some,
 use Rattle.std.specs.Str.{bytes_eq}
 use Rattle.aeth_cli.specs.declared.commands.Command.{Command}
 use Rattle.aeth_cli.specs.declared.commands.Command.TheVariants as command
+use Rattle.aeth_cli.specs.Commands.Allocate.{allocate_command, allocate_task}
 use Rattle.aeth_cli.specs.Commands.App.{app_command, app_task}
 use Rattle.aeth_cli.specs.Commands.Check.{check_command, check_task}
 use Rattle.aeth_cli.specs.Commands.Chip.{chip_command, chip_task}
@@ -26,6 +28,7 @@ command_of (name ∷ words) =
     else if bytes_eq name (codes "server") then server_command words
     else if bytes_eq name (codes "chip") then chip_command words
     else if bytes_eq name (codes "app") then app_command words
+    else if bytes_eq name (codes "allocate") then allocate_command words
     else if bytes_eq name (codes "check") then check_command words
     else None
 
@@ -35,6 +38,7 @@ task_of (command.Slots need gap free) = ends (chosen_job need gap free)
 task_of (command.Server need links slots) = ends (latency_job need links slots)
 task_of (command.Chip chip) = chip_task chip
 task_of (command.App chip app) = app_task chip app
+task_of (command.Allocate chip app) = allocate_task chip app
 task_of (command.Check chip app plan) = check_task chip app plan
 
 -- What is asked for by a command, or by words that are none, where the contents on which it rests

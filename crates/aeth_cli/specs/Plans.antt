@@ -21,11 +21,15 @@ abbrev pub connection_name : AppData → ConnId → List ℕ
 connection_name app conn =
     option_map_or (λ connection. connection.name) (slice_get app.connections conn.0) []
 
+-- `CONN GROUP SIDE`: a side of a unit.
+abbrev pub side_text : AppData → GroupUnit → Side → List ℕ
+side_text app unit side =
+    connection_name app unit.conn ++ codes " " ++ decimal unit.group.0 ++ codes " "
+    ++ side_word side
+
 -- `missing CONN GROUP SIDE`: a unit lacks a grant for a side.
 abbrev pub missing_text : AppData → GroupUnit → Side → List ℕ
-missing_text app unit side =
-    codes "missing " ++ connection_name app unit.conn ++ codes " "
-    ++ decimal unit.group.0 ++ codes " " ++ side_word side ++ codes "\n"
+missing_text app unit side = codes "missing " ++ side_text app unit side ++ codes "\n"
 
 -- `broken RULE LINE OTHER`: a plan breaks a rule in its lines.
 abbrev pub broken_text : ℕ → ℕ → ℕ → List ℕ

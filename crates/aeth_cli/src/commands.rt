@@ -4,6 +4,7 @@ ghost use Rattle.aeth_cli.specs.Places.{files_of};
 ghost use Rattle.aeth_cli.specs.Stop.{IfAnswer};
 ghost use Rattle.std.specs.Prelude.{◌≡◌, IfOk, map, string_bytes};
 
+mod allocate;
 mod app;
 mod check;
 mod chip;
@@ -44,6 +45,11 @@ pub enum Command<'a> {
         chip: FileName<'a>,
         app: FileName<'a>,
     },
+    /// `allocate CHIP APP`: the plan of the allocation, or the units that are refused.
+    Allocate {
+        chip: FileName<'a>,
+        app: FileName<'a>,
+    },
     /// `check CHIP APP PLAN`: whether a plan is accepted, or the first rule that it breaks.
     Check {
         chip: FileName<'a>,
@@ -62,6 +68,7 @@ fn command_of(words: &[String]) -> Option<Command<'_>>
         "server" => server::command(words),
         "chip" => chip::command(words),
         "app" => app::command(words),
+        "allocate" => allocate::command(words),
         "check" => check::command(words),
         _ => None,
     }
@@ -94,6 +101,7 @@ fn command_answer<H: Shelf>(alloc: Global, words: &[String], shelf: &mut H) -> R
         }
         Command::Chip { chip } => chip::answer(alloc, &chip, shelf),
         Command::App { chip, app } => app::answer(alloc, &chip, &app, shelf),
+        Command::Allocate { chip, app } => allocate::answer(alloc, &chip, &app, shelf),
         Command::Check { chip, app, plan } => check::answer(alloc, &chip, &app, &plan, shelf),
     }
 }

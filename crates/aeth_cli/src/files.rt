@@ -1,4 +1,5 @@
 // Files that a command reads and judges.
+ghost use Rattle.aeth_app.specs.App.{IsAppOf};
 ghost use Rattle.aeth_cli.specs.Files.{app_file, chip_file, plan_file, text_file};
 ghost use Rattle.aeth_cli.specs.Places.{files_of};
 ghost use Rattle.aeth_cli.specs.Stop.{HandsOn, Judges};
@@ -72,8 +73,9 @@ pub fn read_app_file<H: Shelf>(
     name: &FileName,
     shelf: &mut H,
 ) -> Result<App, Stop>
-    ensures { Judges (files_of H.Shelf shelf.old) (files_of H.Shelf shelf.new)
+    ensures judges { Judges (files_of H.Shelf shelf.old) (files_of H.Shelf shelf.new)
         (app_file chip.now name.now) (λ app. app) result }
+    ensures app { IfOk result (IsAppOf chip.now) }
 {
     let bytes = read_file(alloc, APP, name, shelf)?;
     judged(alloc, APP, read_app(alloc, &bytes, chip))

@@ -2,6 +2,7 @@
 ghost use Rattle.aeth_cli.specs.Job.{not_granted};
 ghost use Rattle.aeth_cli.specs.Places.{Files};
 ghost use Rattle.aeth_cli.specs.Plans.{accepted_plan, broken_text, connection_name, missing_text};
+ghost use Rattle.aeth_cli.specs.Plans.{side_text};
 ghost use Rattle.aeth_cli.specs.Stop.{Judges};
 ghost use Rattle.aeth_group.specs.Members.{groups_of};
 ghost use Rattle.aeth_plan.specs.Plan.{IsPlanOf};
@@ -46,12 +47,20 @@ fn missing(alloc: Global, app: &App, unit: &Unit, side: Side) -> Result<Answer, 
     ensures { IfOk result (λ answer. answer ≡ not_granted (missing_text app.now unit.now side)) }
 {
     let mut text = Vec::from_slice(alloc, b"missing ")?;
-    push_connection(&mut text, app, unit.conn)?;
-    push_count(&mut text, " ", unit.group.0)?;
-    text.push(b' ')?;
-    push_side(&mut text, side)?;
+    push_side_of(&mut text, app, unit, side)?;
     text.push(b'\n')?;
     Ok(Answer::not_granted(text))
+}
+
+/// Appends a side of a unit.
+pub fn push_side_of(text: &mut Vec<u8>, app: &App, unit: &Unit, side: Side) -> Result<(), NoMemory>
+    ensures { OnOk result (text.new.items
+        ≡ text.old.items ++ side_text app.now unit.now side) }
+{
+    push_connection(text, app, unit.conn)?;
+    push_count(text, " ", unit.group.0)?;
+    text.push(b' ')?;
+    push_side(text, side)
 }
 
 /// Appends the name of a connection; no bytes where there is none of that number.

@@ -2,6 +2,8 @@
 #![tactic(auto)]
 
 #[cfg(test)]
+mod allocate_tests;
+#[cfg(test)]
 mod app_tests;
 #[cfg(test)]
 mod check_tests;

@@ -21,6 +21,6 @@ returns g c =
     let now = files_of g.H.Shelf c.read_app_file.new.shelf in
     let summed : AppData → Task = λ app. ends (done (app_text app)) in
     c.in_ok-chip.ensures (λ chip. app_file chip c.args.app.now summed) now c.done.result
-    (c.in_ok-app.ensures summed now c.done.result
+    (c.in_ok-app.ensures.judges summed now c.done.result
     (IsAnswer-done now (app_text c.in_ok-app.app) c.done.result
     (c.done.ensures ∙ ap done c.in_ok-app_lines.ensures)))

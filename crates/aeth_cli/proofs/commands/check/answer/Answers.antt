@@ -22,4 +22,4 @@ returns g c =
     IfAnswer-left old chip_read now (chip_file c.args.chip.now next) (next chip)
     c.plan_answer.result (c.in_ok-chip.ensures next)
     (IfAnswer-left chip_read app_read now (next chip) (planned chip app)
-    c.plan_answer.result (c.in_ok-app.ensures (planned chip)) c.plan_answer.ensures)
+    c.plan_answer.result (c.in_ok-app.ensures.judges (planned chip)) c.plan_answer.ensures)

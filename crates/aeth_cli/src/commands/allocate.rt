@@ -1,0 +1,91 @@
+// `allocate CHIP APP`: the plan of the allocation, or the units that are refused.
+ghost use Rattle.aeth_alloc.specs.Allocation.{allocation};
+ghost use Rattle.aeth_alloc.specs.Prices.{prices_of};
+ghost use Rattle.aeth_app.specs.App.{IsAppOf};
+ghost use Rattle.aeth_cli.specs.Commands.Allocate.{allocate_command, allocate_task};
+ghost use Rattle.aeth_cli.specs.Commands.Allocate.{allocation_job, refusal_text, refusals_text};
+ghost use Rattle.aeth_cli.specs.Places.{files_of};
+ghost use Rattle.aeth_cli.specs.Stop.{IfAnswer};
+ghost use Rattle.aeth_cli.specs.Task.{IsAnswer};
+ghost use Rattle.aeth_group.specs.Members.{groups_of};
+ghost use Rattle.std.specs.Prelude.{◌≡◌, ◌++◌, IfOk, OnOk, map, string_bytes};
+
+use crate::answer::{Answer, Stop};
+use crate::commands::Command;
+use crate::files::{read_app_file, read_chip_file};
+use crate::plans::push_side_of;
+use crate::text::push_count;
+use crate::words::FileName;
+use aeth_alloc::{Outcome, Refused, allocate};
+use aeth_app::App;
+use aeth_base::NoMemory;
+use aeth_chip::Chip;
+use aeth_group::Groups;
+use aeth_io::Shelf;
+use aeth_plan::print;
+use std::alloc::Global;
+
+/// The command of the words CHIP APP.
+pub fn command<'a>(words: &'a [String]) -> Option<Command<'a>>
+    ensures { result ≡ allocate_command (map string_bytes words.now) }
+{
+    let [chip, app] = words else {
+        return None;
+    };
+    let chip = FileName::new(chip.as_str())?;
+    let app = FileName::new(app.as_str())?;
+    Some(Command::Allocate { chip, app })
+}
+
+/// The plan of the allocation, or the units that are refused.
+pub fn answer<H: Shelf>(
+    alloc: Global,
+    chip: &FileName,
+    app: &FileName,
+    shelf: &mut H,
+) -> Result<Answer, Stop>
+    ensures { IfAnswer result (IsAnswer (files_of H.Shelf shelf.old) (files_of H.Shelf shelf.new)
+        (allocate_task chip.now app.now)) }
+{
+    let chip = read_chip_file(alloc, chip, shelf)?;
+    let app = read_app_file(alloc, &chip, app, shelf)?;
+    Ok(allocated(alloc, &chip, &app)?)
+}
+
+/// The answer for an application on a chip.
+fn allocated(alloc: Global, chip: &Chip, app: &App) -> Result<Answer, NoMemory>
+    requires { IsAppOf chip.now app.now }
+    ensures { IfOk result (λ answer. answer ≡ allocation_job chip.now app.now
+        (allocation chip.now app.now (groups_of app.now) (prices_of app.now.price))) }
+{
+    let groups = Groups::of(alloc, app)?;
+    let outcome = allocate(alloc, chip, app, &groups)?;
+    if outcome.refused.is_empty() {
+        Ok(Answer::done(print(alloc, &outcome.plan, chip, app)?))
+    } else {
+        Ok(Answer::not_granted(refusals(alloc, app, &outcome.refused)?))
+    }
+}
+
+/// A line for each refused unit.
+fn refusals(alloc: Global, app: &App, refused: &[Refused]) -> Result<Vec<u8>, NoMemory>
+    ensures { IfOk result (λ text. text.items ≡ refusals_text app.now refused.now) }
+{
+    let mut text = Vec::new(alloc);
+    for unit in refused {
+        push_refusal(&mut text, app, unit)?;
+    }
+    Ok(text)
+}
+
+/// Appends the line of a refused unit.
+fn push_refusal(text: &mut Vec<u8>, app: &App, refused: &Refused) -> Result<(), NoMemory>
+    ensures { OnOk result (text.new.items
+        ≡ text.old.items ++ refusal_text app.now refused.now) }
+{
+    text.extend_from_slice(b"refused unit ")?;
+    push_side_of(text, app, &refused.unit, refused.side)?;
+    push_count(text, " ", refused.turn)?;
+    text.push(b'\n')?;
+    Ok(())
+}
