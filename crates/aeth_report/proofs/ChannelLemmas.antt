@@ -1,0 +1,44 @@
+-- The channels of an application's connections, and of a log that is regular for it.
+use Rattle.std.proofs.Common.{◌≡◌, ◌<◌, ℕ, List, [], ◌∷◌, Contains, map, sym, ap, inl}
+use Rattle.std.proofs.Common.{inr, arith}
+use Rattle.std.specs.List.{All, range_with_len}
+use Rattle.std.proofs.lemmas.List.Elements.{All-contains, All-contains_itself}
+use Rattle.aeth_base.specs.declared.ids.Channel.{Channel}
+use Rattle.aeth_base.specs.declared.ids.Side.TheVariants.{Back, Fwd}
+use Rattle.aeth_base.proofs.Members.{Contains-cases, Contains-map, Contains-nil, flat_map-Contains}
+use Rattle.aeth_base.proofs.Ranges.{All-range}
+use Rattle.aeth_report.specs.Channels.{channels_of, channels_with}
+use Rattle.aeth_report.specs.Log.{ChannelData}
+
+-- The channels of a connection are of it.
+of_connection : (c : ℕ) (channel : Channel) → Contains (channels_with c) channel
+    → channel.conn.0 ≡ c
+of_connection c channel has =
+    let fwd : Channel = record { conn = record { 0 = c }; side = Fwd } in
+    let back : Channel = record { conn = record { 0 = c }; side = Back } in
+    elim (Contains-cases fwd (back ∷ []) channel has) [
+      | inl same ↦ sym (ap (λ (one : Channel). one.conn.0) same)
+      | inr later ↦ elim (Contains-cases back [] channel later) [
+        | inl same ↦ sym (ap (λ (one : Channel). one.conn.0) same)
+        | inr none ↦ Contains-nil none
+      ]
+    ]
+
+-- The channels of so many connections are of these.
+pub channels_of-known : (connections : ℕ) (channel : Channel)
+    → Contains (channels_of connections) channel → channel.conn.0 < connections
+channels_of-known connections channel has =
+    let range = range_with_len 0 connections in
+    let found = flat_map-Contains channels_with range channel has in
+    let below = All-contains (λ c. c < connections) range found.0 (All-range connections) found.1 in
+    let same = of_connection found.0 channel found.2 in
+    omega arith
+
+-- So are those of a log whose channels these are.
+pub log-known : (connections : ℕ) (log : List ChannelData)
+    → map (λ one. one.channel) log ≡ channels_of connections
+    → All (λ one. one.channel.conn.0 < connections) log
+log-known connections log same k default within =
+    let itself = All-contains_itself log k default within in
+    let has = Contains-map (λ (one : ChannelData). one.channel) log _ itself in
+    channels_of-known connections _ (rw same at has)

@@ -1,0 +1,5 @@
+pub mod Limits
+pub mod Channels
+pub mod Log
+pub mod Regular
+pub mod LogText

@@ -1,0 +1,7 @@
+-- The numbers of the rules that this crate is the lowest to need.
+-- This project's own.
+use Rattle.std.specs.Prelude.{ℕ}
+
+-- The words, the landings and the flits of a log are at most so many.
+abbrev pub max_total : ℕ
+max_total = 4294967295
