@@ -1,1 +1,21 @@
 mod ChannelLemmas
+pub mod Places
+pub mod Sums
+pub mod Stays
+pub mod StayMeetings
+pub mod StaysAlone
+pub mod SessionMeetings
+pub mod SessionOrder
+pub mod ClosingLemmas
+pub mod GrantLemmas
+pub mod FlowPlaces
+pub mod OneFlit
+pub mod CarriesLemmas
+pub mod FlitLemmas
+pub mod LogRows
+pub mod RunRows
+pub mod Accounts
+pub mod RegularLemmas
+pub mod Totals
+pub mod RegularLogs
+pub mod AlikeLemmas

@@ -3,3 +3,12 @@ pub mod Channels
 pub mod Log
 pub mod Regular
 pub mod LogText
+pub mod Design
+pub mod Routes
+pub mod Sessions
+pub mod Flows
+pub mod Carries
+pub mod RunLog
+pub mod Sound
+pub mod Bounds
+pub mod Alike

@@ -1,118 +1,18 @@
 // Printing a log.
-ghost use Rattle.aeth_report.specs.Log.{SessionData};
-ghost use Rattle.aeth_report.specs.LogText.{channel_lines, drop_line, drop_lines, head_line};
-ghost use Rattle.aeth_report.specs.LogText.{landing_line, lines_named, link_line, outside_line};
-ghost use Rattle.aeth_report.specs.LogText.{outside_lines, session_line, session_lines};
-ghost use Rattle.aeth_report.specs.LogText.{state_word, text_of};
+ghost use Rattle.aeth_report.specs.LogText.{channel_lines, landing_line, lines_named, link_line};
+ghost use Rattle.aeth_report.specs.LogText.{session_lines, text_of};
 ghost use Rattle.aeth_report.specs.Regular.{IsOrdered, IsRegular};
-ghost use Rattle.aeth_text.specs.Limits.{line_feed, space};
-ghost use Rattle.aeth_text.specs.Spelling.{ended_line, side_word, text_of_lines};
-ghost use Rattle.std.specs.Prelude.{◌≡◌, ◌<◌, ◌≤◌, ◌++◌, ◌∷◌, [], All, IfOk, OnOk, decimal, flat_map};
-ghost use Rattle.std.specs.Prelude.{length, map};
+ghost use Rattle.aeth_text.specs.Spelling.{text_of_lines};
+ghost use Rattle.std.specs.Prelude.{◌≡◌, ◌<◌, ◌++◌, All, IfOk, OnOk, flat_map, length, map};
 ghost use Rattle.std.specs.List.{enumerate_from};
 
+use crate::lines::{
+    push_dropped, push_head, push_landing, push_link, push_outside, push_session_line,
+};
 use crate::log::{ChannelLog, Landing, SessionLog, SimLog};
 use aeth_app::App;
-use aeth_base::{NoMemory, Side, push_number};
-use aeth_text::push_side;
+use aeth_base::{NoMemory, Side};
 use std::alloc::Global;
-
-// Appends a space and a number.
-fn push_field(out: &mut Vec<u8>, n: u64) -> Result<(), NoMemory>
-    ensures { OnOk result (out.new.items ≡ out.old.items ++ space ∷ decimal n) }
-{
-    out.push(b' ')?;
-    push_number(out, n)
-}
-
-// Appends two fields, each a number.
-fn push_pair(out: &mut Vec<u8>, a: u64, b: u64) -> Result<(), NoMemory>
-    ensures { OnOk result (out.new.items
-        ≡ out.old.items ++ space ∷ (decimal a ++ space ∷ decimal b)) }
-{
-    push_field(out, a)?;
-    push_field(out, b)
-}
-
-// Appends the first line.
-#[tactic(auto, unfolding(crate::specs::LogText::head_line))]
-fn push_head(out: &mut Vec<u8>, cycles: u32) -> Result<(), NoMemory>
-    ensures { OnOk result (out.new.items ≡ out.old.items ++ ended_line (head_line cycles)) }
-{
-    out.extend_from_slice(b"sim 1")?;
-    push_field(out, cycles as u64)?;
-    out.push(b'\n')?;
-    Ok(())
-}
-
-// Appends a space and the word of a state.
-#[tactic(auto, unfolding(crate::specs::LogText::state_word))]
-fn push_state(out: &mut Vec<u8>, ended: bool) -> Result<(), NoMemory>
-    ensures { OnOk result (out.new.items ≡ out.old.items ++ space ∷ state_word ended) }
-{
-    let word = if ended {
-        b" ended".as_slice()
-    } else {
-        b" running".as_slice()
-    };
-    out.extend_from_slice(word)?;
-    Ok(())
-}
-
-// Appends the name and the side of a channel, each after a space.
-fn push_channel(out: &mut Vec<u8>, name: &[u8], side: Side) -> Result<(), NoMemory>
-    ensures { OnOk result (out.new.items
-        ≡ out.old.items ++ space ∷ (name.now ++ space ∷ side_word side)) }
-{
-    out.push(b' ')?;
-    out.extend_from_slice(name)?;
-    out.push(b' ')?;
-    push_side(out, side)
-}
-
-// Appends the counts of a session, and a line feed.
-fn push_counts(out: &mut Vec<u8>, session: &SessionLog) -> Result<(), NoMemory>
-    ensures { OnOk result (out.new.items ≡ out.old.items ++ space ∷ (decimal session.now.offered
-        ++ space ∷ (decimal session.now.landed ++ space ∷ (decimal session.now.taken
-        ++ line_feed ∷ [])))) }
-{
-    push_field(out, session.offered as u64)?;
-    push_pair(out, session.landed as u64, session.taken as u64)?;
-    out.push(b'\n')?;
-    Ok(())
-}
-
-// Appends the line of a session.
-#[tactic(auto, unfolding(crate::specs::LogText::session_line))]
-fn push_session_line(
-    out: &mut Vec<u8>,
-    name: &[u8],
-    side: Side,
-    session: &SessionLog,
-) -> Result<(), NoMemory>
-    ensures { OnOk result (out.new.items
-        ≡ out.old.items ++ ended_line (session_line name.now side session.now)) }
-{
-    out.extend_from_slice(b"chan")?;
-    push_channel(out, name, side)?;
-    push_field(out, session.go)?;
-    push_state(out, session.ended)?;
-    push_counts(out, session)
-}
-
-// Appends the line of a landing with its number.
-#[tactic(auto, unfolding(crate::specs::LogText::landing_line))]
-fn push_landing(out: &mut Vec<u8>, index: u64, row: &Landing) -> Result<(), NoMemory>
-    ensures { OnOk result (out.new.items
-        ≡ out.old.items ++ ended_line (landing_line (index, row.now))) }
-{
-    out.extend_from_slice(b"land")?;
-    push_field(out, index)?;
-    push_pair(out, row.offered as u64, row.landed as u64)?;
-    push_pair(out, row.due, row.value as u64)?;
-    out.push(b'\n')?;
-    Ok(())
-}
 
 // Appends the lines of landings, numbered from 1.
 fn push_landings(out: &mut Vec<u8>, rows: &[Landing]) -> Result<(), NoMemory>
@@ -124,23 +24,6 @@ fn push_landings(out: &mut Vec<u8>, rows: &[Landing]) -> Result<(), NoMemory>
         index += 1;
         push_landing(out, index, row)?;
     }
-    Ok(())
-}
-
-// Appends what was dropped of a session that has ended.
-#[tactic(auto, unfolding(crate::specs::LogText::drop_line))]
-fn push_dropped(out: &mut Vec<u8>, session: &SessionLog) -> Result<(), NoMemory>
-    requires { IsOrdered session.now }
-    ensures { OnOk result (out.new.items ≡ out.old.items ++ text_of_lines (drop_lines session.now)) }
-{
-    if !session.ended {
-        return Ok(());
-    }
-    let unlanded = session.offered - session.landed;
-    let untaken = session.landed - session.taken;
-    out.extend_from_slice(b"drop")?;
-    push_pair(out, unlanded as u64, untaken as u64)?;
-    out.push(b'\n')?;
     Ok(())
 }
 
@@ -177,22 +60,6 @@ fn push_sessions(
     Ok(())
 }
 
-// Appends the words outside of all sessions, where there are any.
-#[tactic(auto, unfolding(crate::specs::LogText::outside_line))]
-fn push_outside(out: &mut Vec<u8>, name: &[u8], side: Side, count: u32) -> Result<(), NoMemory>
-    ensures { OnOk result (out.new.items
-        ≡ out.old.items ++ text_of_lines (outside_lines name.now side count)) }
-{
-    if count == 0 {
-        return Ok(());
-    }
-    out.extend_from_slice(b"outside")?;
-    push_channel(out, name, side)?;
-    push_field(out, count as u64)?;
-    out.push(b'\n')?;
-    Ok(())
-}
-
 // Appends a channel whose connection has this name.
 fn push_named(out: &mut Vec<u8>, name: &[u8], one: &ChannelLog) -> Result<(), NoMemory>
     requires { All IsOrdered one.now.sessions }
@@ -214,17 +81,6 @@ fn push_channels(out: &mut Vec<u8>, app: &App, channels: &[ChannelLog]) -> Resul
         let connection = app.connection(one.channel.conn);
         push_named(out, connection.name.as_bytes(), one)?;
     }
-    Ok(())
-}
-
-// Appends the line of a link with its number.
-#[tactic(auto, unfolding(crate::specs::LogText::link_line))]
-fn push_link(out: &mut Vec<u8>, link: u64, flits: u32) -> Result<(), NoMemory>
-    ensures { OnOk result (out.new.items ≡ out.old.items ++ ended_line (link_line (link, flits))) }
-{
-    out.extend_from_slice(b"link")?;
-    push_pair(out, link, flits as u64)?;
-    out.push(b'\n')?;
     Ok(())
 }
 

@@ -1,0 +1,220 @@
+-- On one link in one cycle there is one flit at most.
+use Rattle.std.proofs.Common.{◌≡◌, ◌≤◌, ◌<◌, ◌∙◌, ℕ, suc, ◌+◌, ◌-◌, ◌%◌, ◌&&◌, Bool, true, false, cond}
+use Rattle.std.proofs.Common.{Contains, Option, Some, None, slice_get, refl, sym, ap, subst, inl, inr}
+use Rattle.std.proofs.Common.{arith}
+use Rattle.std.proofs.Math.Nat.{mod-add-mod}
+use Rattle.std.proofs.lemmas.Bool.{cases_Bool, and_from, and_parts, and_right, both_ways, eq-eqb}
+use Rattle.std.proofs.lemmas.Bool.{leb-true, ltb-true, not_from_true}
+use Rattle.std.proofs.lemmas.List.Sums.{sum_by-take-le}
+use Rattle.std.specs.Prelude.{IfSome, IsTrue, not, nat_le, nat_lt, ◌==◌, unwrap_or}
+use Rattle.aeth_base.specs.Limits.{max_path_delay}
+use Rattle.aeth_base.specs.declared.ids.Channel.{Channel}
+use Rattle.aeth_base.specs.declared.ids.Side.{Side}
+use Rattle.aeth_base.specs.declared.ids.Side.TheVariants.{Fwd, Back}
+use Rattle.aeth_chip.specs.Paths.{delay_of, offset, path_delay}
+use Rattle.aeth_server.specs.PrivateServer.{PrivateServer, credited, sent}
+use Rattle.aeth_server.specs.Shape.{HasPaths}
+use Rattle.aeth_server.specs.SlotCycles.{is_slot}
+use Rattle.aeth_server.proofs.PrivateServerLemmas.{credited-next, credits_ready, sent-next, words_ready}
+use Rattle.aeth_server.proofs.SlotCycleLemmas.{member-is_slot}
+use Rattle.aeth_report.specs.declared.session.Close.{Close}
+use Rattle.aeth_report.specs.declared.session.Session.{Session}
+use Rattle.aeth_report.specs.Channels.{opposite, other_side}
+use Rattle.aeth_report.specs.Design.{grant_at}
+use Rattle.aeth_report.specs.Flows.{Flow, Run, flow_of, server_of, sessions_in}
+use Rattle.aeth_report.specs.Carries.{IsCarried, injects, returns, sends}
+use Rattle.aeth_report.specs.Sessions.{IsInUse}
+use Rattle.aeth_report.specs.Sound.{IsSound}
+use Rattle.aeth_report.proofs.ClosingLemmas.{lands_by_finish, session-delay}
+use Rattle.aeth_report.proofs.FlowPlaces.{IsFlowOf, flows_of-place, same_flow}
+use Rattle.aeth_report.proofs.GrantLemmas.{EntersIn, entered_once}
+use Rattle.aeth_report.proofs.SessionMeetings.{sessions_alone, sessions_meet}
+use Rattle.aeth_report.proofs.StaysAlone.{at-Contains}
+
+-- The opposite of the opposite channel is the channel.
+pub opposite-opposite : (channel : Channel) → opposite (opposite channel) ≡ channel
+opposite-opposite channel =
+    let cases : (side : Side) → other_side (other_side side) ≡ side =
+    elim [ Fwd ↦ refl | Back ↦ refl ] in
+    ap (λ (side : Side). record { conn = channel.conn; side = side }) (cases channel.side)
+
+-- Outside its own slots a server sends no words.
+sends-slot : (server : PrivateServer) → HasPaths server.shape → (u : ℕ)
+    → is_slot server.shape.size server.shape.slots u ≡ false
+    → sent server (u + 1) - sent server u ≡ 0
+sends-slot server paths u other =
+    let slot = is_slot server.shape.size server.shape.slots u in
+    let shut = and_right (nat_lt u server.stop) slot other in
+    let ready = words_ready server paths u in
+    let same : sent server (u + 1) ≡ sent server u + 0 =
+    (let next : u + 1 ≡ suc u = omega arith in ap (λ t. sent server t) next)
+    ∙ sent-next server paths u ∙ ap (λ (b : Bool). sent server u + cond b ready 0) shut in
+    omega arith
+
+-- Outside the opposite slots it returns no credits.
+returns-slot : (server : PrivateServer) → HasPaths server.shape → (u : ℕ)
+    → is_slot server.shape.size server.shape.back_slots u ≡ false
+    → credited server (u + 1) - credited server u ≡ 0
+returns-slot server paths u other =
+    let slot = is_slot server.shape.size server.shape.back_slots u in
+    let shut = and_right (nat_lt u server.stop) slot other in
+    let ready = credits_ready server paths u in
+    let same : credited server (u + 1) ≡ credited server u + 0 =
+    (let next : u + 1 ≡ suc u = omega arith in ap (λ t. credited server t) next)
+    ∙ credited-next server paths u
+    ∙ ap (λ (b : Bool). credited server u + cond b ready 0) shut in
+    omega arith
+
+module _ (run : Run) (sound : IsSound run) where
+  -- Both directions of a session have a path.
+  pub session-paths : (channel : Channel) (session : Session)
+      → Contains (sessions_in run channel.conn.0) session
+      → HasPaths (server_of run channel session).shape
+  session-paths channel session has = record {
+    path = (session-delay run sound channel session has).some;
+    back_path = (session-delay run sound (opposite channel) session has).some;
+  }
+
+  -- A flit is injected in a slot of the channel, while its session goes, and before it stops.
+  pub record IsInjected (channel : Channel) (session : Session) (u : ℕ) : Type 0 where
+    pub goes : (server_of run channel session).go ≤ u
+    pub stops : u < (server_of run channel session).stop
+    pub slot : Contains (grant_at run.design channel session.group.0).slots.slots
+        (u % run.design.chip.slots)
+
+  pub injected-is : (channel : Channel) (session : Session) (u : ℕ)
+      → Contains (sessions_in run channel.conn.0) session
+      → IsTrue (injects (flow_of run channel session) u) → IsInjected channel session u
+  injected-is channel session u has injected =
+      let flow = flow_of run channel session in
+      let server = flow.server in
+      let none = sends flow u == 0 && returns flow u == 0 in
+      let outer = and_parts (nat_le server.go u && nat_lt u server.stop) (not none) injected in
+      let inner = and_parts (nat_le server.go u) (nat_lt u server.stop) outer.0 in
+      let size = run.design.chip.slots in
+      let slots = (grant_at run.design channel session.group.0).slots.slots in
+      let back : flow.back.shape.back_slots ≡ slots =
+      ap (λ (ch : Channel). (grant_at run.design ch session.group.0).slots.slots)
+      (opposite-opposite channel) in
+      record {
+        goes = leb-true server.go u inner.0;
+        stops = ltb-true u server.stop inner.1;
+        slot = elim (cases_Bool (is_slot size slots u)) [
+          | inl is ↦ member-is_slot size slots u is
+          | inr other ↦
+              let paths = session-paths channel session has in
+              let back_paths = session-paths (opposite channel) session has in
+              let no_words = sends-slot flow.server paths u other in
+              let no_credits = returns-slot flow.back back_paths u
+              (ap (λ xs. is_slot size xs u) back ∙ other) in
+              let nothing = and_from (sends flow u == 0) (returns flow u == 0)
+              (eq-eqb (sends flow u) 0 no_words) (eq-eqb (returns flow u) 0 no_credits) in
+              absurd (both_ways (not none) (not_from_true none nothing) outer.1)
+        ];
+      }
+
+  -- Until it has landed its session isn't finished.
+  pub record IsOnItsWay (channel : Channel) (session : Session) (t : ℕ) : Type 0 where
+    pub goes : (server_of run channel session).go ≤ t
+    pub unfinished : t < (server_of run channel session).finish
+
+  pub on_its_way : (channel : Channel) (session : Session) (i u t : ℕ)
+      → Contains (sessions_in run channel.conn.0) session → IsInjected channel session u
+      → u + offset run.design.chip.links (grant_at run.design channel session.group.0).path i ≡ t
+      → IsOnItsWay channel session t
+  on_its_way channel session i u t has injected time =
+      let links = run.design.chip.links in
+      let path = (grant_at run.design channel session.group.0).path in
+      let lands = lands_by_finish run sound channel session has in
+      let within : offset links path i ≤ path_delay links path =
+      sum_by-take-le (delay_of links) path i in
+      let goes = injected.goes in
+      let stops = injected.stops in
+      record { goes = omega arith; unfinished = omega arith }
+
+  -- So the session is in use.
+  used : (channel : Channel) (session : Session) (t : ℕ) → IsOnItsWay channel session t
+      → IsInUse session t
+  used channel session t way =
+      let past : Close = record {
+        until = run.cycles;
+        stop = run.cycles;
+        fin = run.cycles + max_path_delay;
+      } in
+      let cases : (o : Option Close) → t < (unwrap_or o past).fin
+      → IfSome o (λ close. t < close.fin) = elim [
+        | None ↦ λ below. tt
+        | Some close ↦ λ below. below
+      ] in
+      record { goes = way.goes; unfinished = cases session.close way.unfinished }
+
+  module _ (l t : ℕ) where
+    -- What is known of a carried flit: its channel and session, where it is injected, and that it
+    -- enters the link in the slot of the cycle.
+    pub record IsKnown (c i u : ℕ) (flow : Flow) : Type 0 where
+      pub of : IsFlowOf run c flow
+      pub has : Contains (sessions_in run of.channel.conn.0) of.session
+      pub injected : IsInjected of.channel of.session u
+      pub way : IsOnItsWay of.channel of.session t
+      pub enters : EntersIn run.design sound.granted of.channel of.session.group.0 l i
+          (t % run.design.chip.slots)
+
+    pub carried-known : (c i u : ℕ) (flow : Flow) → IsCarried run l t c i u flow
+        → IsKnown c i u flow
+    carried-known c i u flow carried =
+        let of = flows_of-place run c flow carried.flow_is in
+        let channel = of.channel in
+        let session = of.session in
+        let sessions = sessions_in run channel.conn.0 in
+        let has = at-Contains sessions of.number session of.session_at in
+        let links = run.design.chip.links in
+        let size = run.design.chip.slots in
+        let own = flow_of run channel session in
+        let is = sym of.is in
+        let place : slice_get own.path i ≡ Some (record { 0 = l }) =
+        subst (λ (f : Flow). slice_get f.path i ≡ Some (record { 0 = l })) is carried.place in
+        let time : u + offset links own.path i ≡ t =
+        subst (λ (f : Flow). u + offset links f.path i ≡ t) is carried.time in
+        let given : injects own u ≡ true =
+        subst (λ (f : Flow). injects f u ≡ true) is carried.injected in
+        let injected = injected-is channel session u has given in
+        record {
+          of = of;
+          has = has;
+          injected = injected;
+          way = on_its_way channel session i u t has injected time;
+          enters = record {
+            start = u % size;
+            place = place;
+            starts = injected.slot;
+            slot = mod-add-mod u size (offset links own.path i) ∙ ap (λ n. n % size) time;
+          };
+        }
+
+    -- One flow alone has a flit on the link in this cycle, at one place.
+    pub one_flit : (c i u d j v : ℕ) (flow other : Flow) → IsCarried run l t c i u flow
+        → IsCarried run l t d j v other → (c ≡ d) × (i ≡ j)
+    one_flit c i u d j v flow other carried too =
+        let groups = run.design.groups in
+        let known = carried-known c i u flow carried in
+        let again = carried-known d j v other too in
+        let one = known.of in
+        let two = again.of in
+        let slot = t % run.design.chip.slots in
+        let used_one = used one.channel one.session t known.way in
+        let used_two = used two.channel two.session t again.way in
+        let meet = sessions_meet groups run.spans run.switches one.channel.conn.0
+        two.channel.conn.0 t sound.apart one.session two.session known.has again.has used_one
+        used_two in
+        let enters : EntersIn run.design sound.granted two.channel one.session.group.0 l j slot =
+        subst (λ (g : ℕ). EntersIn run.design sound.granted two.channel g l j slot)
+        (sym meet.group) again.enters in
+        let same = entered_once run.design sound.granted one.channel two.channel
+        one.session.group.0 l i j slot meet.together known.enters enters in
+        let there : slice_get (sessions_in run one.channel.conn.0) two.number ≡ Some two.session =
+        subst (λ (ch : Channel). slice_get (sessions_in run ch.conn.0) two.number
+        ≡ Some two.session) (sym same.0) two.session_at in
+        let numbers = sessions_alone groups run.spans run.switches one.channel.conn.0 t
+        sound.apart one.number two.number one.session two.session one.session_at there used_one
+        used_two in
+        (same_flow run c d flow other one two same.0 numbers, same.1)

@@ -1,0 +1,12 @@
+use Rattle.aeth_report.proofs.ClosingLemmas.{lands_by_finish}
+use Rattle.aeth_report.proofs.SessionOrder.{sessions_follow}
+use Rattle.aeth_report.proofs.laws.sessions_close.Goals as goal
+
+-- Switches follow one another.
+pub returns-clause-follow : goal.returns-clause-follow
+returns-clause-follow c run sound x y =
+    sessions_follow run.design.groups run.spans run.switches x y sound.apart
+
+-- A switch takes as long as the path of what it closes.
+pub returns-clause-landed : goal.returns-clause-landed
+returns-clause-landed c = lands_by_finish
