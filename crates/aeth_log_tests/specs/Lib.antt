@@ -1,0 +1,3 @@
+pub mod Designs
+pub mod Traces
+pub mod Texts

@@ -1,0 +1,4 @@
+//! Tests of what a run shows: worked texts from the definitions.
+#![tactic(auto)]
+
+pub mod texts;
