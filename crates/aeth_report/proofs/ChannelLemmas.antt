@@ -11,7 +11,7 @@ use Rattle.aeth_report.specs.Channels.{channels_of, channels_with}
 use Rattle.aeth_report.specs.Log.{ChannelData}
 
 -- The channels of a connection are of it.
-of_connection : (c : ℕ) (channel : Channel) → Contains (channels_with c) channel
+pub of_connection : (c : ℕ) (channel : Channel) → Contains (channels_with c) channel
     → channel.conn.0 ≡ c
 of_connection c channel has =
     let fwd : Channel = record { conn = record { 0 = c }; side = Fwd } in

@@ -1,4 +1,4 @@
-mod ChannelLemmas
+pub mod ChannelLemmas
 pub mod Places
 pub mod Sums
 pub mod Stays

@@ -1,0 +1,9 @@
+use Rattle.std.proofs.Common.{◌≡◌, map}
+use Rattle.std.specs.List.{range_with_len}
+use Rattle.aeth_report.specs.Sessions.{sessions_of}
+use Rattle.aeth_reconf.proofs.timeline.Timeline.of.Given as goal
+
+-- The sessions of the connections so far.
+abbrev pub invariant-loop-c : goal.invariant-loop-c
+invariant-loop-c l = l.connections.items
+    ≡ map (λ c. sessions_of l.groups l.spans c l.switches) (range_with_len 0 l.c)

@@ -1,0 +1,10 @@
+use Rattle.std.proofs.Common.{◌≡◌, ◌++◌, drop}
+use Rattle.std.specs.List.{flat_map}
+use Rattle.aeth_ni.specs.Program.{opening_writes}
+use Rattle.aeth_reconf.proofs.writes.push_all_opening.Given as goal
+
+-- The writes of the rows that are left are still to come.
+abbrev pub invariant-loop-row : goal.invariant-loop-row
+invariant-loop-row l =
+    l.writes.items ++ flat_map opening_writes (drop l.row-index l.rows)
+    ≡ l.fn.writes.items ++ flat_map opening_writes l.rows

@@ -1,0 +1,11 @@
+//! Switches between use cases: the writes to the tables of the interfaces, and the sessions of each
+//! connection.
+#![tactic(auto)]
+
+pub mod laws;
+mod timeline;
+mod writes;
+
+pub use aeth_report::{Close, Session};
+pub use timeline::Timeline;
+pub use writes::program;
