@@ -66,15 +66,15 @@ impl UnitKeys {
     fn order(&self, other: &UnitKeys) -> Ordering
         ensures { result ≡ unit_order self.now other.now }
     {
-        other.need.cmp(&self.need).then(
-            self.latency.cmp(&other.latency).then(
+        other.need.cmp(&self.need).then_with(|| {
+            self.latency.cmp(&other.latency).then_with(|| {
                 self.unit
                     .conn
                     .0
                     .cmp(&other.unit.conn.0)
-                    .then(self.unit.group.0.cmp(&other.unit.group.0)),
-            ),
-        )
+                    .then_with(|| self.unit.group.0.cmp(&other.unit.group.0))
+            })
+        })
     }
 
     /// The comparison with another unit in a turn.
