@@ -1,18 +1,19 @@
 -- The three causes for which a list is given up: no path that goes on from it changes the best.
-use Rattle.std.proofs.Common.{◌≡◌, ◌+◌, ◌<◌, ◌≤◌, ◌++◌, ℕ, Bool, true, false, cond, leb}
+use Rattle.std.proofs.Common.{◌≡◌, ◌∙◌, ◌+◌, ◌<◌, ◌≤◌, ◌++◌, ℕ, Bool, true, false, cond, leb}
 use Rattle.std.proofs.Common.{List, [], ◌∷◌, length, Contains, Option, Some, sym, refl, subst}
 use Rattle.std.proofs.Common.{arith}
 use Rattle.std.proofs.Common.{length-append}
 use Rattle.std.specs.Prelude.{sum_by}
-use Rattle.std.proofs.lemmas.Bool.{and_left, and_right, cond-false, le-ltb, lt-leb, ne_eqb}
+use Rattle.std.proofs.lemmas.Bool.{and_left, and_right, cond-false, lt-leb}
 use Rattle.std.proofs.lemmas.List.Sums.{sum_by-append, sum_by-cons}
 use Rattle.aeth_base.specs.declared.ids.LinkId.{LinkId}
 use Rattle.aeth_chip.specs.Joined.{IsJoined}
 use Rattle.aeth_chip.specs.declared.node.Node.{Node}
 use Rattle.aeth_paths.specs.Search.{Field, Walks, better, completions, is_better}
 use Rattle.aeth_paths.specs.Search.{is_candidate, keep}
-use Rattle.aeth_paths.specs.Walk.{GainsNothing}
+use Rattle.aeth_paths.specs.Walk.{GainsNothing, is_before}
 use Rattle.aeth_paths.proofs.FirstLemmas.{first_from-stays}
+use Rattle.aeth_paths.proofs.OrderLemmas.{better-before}
 use Rattle.aeth_paths.proofs.WalkLemmas.{completion-walks}
 
 -- Each link that leaves a node costs something.
@@ -65,33 +66,40 @@ cost-length f node (link ∷ rest) costs (has, joined) =
       cost-length f (f.to link) rest costs joined,
     )
 
--- A path that costs more doesn't come before.
-dearer-after : (f : Field) (path other : List LinkId)
-    → sum_by f.cost other < sum_by f.cost path → is_better f path other ≡ false
-dearer-after f path other dearer =
-    rw (
-      le-ltb (sum_by f.cost path) (sum_by f.cost other) (omega arith),
-      ne_eqb (sum_by f.cost path) (sum_by f.cost other) (λ same. omega (arith, same)),
-    ) refl
-
--- With the least cost of the links that are still needed it costs more than the best.
-pub dear-none : (f : Field) (best : List LinkId) (node : Node) (path : List LinkId) (more : ℕ)
-    → AllCost f → ((rest : List LinkId) → Walks f node path rest → more ≤ length rest)
-    → sum_by f.cost best < sum_by f.cost path + more → GainsNothing f (Some best) node path
-dear-none f best node path more costs near dear =
+-- Where no path that goes on comes before the best, nothing is gained.
+beaten-none : (f : Field) (best : List LinkId) (node : Node) (path : List LinkId)
+    → ((rest : List LinkId) → Walks f node path rest → is_better f (path ++ rest) best ≡ false)
+    → GainsNothing f (Some best) node path
+beaten-none f best node path after =
     gains-none f (Some best) node path (λ rest walks.
-    let after : is_better f (path ++ rest) best ≡ false =
-    dearer-after f (path ++ rest) best (omega (
-      arith,
-      sum_by-append f.cost path rest,
-      near rest walks,
-      cost-length f node rest costs walks.joined,
-    )) in
     let go : (b : Bool)
     → cond b (cond (is_better f (path ++ rest) best) (Some (path ++ rest)) (Some best)) (Some best)
     ≡ Some best =
     elim [
-      | true ↦ cond-false (is_better f (path ++ rest) best) (Some (path ++ rest)) (Some best) after
+      | true ↦ cond-false (is_better f (path ++ rest) best) (Some (path ++ rest)) (Some best)
+          (after rest walks)
       | false ↦ refl
     ]
     in go (is_candidate f (path ++ rest)))
+
+-- With the least cost of the links that are still needed, and with these links, no path that goes on
+-- comes before the best.
+pub outdone-none : (f : Field) (best : List LinkId) (node : Node) (path : List LinkId)
+    (more cost links : ℕ) → AllCost f
+    → ((rest : List LinkId) → Walks f node path rest → more ≤ length rest)
+    → cost ≤ sum_by f.cost path + more → links ≤ length path + more
+    → ((its : ℕ) (rest : List LinkId) → cost ≤ its → links ≤ length (path ++ rest)
+    → is_before its (path ++ rest) (sum_by f.cost best) best ≡ false)
+    → GainsNothing f (Some best) node path
+outdone-none f best node path more cost links costs near cheap short outdone =
+    beaten-none f best node path (λ rest walks.
+    let long = near rest walks in
+    better-before f (path ++ rest) best
+    ∙ outdone (sum_by f.cost (path ++ rest)) rest
+    (omega (
+      arith,
+      sum_by-append f.cost path rest,
+      long,
+      cost-length f node rest costs walks.joined,
+    ))
+    (omega (arith, length-append path rest, long)))

@@ -1,5 +1,6 @@
 -- Why a list is given up, from least distances and costs, and why else it is open.
-use Rattle.std.proofs.Common.{◌≡◌, ◌∙◌, ◌+◌, ◌≤◌, ℕ, true, List, []}
+use Rattle.std.proofs.Common.{◌≡◌, ◌∙◌, ◌+◌, ◌++◌, ◌≤◌, ℕ, true, false, List, []}
+use Rattle.std.specs.Prelude.{sum_by}
 use Rattle.std.proofs.Common.{◌∷◌, length, Contains, Option, None, Some, slice_get, sym, ap}
 use Rattle.std.proofs.Common.{subst, inl}
 use Rattle.std.proofs.Common.{inr, arith}
@@ -22,10 +23,11 @@ use Rattle.aeth_paths.specs.Open.{AreLeast, is_near, is_open}
 use Rattle.aeth_paths.specs.Search.{Field, Walks}
 use Rattle.aeth_paths.specs.Task.{field}
 use Rattle.aeth_paths.specs.declared.search.Goal.{Goal}
-use Rattle.aeth_paths.specs.declared.search.Prefix.{Prefix}
+use Rattle.aeth_paths.specs.declared.search.Priced.{Priced}
 use Rattle.aeth_paths.specs.declared.search.Task.{Task}
-use Rattle.aeth_paths.specs.Walk.{IsLeastFrom, IsTask, Stands, field_of}
-use Rattle.aeth_paths.proofs.GiveUpLemmas.{AllCost}
+use Rattle.aeth_paths.specs.Walk.{GainsNothing, IsLeastFrom, IsTask, Stands, costs_of, field_of}
+use Rattle.aeth_paths.specs.Walk.{is_before, path_in, priced}
+use Rattle.aeth_paths.proofs.GiveUpLemmas.{AllCost, outdone-none}
 use Rattle.aeth_paths.proofs.JoinLemmas.{begins-sent, leaving-begins, onward-from-walk}
 use Rattle.aeth_paths.proofs.JoinLemmas.{route-from-walk}
 
@@ -113,39 +115,56 @@ open-from f least node (link ∷ path) more live is near =
 
 -- ---- the same of a task
 
-module _ (task : Task) (goal : Goal) (prefix : Prefix) where
+-- Each link costs something.
+pub task-cost : (task : Task) (goal : Goal) → IsTask task → AllCost (field_of task goal)
+task-cost task goal is =
+    all-cost task.chip.now task.book.now task.prices.now task.ask goal.ni goal.most is.is_chip
+    is.is_book is.book is.costs
+
+module _ (task : Task) (goal : Goal) (node : Node) (path : List LinkId) where
   apart : IsTask task → (a : NiId) (link : LinkId)
       → IsLinkFrom task.book.now.links link (Ni a) (Ni goal.ni) → ⊥
   apart is a link =
       subst (λ (ls : List Link). IsLinkFrom ls link (Ni a) (Ni goal.ni) → ⊥) (sym is.book)
       (no-direct task.chip.now is.is_chip a goal.ni link)
 
-  told : (more : Option ℕ) → IsTask task → IsLeastFrom task.far.now goal.ni prefix.end more
-      → IsLeastFrom task.book.now.links goal.ni prefix.end more
+  told : (more : Option ℕ) → IsTask task → IsLeastFrom task.far.now goal.ni node more
+      → IsLeastFrom task.book.now.links goal.ni node more
   told more is least =
-      subst (λ (ls : List Link). IsLeastFrom ls goal.ni prefix.end more) (is.far ∙ sym is.book)
-      least
+      subst (λ (ls : List Link). IsLeastFrom ls goal.ni node more) (is.far ∙ sym is.book) least
 
   -- A list that walks on has at least so many links.
-  pub task-near : (more : ℕ) → IsTask task
-      → Stands (to_of task.book.now.links) prefix.end prefix.path
-      → IsLeastFrom task.far.now goal.ni prefix.end (Some more)
-      → (rest : List LinkId) → Walks (field_of task goal) prefix.end prefix.path rest
-      → more ≤ length rest
+  pub task-near : (more : ℕ) → IsTask task → Stands (to_of task.book.now.links) node path
+      → IsLeastFrom task.far.now goal.ni node (Some more)
+      → (rest : List LinkId) → Walks (field_of task goal) node path rest → more ≤ length rest
   task-near more is stands least =
-      near-walk task.book.now task.prices.now task.ask goal.ni goal.most (apart is) prefix.end
-      prefix.path more (told (Some more) is least) stands
+      near-walk task.book.now task.prices.now task.ask goal.ni goal.most (apart is) node path more
+      (told (Some more) is least) stands
 
   -- No list walks on.
-  pub task-never : IsTask task → Stands (to_of task.book.now.links) prefix.end prefix.path
-      → IsLeastFrom task.far.now goal.ni prefix.end None
-      → (rest : List LinkId) → Walks (field_of task goal) prefix.end prefix.path rest → ⊥
+  pub task-never : IsTask task → Stands (to_of task.book.now.links) node path
+      → IsLeastFrom task.far.now goal.ni node None
+      → (rest : List LinkId) → Walks (field_of task goal) node path rest → ⊥
   task-never is stands least =
-      never-walk task.book.now task.prices.now task.ask goal.ni goal.most (apart is) prefix.end
-      prefix.path (told None is least) stands
+      never-walk task.book.now task.prices.now task.ask goal.ni goal.most (apart is) node path
+      (told None is least) stands
 
--- Each link costs something.
-pub task-cost : (task : Task) (goal : Goal) → IsTask task → AllCost (field_of task goal)
-task-cost task goal is =
-    all-cost task.chip.now task.book.now task.prices.now task.ask goal.ni goal.most is.is_chip
-    is.is_book is.book is.costs
+  -- No path that goes on comes before the best.
+  pub task-outdone : (given : Option Priced) (best : Priced) (more cost links : ℕ) → IsTask task
+      → Stands (to_of task.book.now.links) node path
+      → IsLeastFrom task.far.now goal.ni node (Some more)
+      → given ≡ priced (costs_of task) (path_in given) → given ≡ Some best
+      → cost ≤ sum_by (costs_of task) path + more → links ≤ length path + more
+      → ((its : ℕ) (rest : List LinkId) → cost ≤ its → links ≤ length (path ++ rest)
+      → is_before its (path ++ rest) best.cost best.path ≡ false)
+      → GainsNothing (field_of task goal) (path_in given) node path
+  task-outdone given best more cost links is stands least are at cheap short outdone =
+      let f = field_of task goal in
+      let priced_so : best.cost ≡ sum_by (costs_of task) best.path =
+      ap (λ (p : Priced). p.cost) (same_Some _ _
+      (subst (λ (o : Option Priced). o ≡ priced (costs_of task) (path_in o)) at are)) in
+      subst (λ (o : Option Priced). GainsNothing f (path_in o) node path) (sym at)
+      (outdone-none f best.path node path more cost links (task-cost task goal is)
+      (task-near more is stands least) cheap short (λ its rest. subst (λ n. cost ≤ its
+      → links ≤ length (path ++ rest) → is_before its (path ++ rest) n best.path ≡ false) priced_so
+      (outdone its rest)))

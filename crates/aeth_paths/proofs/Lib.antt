@@ -6,6 +6,7 @@ mod GiveUpLemmas
 mod StepLemmas
 mod PrefixLemmas
 mod HopelessLemmas
+mod VainLemmas
 mod OrderLemmas
 mod CostLemmas
 mod TryLemmas

@@ -1,15 +1,14 @@
 -- A list of links whose free starts are dead stays so, however it goes on.
 use Rattle.std.proofs.Common.{◌≡◌, ◌∙◌, ◌+◌, ◌≤◌, ◌++◌, ◌%◌, ℕ, Bool, true, false, cond, not}
 use Rattle.std.proofs.Common.{List, [], ◌∷◌, filter, Contains, sym, refl, ap, subst, arith}
-use Rattle.std.proofs.Common.{append_assoc, min, IsTrue, ◌↔◌, rules}
-use Rattle.std.proofs.lemmas.Bool.{both_ways, false_from_ne_true}
+use Rattle.std.proofs.Common.{append_assoc, length, leb, max, IsTrue, ◌↔◌, rules}
+use Rattle.std.proofs.lemmas.Bool.{both_ways, false_from_ne_true, le-leb, leb-true}
 use Rattle.std.proofs.lemmas.List.{append-nil}
 use Rattle.std.proofs.lemmas.List.Sums.{sum_by-append, sum_by-cons}
 use Rattle.aeth_base.specs.declared.ids.LinkId.{LinkId}
 use Rattle.aeth_chip.specs.Paths.{delay_of, path_delay}
 use Rattle.aeth_slots.specs.SlotSet.{Ascends, IsSlotSet, Slots, cyclic_distances}
 use Rattle.aeth_slots.specs.SlotSet.{distances, gap_of, greatest}
-use Rattle.aeth_base.specs.Limits.{max_slots}
 use Rattle.aeth_group.proofs.ListLemmas.{same_tests}
 use Rattle.aeth_slots.specs.Choice.{IsSuitable, is_suitable, sublists}
 use Rattle.aeth_slots.proofs.ChoiceLemmas.{is_suitable-true, true-is_suitable, whole-suitable}
@@ -72,25 +71,29 @@ gap-within set is =
     ]
     in go set.slots is.ascends
 
--- What `suitable` tells at a gap that is cut off far above the size is so at the gap itself.
-pub suitable-cut : (set : Slots) (need gap most : ℕ) (told : Bool) → IsSlotSet set
-    → max_slots ≤ most → (IsTrue told ↔ IsSuitable need (min gap most) set)
-    → told ≡ is_suitable need gap set
-suitable-cut set need gap most told is wide tells =
-    let within = gap-within set is in
+-- What `suitable` tells is what the test gives.
+pub suitable-told : (set : Slots) (need gap : ℕ) (told : Bool)
+    → (IsTrue told ↔ IsSuitable need gap set) → told ≡ is_suitable need gap set
+suitable-told set need gap told tells =
     same_tests told (is_suitable need gap set)
-    (λ yes'. let suitable = tells.0 (from_true told yes') in
+    (λ yes'. true-is_suitable need gap set (tells.0 (from_true told yes')))
+    (λ yes'. true_from told (tells.1 (is_suitable-true need gap set yes')))
+
+-- Where a gap may be as great as the table, it is enough that there are enough slots.
+pub suitable-wide : (set : Slots) (need gap : ℕ) → IsSlotSet set → set.size ≤ gap
+    → leb (max need 1) (length set.slots) ≡ is_suitable need gap set
+suitable-wide set need gap is wide =
+    let within = gap-within set is in
+    same_tests (leb (max need 1) (length set.slots)) (is_suitable need gap set)
+    (λ yes'. let many = leb-true (max need 1) (length set.slots) yes' in
     true-is_suitable need gap set (record {
-      some = suitable.some;
-      enough = suitable.enough;
-      near = omega (arith, suitable.near);
+      some = omega arith;
+      enough = omega arith;
+      near = omega arith;
     }))
     (λ yes'. let suitable = is_suitable-true need gap set yes' in
-    true_from told (tells.1 (record {
-      some = suitable.some;
-      enough = suitable.enough;
-      near = omega (arith, suitable.near, within, is.within, wide);
-    })))
+    le-leb (max need 1) (length set.slots)
+    (omega (arith, suitable.some, suitable.enough)))
 
 -- A path's delay with one more link.
 pub path_delay-push : (book : BookData) (path : List LinkId) (link : LinkId)

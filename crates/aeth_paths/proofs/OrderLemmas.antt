@@ -1,7 +1,7 @@
 -- The order of paths, key by key and link by link.
-use Rattle.std.proofs.Common.{◌≡◌, ◌≢◌, ◌∙◌, ◌+◌, ◌≤◌, ◌&&◌, ◌||◌, ℕ, Bool, true, false, cond, eqb}
-use Rattle.std.proofs.Common.{ltb, List}
-use Rattle.std.proofs.Common.{[], ◌∷◌, length, drop, map, Some, slice_get, refl, ap, arith}
+use Rattle.std.proofs.Common.{◌≡◌, ◌≢◌, ◌∙◌, ◌+◌, ◌≤◌, ◌&&◌, ◌||◌, ◌++◌, ℕ, zero, suc, Bool, true}
+use Rattle.std.proofs.Common.{false, cond, eqb, ltb, List, [], ◌∷◌, length, drop, map, Some, slice_get}
+use Rattle.std.proofs.Common.{refl, ap, arith}
 use Rattle.std.specs.Cmp.Lexicographic.{slice_cmp}
 use Rattle.std.specs.Ordering.{is_lt, nat_cmp, ordering_then}
 use Rattle.std.specs.declared.cmp.Ordering.{Ordering}
@@ -9,7 +9,7 @@ use Rattle.std.specs.declared.cmp.Ordering.TheVariants.{Equal, Greater, Less}
 use Rattle.std.specs.Prelude.{sum_by}
 use Rattle.std.proofs.lemmas.Bool.{eq-eqb, le-ltb, ne_eqb}
 use Rattle.std.proofs.lemmas.List.{drop_all, drop_more}
-use Rattle.std.proofs.lemmas.Option.{get_or_from_slice_get, slice_get_within}
+use Rattle.std.proofs.lemmas.Option.{get_or_from_slice_get, none-some, slice_get_within}
 use Rattle.aeth_base.specs.declared.ids.LinkId.{LinkId}
 use Rattle.aeth_paths.specs.Search.{Field, is_better}
 use Rattle.aeth_paths.specs.Walk.{is_before}
@@ -109,3 +109,10 @@ links-end path other place all all' =
     ap (λ (p : List LinkId). is_lt (slice_cmp nat_cmp (numbers p) (numbers (drop place other))))
     (drop_all place path all)
     ∙ ap (λ (p : List LinkId). is_lt (slice_cmp nat_cmp [] (numbers p))) (drop_all place other all')
+
+-- A link of a list is one of each list that begins with it.
+pub front-link : (path rest : List LinkId) (place : ℕ) (link : LinkId)
+    → slice_get path place ≡ Some link → slice_get (path ++ rest) place ≡ Some link
+front-link [] rest place link at = absurd (none-some link at)
+front-link (first ∷ path) rest zero link at = at
+front-link (first ∷ path) rest (suc place) link at = front-link path rest place link at

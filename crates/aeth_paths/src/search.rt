@@ -1,10 +1,12 @@
 // The search: it extends a list of links link by link, and gives up a list from which no better
 // path goes on.
-ghost use Rattle.std.specs.Prelude.{◌≡◌, ◌+◌, ◌*◌, ◌<◌, ◌≤◌, ◌++◌, ◌∷◌, ◌↔◌, ◌⊎◌, [], ℕ, Option};
-ghost use Rattle.std.specs.Prelude.{true, false};
-ghost use Rattle.std.specs.Prelude.{IsTrue, length, slice_get};
+ghost use Rattle.std.specs.Prelude.{◌≡◌, ◌+◌, ◌*◌, ◌<◌, ◌≤◌, ◌++◌, ◌∷◌, ◌↔◌, ◌⊎◌, [], ℕ, List, Option};
+ghost use Rattle.std.specs.Prelude.{true, false, Contains, IsTrue, length, map, slice_get};
+ghost use Rattle.std.specs.Cmp.Lexicographic.{slice_cmp};
+ghost use Rattle.std.specs.Ordering.{is_lt, nat_cmp};
 ghost use Rattle.std.specs.Int.{bit_at};
 ghost use Rattle.aeth_base.specs.Limits.{max_path_links};
+ghost use Rattle.aeth_base.specs.declared.ids.LinkId.{LinkId};
 ghost use Rattle.aeth_base.specs.declared.ids.NiId.{NiId};
 ghost use Rattle.aeth_base.specs.declared.ids.RouterId.{RouterId};
 ghost use Rattle.aeth_chip.specs.Limits.{max_routers};
@@ -162,9 +164,12 @@ fn is_live(task: &Task, prefix: &Prefix) -> bool
     ensures { result ≡ is_live task.now.book.now task.now.ask prefix.now.path }
 {
     let gap = (task.ask.latency as u64 + 1).saturating_sub(prefix.delay as u64);
-    prefix
-        .free
-        .suitable(task.ask.need, gap.min(u32::MAX as u64) as u32)
+
+    // No gap is greater than the table.
+    if gap >= prefix.free.size() as u64 {
+        return prefix.free.count() >= task.ask.need.max(1);
+    }
+    prefix.free.suitable(task.ask.need, gap as u32)
 }
 
 /// Whether a path comes before another: by cost, then by number of links, then by link numbers.
@@ -229,8 +234,68 @@ fn onward(task: &Task, goal: &Goal, node: Node) -> Option<u32>
     }
 }
 
+/// Whether each path that begins with a list of links comes behind a path by link numbers.
+fn is_behind(path: &Path, other: &Path) -> bool
+    ensures { IsTrue result → (rest : List LinkId)
+        → is_lt (slice_cmp nat_cmp (map (λ (link : LinkId). link.0) (path.now ++ rest))
+        (map (λ (link : LinkId). link.0) other.now)) ≡ false }
+{
+    for i in 0..path.len().min(other.len()) {
+        let (link, its) = (path.link(i), other.link(i));
+        if link.0 != its.0 {
+            return link.0 > its.0;
+        }
+    }
+    false
+}
+
+/// Whether a path that begins with a list of links may come before a path, where it costs at least
+/// so much and has at least so many links.
+fn may_precede(path: &Path, cost: u64, links: u64, best: &Priced) -> bool
+    ensures { result ≡ false → (its : ℕ) (rest : List LinkId) → cost ≤ its
+        → links ≤ length (path.now ++ rest)
+        → is_before its (path.now ++ rest) best.now.cost best.now.path ≡ false }
+{
+    if cost != best.cost as u64 {
+        return cost < best.cost as u64;
+    }
+    if links != best.path.len() as u64 {
+        return links < best.path.len() as u64;
+    }
+    !is_behind(path, &best.path)
+}
+
+/// Whether no better path goes on over a link that leaves a list's end to a new router: it leads too
+/// far from the goal, or with the least cost of the links that are still needed no path over it comes
+/// before the best.
+fn is_vain(task: &Task, goal: &Goal, prefix: &Prefix, link: LinkId, best: &Option<Priced>) -> bool
+    requires task { IsTask task.now }
+    requires prefix { IsPrefix task.now prefix.now }
+    requires short { length prefix.now.path < max_path_links }
+    requires link { Contains (links_from task.now.chip.now.links prefix.now.end) link }
+    requires goes { turn_of (field_of task.now goal.now) prefix.now.path link ≡ Turn.Goes }
+    requires best { best.now ≡ priced (costs_of task.now) (path_in best.now) }
+    ensures { IsTrue result → GainsNothing (field_of task.now goal.now) (path_in best.now)
+        (to_of task.now.book.now.links link) (prefix.now.path ++ link ∷ []) }
+{
+    let Some(more) = onward(task, goal, task.chip.link(link).to) else {
+        return true;
+    };
+    let mut path = prefix.path;
+    path.push(link);
+    let links = path.len() as u64 + more as u64;
+    if links > goal.most as u64 {
+        return true;
+    }
+    match best {
+        None => false,
+        Some(best) => !may_precede(&path, prefix.cost as u64 + 1 + more as u64, links, best),
+    }
+}
+
 /// Whether no better path goes on from a list: its free starts are dead, its end is too far from
-/// the goal, or with the least cost of the links that are still needed it costs more than the best.
+/// the goal, or with the least cost of the links that are still needed no path that goes on from it
+/// comes before the best.
 fn is_hopeless(task: &Task, goal: &Goal, prefix: &Prefix, best: &Option<Priced>) -> bool
     requires task { IsTask task.now }
     requires prefix { IsPrefix task.now prefix.now }
@@ -246,12 +311,12 @@ fn is_hopeless(task: &Task, goal: &Goal, prefix: &Prefix, best: &Option<Priced>)
     let Some(more) = onward(task, goal, prefix.end) else {
         return true;
     };
-    if prefix.path.len() as u64 + more as u64 > goal.most as u64 {
+    let links = prefix.path.len() as u64 + more as u64;
+    if links > goal.most as u64 {
         return true;
     }
     if let Some(best) = best {
-        // A path that may cost as much is followed, since it may have fewer links or come first.
-        if prefix.cost as u64 + more as u64 > best.cost as u64 {
+        if !may_precede(&prefix.path, prefix.cost as u64 + more as u64, links, best) {
             return true;
         }
     }
@@ -299,8 +364,12 @@ pub(crate) fn extend<L: Ledger>(
                 consider(task, goal, &path, best)
             }
             Turn::Goes => {
-                let longer = grown(task, prefix, link, steps);
-                extend(task, goal, &longer, best, left - 1, steps)
+                if is_vain(task, goal, prefix, link, &best) {
+                    best
+                } else {
+                    let longer = grown(task, prefix, link, steps);
+                    extend(task, goal, &longer, best, left - 1, steps)
+                }
             }
         };
     }

@@ -11,12 +11,14 @@ use Rattle.aeth_paths.specs.Open.{open_steps}
 use Rattle.aeth_paths.specs.Search.{Field, completions, first_from, keep}
 use Rattle.aeth_paths.specs.Task.{links_from}
 use Rattle.aeth_paths.specs.Walk.{costs_of, field_of, path_in, priced}
+use Rattle.aeth_paths.proofs.LiveLemmas.{from_true}
 use Rattle.aeth_paths.proofs.StepLemmas.{all-left, all-ports}
 use Rattle.aeth_paths.proofs.StepLemmas.{best-end, best-step, completions-none}
 use Rattle.aeth_paths.proofs.StepLemmas.{link-below, priced-again, stands-goes, steps-away}
 use Rattle.aeth_paths.proofs.StepLemmas.{steps-end}
 use Rattle.aeth_paths.proofs.StepLemmas.{steps_over, steps_over-goes}
-use Rattle.aeth_paths.proofs.search.+extend.Goals.{in-Away, in-Ends, in-Goes}
+use Rattle.aeth_paths.proofs.search.+extend.Goals.{in-Away, in-Ends, in-Goes+else-is_vain}
+use Rattle.aeth_paths.proofs.search.+extend.Goals.{in-Goes+then-is_vain}
 use Rattle.aeth_paths.proofs.search.+extend.Goals as goal
 
 -- No link may follow.
@@ -64,8 +66,8 @@ grown-longer-requires-clause-link g t c =
     c.in-Some.link (sym c.in-Some.ensures)
 
 -- What the longer list must be.
-pub extend-best-requires : goal.extend-best-requires
-extend-best-requires g t c lives kept =
+pub extend-requires : goal.extend-requires
+extend-requires g t c lives kept =
     let f = field_of c.args.task.now c.args.goal.now in
     let path = c.args.prefix.now.path in
     let longer = c.grown-longer.result in
@@ -141,11 +143,20 @@ loop-place-preserved g t c =
             few least (omega (arith, w.steps-is, w.grown-path.ensures.steps))
             (c.loop-place.invariant.steps least are);
       }
-      | in-Goes w ↦ record {
+      | in-Goes+then-is_vain w ↦ record {
         within = omega (arith, inside);
         best = step Goes c.loop-place.best c.match-turn_at.best at w.in-Goes.ensures
             c.loop-place.invariant.best
-            (w.best-is ∙ w.extend-best.ensures.best
+            (w.best-is ∙ priced-again f.cost _ c.loop-place.best c.loop-place.invariant.best
+            ∙ ap (priced f.cost) (sym (w.is_vain.ensures (from_true _ w.if-is_vain.true) left)));
+        steps = λ least are. few least (omega (arith, w.steps-is))
+            (c.loop-place.invariant.steps least are);
+      }
+      | in-Goes+else-is_vain w ↦ record {
+        within = omega (arith, inside);
+        best = step Goes c.loop-place.best c.match-turn_at.best at w.in-Goes.ensures
+            c.loop-place.invariant.best
+            (w.best-is ∙ w.extend.ensures.best
             ∙ ap (λ n. priced f.cost (first_from f (path_in c.loop-place.best)
             (completions f left n w.grown-longer.result.path))) w.grown-longer.ensures.end
             ∙ ap (λ p. priced f.cost (first_from f (path_in c.loop-place.best)
@@ -161,7 +172,7 @@ loop-place-preserved g t c =
             omega (
               arith,
               w.steps-is,
-              w.extend-best.ensures.steps least are,
+              w.extend.ensures.steps least are,
               w.grown-longer.ensures.steps,
               over_steps,
               same,
