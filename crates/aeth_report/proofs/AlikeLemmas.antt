@@ -51,7 +51,7 @@ map-alike f g (x ∷ xs) same =
     cc
 
 -- A filter of images is the images of a filter.
-filter-map : {X Y : Type 0} (test : Y → Bool) (f : X → Y) (xs : List X)
+pub filter-map : {X Y : Type 0} (test : Y → Bool) (f : X → Y) (xs : List X)
     → filter test (map f xs) ≡ map f (filter (λ x. test (f x)) xs)
 filter-map test f [] = refl
 filter-map test f (x ∷ xs) =

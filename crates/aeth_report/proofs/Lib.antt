@@ -14,6 +14,7 @@ pub mod CarriesLemmas
 pub mod FlitLemmas
 pub mod LogRows
 pub mod RunRows
+pub mod FinalCounts
 pub mod Accounts
 pub mod RegularLemmas
 pub mod Totals

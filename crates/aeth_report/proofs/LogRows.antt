@@ -3,13 +3,13 @@ use Rattle.std.proofs.Common.{◌≡◌, ◌≤◌, ◌<◌, ◌∙◌, ℕ, ◌
 use Rattle.std.proofs.Common.{slice_get, refl, sym, ap, subst, inl, inr, arith}
 use Rattle.std.proofs.lemmas.Bool.{cases_lt}
 use Rattle.std.proofs.lemmas.Option.{slice_get-map, slice_get_within}
-use Rattle.std.specs.Prelude.{option_map}
+use Rattle.std.specs.Prelude.{option_map, slice_index}
 use Rattle.std.specs.List.{range_with_len}
 use Rattle.std.specs.List.Sorted.{IsNonDecreasing}
 use Rattle.std.proofs.lemmas.List.FromFn.{length-range_with_len, get_or-range_with_len}
 use Rattle.std.proofs.lemmas.Option.{slice_get-get_or}
 use Rattle.aeth_server.specs.Landing.{IsDue, LandsAt, LandsBy, WaitsAlone, due_time}
-use Rattle.aeth_server.specs.PrivateServer.{PrivateServer, landed}
+use Rattle.aeth_server.specs.PrivateServer.{PrivateServer, accepted, landed}
 use Rattle.aeth_server.specs.Shape.{HasPaths, IsGranted, buffer_of}
 use Rattle.aeth_server.proofs.CreditLoop.{landed-due, lands-by}
 use Rattle.aeth_server.proofs.LandingLemmas.{due-in-time, landing_cycle-lands}
@@ -17,7 +17,7 @@ use Rattle.aeth_server.proofs.SingleWord.{lands-alone}
 use Rattle.aeth_slots.specs.SlotSet.{Ascends}
 use Rattle.aeth_server.proofs.PrivateServerLemmas.{has-grown}
 use Rattle.aeth_report.specs.declared.log.Landing.{Landing}
-use Rattle.aeth_report.specs.Bounds.{IsLandingOf, IsLoggedBy}
+use Rattle.aeth_report.specs.Bounds.{IsLoggedBy}
 use Rattle.aeth_report.specs.RunLog.{counted_to, due_of, landing_of, session_log}
 use Rattle.aeth_report.proofs.Places.{range-place}
 use Rattle.aeth_report.proofs.SessionMeetings.{mapped_at}
@@ -43,10 +43,18 @@ module _ (server : PrivateServer) (paths : HasPaths server.shape) (cycles : ℕ)
       let other = lands-before i q (p + 1) again lands.after in
       omega arith
 
-  -- Each row is the landing of its word.
+  -- What a row at a place tells.
+  pub record IsRowAt (k : ℕ) (row : Landing) : Type 0 where
+    pub offered : row.offered ≡ slice_index (accepted server) k
+    pub value : row.value ≡ slice_index values k
+    pub there : k < landed server counted
+    pub lands : LandsAt server (k + 1) row.landed
+    pub early : row.landed < counted
+    pub due : row.due ≡ due_of server (k + 1)
+
+  -- So each row tells it.
   pub row-is : (k : ℕ) (row : Landing)
-      → slice_get (session_log cycles server values).rows k ≡ Some row
-      → IsLandingOf cycles server values (k + 1) row
+      → slice_get (session_log cycles server values).rows k ≡ Some row → IsRowAt k row
   row-is k row at =
       let count = landed server counted in
       let found = mapped_at (landing_of cycles server values) (range_with_len 0 count) k row at in
@@ -55,16 +63,15 @@ module _ (server : PrivateServer) (paths : HasPaths server.shape) (cycles : ℕ)
       let size = length-range_with_len 0 count in
       let here : found.0 ≡ k = omega arith in
       let lands = landing_cycle-lands server counted (k + 1) (omega arith) (omega arith) in
-      let own : IsLandingOf cycles server values (k + 1) (landing_of cycles server values k) =
-      let back : k + 1 - 1 ≡ k = omega arith in
-      record {
-        offered = rw back refl;
+      let own : IsRowAt k (landing_of cycles server values k) = record {
+        offered = refl;
+        value = refl;
+        there = omega arith;
         lands = lands;
-        counted = lands-before (k + 1) _ counted lands (omega arith);
+        early = lands-before (k + 1) _ counted lands (omega arith);
         due = refl;
-        value = rw back refl;
       } in
-      subst (λ (r : Landing). IsLandingOf cycles server values (k + 1) r)
+      subst (λ (r : Landing). IsRowAt k r)
       (ap (landing_of cycles server values) (sym here) ∙ found.2) own
 
   -- A word that has landed in the run has a row.

@@ -1,22 +1,31 @@
 -- The rows of the log of a run's session: of a channel's words that are in order, and within the
 -- session's cycles.
-use Rattle.std.proofs.Common.{◌≤◌, ◌<◌, ℕ, ◌+◌, List, Contains, map, arith}
+use Rattle.std.proofs.Common.{◌≡◌, ◌≤◌, ◌<◌, ◌∙◌, ◌&&◌, ℕ, ◌+◌, ◌-◌, List, Contains, Some, length, map, slice_get}
+use Rattle.std.proofs.Common.{ap, arith}
 use Rattle.std.specs.List.Sorted.{IsNonDecreasing, IsNonDecreasingBy}
 use Rattle.std.proofs.lemmas.List.{get_or-map, length-map}
 use Rattle.std.proofs.lemmas.List.Kept.{IsNonDecreasingBy-filter}
+use Rattle.std.proofs.lemmas.List.Sums.{count_by-le-length, length-filter}
 use Rattle.aeth_base.specs.declared.ids.Channel.{Channel}
+use Rattle.std.proofs.lemmas.Option.{slice_get-get_or}
+use Rattle.std.specs.Prelude.{nat_le, nat_lt, slice_index, slice_index_or}
 use Rattle.aeth_server.specs.Landing.{IsDue, WaitsAlone}
+use Rattle.aeth_server.specs.PrivateServer.{accepted}
+use Rattle.aeth_server.proofs.PrivateServerLemmas.{in-order}
 use Rattle.aeth_server.specs.Shape.{IsGranted}
 use Rattle.aeth_trace.specs.Channels.{is_channel}
 use Rattle.aeth_trace.specs.Words.{words_on}
 use Rattle.aeth_trace.specs.declared.words.WordRow.{WordRow}
 use Rattle.aeth_report.specs.declared.session.Session.{Session}
-use Rattle.aeth_report.specs.Bounds.{IsLoggedBy}
-use Rattle.aeth_report.specs.Flows.{Run, flow_of, server_of, sessions_in, values_of}
+use Rattle.aeth_report.specs.Bounds.{IsLandingOf, IsLoggedBy}
+use Rattle.aeth_report.specs.declared.log.Landing.{Landing}
+use Rattle.aeth_report.specs.Flows.{Run, close_at, flow_of, server_of, sessions_in, values_of}
+use Rattle.aeth_report.specs.Flows.{words_in}
 use Rattle.aeth_report.specs.RunLog.{counted_to, due_of, flow_log}
 use Rattle.aeth_report.specs.Sound.{IsSound}
 use Rattle.aeth_report.proofs.ClosingLemmas.{lands_by_finish}
-use Rattle.aeth_report.proofs.LogRows.{alone_logged, due_logged}
+use Rattle.aeth_report.proofs.AlikeLemmas.{filter-map}
+use Rattle.aeth_report.proofs.LogRows.{alone_logged, due_logged, row-is}
 use Rattle.aeth_report.proofs.OneFlit.{session-paths}
 
 -- The words of a channel come in the order of their cycles.
@@ -33,6 +42,54 @@ offers-order words channel order i j default up within =
     let two = get_or-map cycle rows j filler default (omega arith) in
     let rises = sorted i j filler up (omega arith) in
     omega arith
+
+-- The cycles of the words that a session accepts are those that its private server accepts.
+accepted-words : (run : Run) (channel : Channel) (session : Session)
+    → accepted (server_of run channel session)
+    ≡ map (λ row. row.cycle) (words_in run channel session)
+accepted-words run channel session =
+    let until = (close_at run.cycles session).until in
+    filter-map (λ a. nat_le session.go a && nat_lt a until) (λ (row : WordRow). row.cycle)
+    (words_on run.words channel)
+
+-- Each row of a session's log is the landing of its word.
+pub landing_row : (run : Run) → IsSound run → (channel : Channel) (session : Session)
+    → Contains (sessions_in run channel.conn.0) session → (k : ℕ) (row : Landing)
+    → slice_get (flow_log run.cycles (flow_of run channel session)).rows k ≡ Some row
+    → IsLandingOf run channel session (k + 1) row
+landing_row run sound channel session has k row at =
+    let server = server_of run channel session in
+    let paths = session-paths run sound channel session has in
+    let words = words_in run channel session in
+    let cycle = λ (word : WordRow). word.cycle in
+    let value = λ (word : WordRow). word.value in
+    let filler : WordRow = record { channel = channel; cycle = 0; value = 0 } in
+    let is = row-is server paths run.cycles (values_of run channel session) k row at in
+    let counted = counted_to run.cycles server in
+    let order = in-order server paths counted in
+    let there = is.there in
+    let lands = order.lands in
+    let sends = order.sends in
+    let early_one = λ (a : ℕ). nat_lt a counted in
+    let arrives = length-filter early_one (accepted server) in
+    let few = count_by-le-length early_one (accepted server) in
+    let same = ap length (accepted-words run channel session) in
+    let size = length-map words cycle in
+    let inside : k < length words = omega arith in
+    let back : k + 1 - 1 ≡ k = omega arith in
+    let early = is.early in
+    record {
+      word = slice_index_or words k filler;
+      is = rw back (slice_get-get_or words k filler inside);
+      offered = is.offered
+          ∙ ap (λ (cycles : List ℕ). slice_index cycles k) (accepted-words run channel session)
+          ∙ get_or-map cycle words k filler 0 inside;
+      value = is.value ∙ get_or-map value words k filler 0 inside;
+      lands = is.lands;
+      within = omega arith;
+      unfinished = omega arith;
+      due = is.due;
+    }
 
 module _ (run : Run) (sound : IsSound run) (order : IsNonDecreasingBy (λ row. row.cycle) run.words)
     (channel : Channel) (session : Session)

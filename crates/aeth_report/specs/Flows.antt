@@ -2,7 +2,8 @@
 --
 --   Run      what a run is given
 --   sessions_in      the sessions of a connection
---   close_at, is_within, server_of, values_of      the private server of a session, and its words
+--   close_at, server_of      the private server of a session
+--   is_within, words_in, values_of      its words
 --   Flow, flow_of      a session of a channel as a flow
 --   flows_on, flows_of      those of a channel, and of all channels
 -- This project's own.
@@ -67,11 +68,14 @@ server_of run channel session =
 abbrev pub is_within : ℕ → ℕ → WordRow → Bool
 is_within go until row = nat_le go row.cycle && nat_lt row.cycle until
 
--- The values of the words that a session accepts, in file order.
+-- The words that a session accepts, in file order.
+abbrev pub words_in : Run → Channel → Session → List WordRow
+words_in run channel session =
+    filter (is_within session.go (close_at run.cycles session).until) (words_on run.words channel)
+
+-- Their values.
 abbrev pub values_of : Run → Channel → Session → List ℕ
-values_of run channel session =
-    map (λ row. row.value)
-    (filter (is_within session.go (close_at run.cycles session).until) (words_on run.words channel))
+values_of run channel session = map (λ row. row.value) (words_in run channel session)
 
 -- A session of a channel: its path with its route, the queue at which it lands, its private server
 -- and that of the opposite channel's session, which brings its credits, and the values of its words.

@@ -1,16 +1,17 @@
 //! What holds of every run, over the definitions alone.
-ghost use Rattle.std.specs.Prelude.{◌≡◌, ◌≤◌, ◌<◌, ◌+◌, ℕ, [], ◌∷◌, nat_lt, Contains, Some, count_by};
-ghost use Rattle.std.specs.Prelude.{length, slice_get};
+ghost use Rattle.std.specs.Prelude.{◌≡◌, ◌≤◌, ◌<◌, ◌+◌, ◌↔◌, ℕ, [], ◌∷◌, nat_lt, Contains};
+ghost use Rattle.std.specs.Prelude.{IsTrue, Some, count_by, length, slice_get};
 ghost use Rattle.std.specs.List.Sorted.{IsNonDecreasingBy};
 ghost use Rattle.aeth_base.specs.declared.ids.Channel.{Channel};
 ghost use Rattle.aeth_header.specs.Header.{IsPackable, next_word};
 ghost use Rattle.aeth_server.specs.Landing.{IsDue, WaitsAlone};
+ghost use Rattle.aeth_server.specs.PrivateServer.{landed, taken};
 ghost use Rattle.aeth_server.specs.Shape.{IsGranted};
 ghost use Rattle.aeth_trace.specs.Words.{words_on};
 ghost use Rattle.aeth_report.specs.Alike.{IsGivenAlike};
 ghost use Rattle.aeth_report.specs.Bounds.{IsLandingOf, IsLoggedBy};
 ghost use Rattle.aeth_report.specs.Carries.{IsCarried, IsSendable, carries, flit_at, header_at};
-ghost use Rattle.aeth_report.specs.Flows.{Flow, Run, flow_of, server_of, sessions_in, values_of};
+ghost use Rattle.aeth_report.specs.Flows.{Flow, Run, flow_of, server_of, sessions_in};
 ghost use Rattle.aeth_report.specs.Regular.{IsRegular, offered_in};
 ghost use Rattle.aeth_report.specs.RunLog.{channel_log, due_of, flow_log, log_of};
 ghost use Rattle.aeth_report.specs.Sessions.{AreTogether, IsInUse};
@@ -81,14 +82,29 @@ pub fn logs_are_regular()
         → IsRegular run.design.app (log_of run) }
 {}
 
+/// A session has landed and taken by its finish all that it ever does: its counts in the log are
+/// those at the end of the run. It has ended where its finish is before that.
+pub fn counts_are_final()
+    ensures landed { (run : Run) → IsSound run → (channel : Channel) (session : Session)
+        → Contains (sessions_in run channel.conn.0) session
+        → (flow_log run.cycles (flow_of run channel session)).landed
+        ≡ landed (server_of run channel session) run.cycles }
+    ensures taken { (run : Run) → IsSound run → (channel : Channel) (session : Session)
+        → Contains (sessions_in run channel.conn.0) session
+        → (flow_log run.cycles (flow_of run channel session)).taken
+        ≡ taken (server_of run channel session) run.cycles }
+    ensures ended { (run : Run) (channel : Channel) (session : Session)
+        → IsTrue (flow_log run.cycles (flow_of run channel session)).ended
+        ↔ ((server_of run channel session).finish < run.cycles) }
+{}
+
 /// Each row of a session's log is the landing of its word on the private server, within the run and
 /// before the session finishes.
 pub fn rows_are_landings()
     ensures { (run : Run) → IsSound run → (channel : Channel) (session : Session)
         → Contains (sessions_in run channel.conn.0) session → (k : ℕ) (row : Landing)
         → slice_get (flow_log run.cycles (flow_of run channel session)).rows k ≡ Some row
-        → IsLandingOf run.cycles (server_of run channel session) (values_of run channel session)
-        (k + 1) row }
+        → IsLandingOf run channel session (k + 1) row }
 {}
 
 /// A word that is due by a cycle of the run has a row, and has landed by that cycle and by its due
