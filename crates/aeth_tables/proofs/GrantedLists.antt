@@ -1,0 +1,121 @@
+-- The connections of a use case are few, and their paths those of the chip.
+use Rattle.std.proofs.Common.{◌≡◌, ◌∙◌, ◌<◌, ◌≤◌, ◌+◌, ◌++◌, ℕ, suc, Bool, true, false, cond, List}
+use Rattle.std.proofs.Common.{[], ◌∷◌, All, Option, Some, None, length, filter, sym, ap}
+use Rattle.std.proofs.Common.{arith, add-one, zero-add}
+use Rattle.std.specs.List.{cons_option, filter_map, range_with_len}
+use Rattle.std.proofs.lemmas.List.{append-nil}
+use Rattle.std.proofs.lemmas.List.Elements.{All-from_recursion, filter-append, filter_map-append}
+use Rattle.std.proofs.lemmas.List.Sums.{count_by-le-length, length-filter}
+use Rattle.std.proofs.lemmas.List.FromFn.{length-range_with_len}
+use Rattle.aeth_base.proofs.Ranges.{range_with_len-more}
+use Rattle.aeth_base.specs.declared.ids.LinkId.{LinkId}
+use Rattle.aeth_base.specs.declared.ids.Side.{Side}
+use Rattle.aeth_base.specs.declared.ids.Side.TheVariants.{Back, Fwd}
+use Rattle.aeth_chip.specs.Chip.{ChipData}
+use Rattle.aeth_app.specs.App.{AppData}
+use Rattle.aeth_group.specs.Members.{GroupsData, group_at, has_at}
+use Rattle.aeth_group.specs.declared.grant.Grant.{Grant}
+use Rattle.aeth_plan.specs.Plan.{IsGrantOf, IsPlanOf, PlanData}
+use Rattle.aeth_check.specs.Channels.{is_for}
+use Rattle.aeth_tables.specs.Changes.{HasPaths}
+use Rattle.aeth_tables.specs.Granted.{grant_of, granted_in, granted_of, unit_in}
+use Rattle.aeth_tables.proofs.FindLaws.{found_is}
+use Rattle.aeth_tables.proofs.ListLaws.{all_from_places, all_has_by, has_place}
+use Rattle.aeth_tables.proofs.PlaceLaws.{given_by}
+use Rattle.aeth_tables.proofs.ReservedLaws.{made_of}
+
+-- ---- One number more
+
+-- What is given of those that pass a test, with one number more.
+pub given-more : {Y : Type 0} (give : ℕ → Option Y) (test : ℕ → Bool) (i : ℕ)
+    → filter_map give (filter test (range_with_len 0 (i + 1)))
+    ≡ filter_map give (filter test (range_with_len 0 i))
+    ++ filter_map give (cond (test i) (i ∷ []) [])
+given-more give test i =
+    ap (λ (n : ℕ). filter_map give (filter test (range_with_len 0 n))) (add-one i)
+    ∙ ap (λ xs. filter_map give (filter test xs)) (range_with_len-more 0 i i (zero-add i))
+    ∙ ap (filter_map give) (filter-append test (range_with_len 0 i) (i ∷ []))
+    ∙ filter_map-append give (filter test (range_with_len 0 i)) (cond (test i) (i ∷ []) [])
+
+module _ {Y : Type 0} (give : ℕ → Option Y) (test : ℕ → Bool) (i : ℕ) (before after : List Y)
+    (so_far : before ≡ filter_map give (filter test (range_with_len 0 i))) where
+  after_one : (b : Bool) → test i ≡ b → after ≡ before ++ filter_map give (cond b (i ∷ []) [])
+      → after ≡ filter_map give (filter test (range_with_len 0 (i + 1)))
+  after_one b is more =
+      more ∙ ap (λ xs. xs ++ filter_map give (cond b (i ∷ []) [])) so_far
+      ∙ ap (λ (t : Bool). filter_map give (filter test (range_with_len 0 i))
+      ++ filter_map give (cond t (i ∷ []) [])) (sym is)
+      ∙ sym (given-more give test i)
+
+  -- A number that passes gives something.
+  pub given-some : (y : Y) → test i ≡ true → give i ≡ Some y → after ≡ before ++ y ∷ []
+      → after ≡ filter_map give (filter test (range_with_len 0 (i + 1)))
+  given-some y passes gives more =
+      after_one true passes (more ∙ ap (λ o. before ++ cons_option o []) (sym gives))
+
+  -- One that passes gives nothing.
+  pub given-none : test i ≡ true → give i ≡ None → after ≡ before
+      → after ≡ filter_map give (filter test (range_with_len 0 (i + 1)))
+  given-none passes gives same =
+      after_one true passes (same ∙ sym (append-nil before)
+      ∙ ap (λ o. before ++ cons_option o []) (sym gives))
+
+  -- One doesn't pass.
+  pub given-not : test i ≡ false → after ≡ before
+      → after ≡ filter_map give (filter test (range_with_len 0 (i + 1)))
+  given-not fails same = after_one false fails (same ∙ sym (append-nil before))
+
+-- ---- How many there are
+
+length-given : {X Y : Type 0} (give : X → Option Y) (xs : List X)
+    → length (filter_map give xs) ≤ length xs
+length-given give [] = omega arith
+length-given {X} {Y} give (x ∷ xs) =
+    let rest = length-given give xs in
+    let cases : (o : Option Y) → length (cons_option o (filter_map give xs)) ≤ suc (length xs) =
+    elim [ None ↦ omega arith | Some y ↦ omega arith ]
+    in cases (give x)
+
+-- A use case has no more connections than there are.
+pub granted_few : (app : AppData) (groups : GroupsData) (plan : PlanData) (u : ℕ)
+    → length (granted_in app groups plan u) ≤ groups.connections
+unfolding granted_in
+granted_few app groups plan u =
+    let numbers = range_with_len 0 groups.connections in
+    let given = length-given (granted_of app plan (group_at groups u))
+    (filter (has_at groups u) numbers) in
+    omega (
+      arith,
+      given,
+      length-filter (has_at groups u) numbers,
+      count_by-le-length (has_at groups u) numbers,
+      length-range_with_len 0 groups.connections,
+    )
+
+-- ---- Paths
+
+path_of_grant : (chip : ChipData) (app : AppData) (groups : GroupsData) (plan : PlanData)
+    → IsPlanOf chip app groups plan → (group conn : ℕ) (side : Side) (grant : Grant)
+    → grant_of plan.grants side (unit_in group conn) ≡ Some grant
+    → All (λ (link : LinkId). link.0 < length chip.links) grant.path
+path_of_grant chip app groups plan is_plan group conn side grant found =
+    let is = found_is (is_for (unit_in group conn) side) plan.grants grant found in
+    let of = all_has_by (IsGrantOf chip app groups) plan.grants grant is_plan.grants is.0 in
+    All-from_recursion (λ (link : LinkId). link.0 < length chip.links) grant.path of.links
+
+-- The links of their paths are those of the chip.
+pub granted_paths : (chip : ChipData) (app : AppData) (groups : GroupsData) (plan : PlanData) (u : ℕ)
+    → IsPlanOf chip app groups plan → All (HasPaths chip) (granted_in app groups plan u)
+unfolding granted_in
+granted_paths chip app groups plan u is_plan =
+    let group = group_at groups u in
+    let numbers = filter (has_at groups u) (range_with_len 0 groups.connections) in
+    all_from_places (HasPaths chip) (filter_map (granted_of app plan group) numbers)
+    (λ place granted at.
+    let (conn, inside, gives) = given_by (granted_of app plan group) numbers granted
+    (has_place (filter_map (granted_of app plan group) numbers) place granted at) in
+    let made = made_of app plan group conn granted gives in
+    record {
+      fwd = path_of_grant chip app groups plan is_plan group conn Fwd granted.fwd made.fwd;
+      back = path_of_grant chip app groups plan is_plan group conn Back granted.back made.back;
+    })

@@ -1,0 +1,19 @@
+mod ListLaws
+mod FindLaws
+mod FoundGrants
+pub mod SentLinks
+pub mod PortLaws
+mod CreditNeeds
+pub mod ShapeRanges
+mod ReservedLaws
+mod PlaceLaws
+pub mod UseLaws
+mod ApartLaws
+mod SlotLaws
+pub mod PromiseLaws
+pub mod DesignLaws
+mod SpanLaws
+mod GridLaws
+mod TextLaws
+mod GrantedLists
+mod ChangeLaws

@@ -1,0 +1,105 @@
+-- The connections of a use case, each with the seats of its cores and the grants of its two sides.
+--
+--   line_of, unit_in, is_in, grant_of, AreFound      the seats of cores, and the grants of units
+--   granted_of, granted_in      a connection with seats and grants, and those of a use case
+--   other_side, sending_seat, receiving_seat, grant_on      the two sides of such a connection
+--   channels_with, channels_of      the channels of a use case
+-- Connections with a channel each way: after Æthereal (2005). Seats: this project's own.
+use Rattle.std.specs.Prelude.{◌≡◌, ◌<◌, ℕ, ◌==◌, ◌&&◌, Bool, List, [], ◌∷◌, Option, Some, None}
+use Rattle.std.specs.Prelude.{filter, find, flat_map, length, slice_get}
+use Rattle.std.specs.Option.{option_and_then}
+use Rattle.std.specs.List.{filter_map, range_with_len}
+use Rattle.aeth_base.specs.declared.ids.Channel.{Channel}
+use Rattle.aeth_base.specs.declared.ids.CoreId.{CoreId}
+use Rattle.aeth_base.specs.declared.ids.Side.{Side}
+use Rattle.aeth_base.specs.declared.ids.Side.TheVariants.{Fwd, Back}
+use Rattle.aeth_base.specs.declared.ids.Unit.{Unit as GroupUnit}
+use Rattle.aeth_app.specs.App.{AppData}
+use Rattle.aeth_app.specs.declared.connection.Connection.{Connection}
+use Rattle.aeth_group.specs.Members.{GroupsData, group_at, has_at}
+use Rattle.aeth_group.specs.declared.grant.Grant.{Grant}
+use Rattle.aeth_group.specs.declared.grant.SeatLine.{SeatLine}
+use Rattle.aeth_plan.specs.Plan.{PlanData}
+use Rattle.aeth_check.specs.Channels.{is_for, same_side}
+use Rattle.aeth_tables.specs.declared.granted.GrantedConnection.{GrantedConnection}
+
+-- The line that seats a core, if one does.
+abbrev pub line_of : List SeatLine → CoreId → Option SeatLine
+line_of seats core = find (λ line. line.core.0 == core.0) seats
+
+-- The unit of a connection in a group.
+abbrev pub unit_in : ℕ → ℕ → GroupUnit
+unit_in group conn = record { conn = record { 0 = conn }; group = record { 0 = group } }
+
+-- Whether a grant is for a side in a group.
+abbrev pub is_in : ℕ → Side → Grant → Bool
+is_in group side grant = grant.unit.group.0 == group && same_side grant.side side
+
+-- The grant for a side of a unit, if it has one.
+abbrev pub grant_of : List Grant → Side → GroupUnit → Option Grant
+grant_of grants side unit = find (is_for unit side) grants
+
+-- These are the grants of all connections for a side in a group, among some grants.
+abbrev pub AreFound : ℕ → Side → List Grant → List (Option Grant) → Type 0
+AreFound group side grants found = (conn : ℕ) → conn < length found
+    → slice_get found conn ≡ Some (grant_of grants side (unit_in group conn))
+
+-- A connection with its seats and grants, where it has all of them.
+abbrev pub granted_with : ℕ → Connection → Option SeatLine → Option SeatLine → Option Grant
+    → Option Grant → Option GrantedConnection
+granted_with conn connection (Some from) (Some to) (Some fwd) (Some back) = Some (record {
+  conn = record { 0 = conn };
+  connection = connection;
+  from = from;
+  to = to;
+  fwd = fwd;
+  back = back;
+})
+granted_with conn connection _ _ _ _ = None
+
+-- The connection of this number with its seats in a plan and its grants in a group.
+abbrev pub granted_of : AppData → PlanData → ℕ → ℕ → Option GrantedConnection
+granted_of app plan group conn = option_and_then
+    (λ connection. granted_with conn connection
+    (line_of plan.seats connection.from) (line_of plan.seats connection.to)
+    (grant_of plan.grants Fwd (unit_in group conn)) (grant_of plan.grants Back (unit_in group conn)))
+    (slice_get app.connections conn)
+
+-- The connections of a use case, in file order, with their seats in a plan and their grants in the
+-- group of the use case.
+unfoldable pub granted_in : AppData → GroupsData → PlanData → ℕ → List GrantedConnection
+granted_in app groups plan u = filter_map (granted_of app plan (group_at groups u))
+    (filter (has_at groups u) (range_with_len 0 groups.connections))
+
+-- ---- The two sides
+
+-- The side of the opposite channel.
+abbrev pub other_side : Side → Side
+other_side Fwd = Back
+other_side Back = Fwd
+
+-- The seat of the core that sends on a side.
+abbrev pub sending_seat : GrantedConnection → Side → SeatLine
+sending_seat granted Fwd = granted.from
+sending_seat granted Back = granted.to
+
+-- The seat of the core that receives on a side.
+abbrev pub receiving_seat : GrantedConnection → Side → SeatLine
+receiving_seat granted Fwd = granted.to
+receiving_seat granted Back = granted.from
+
+-- The grant for a side.
+abbrev pub grant_on : GrantedConnection → Side → Grant
+grant_on granted Fwd = granted.fwd
+grant_on granted Back = granted.back
+
+-- The channels of a connection, in their order.
+abbrev pub channels_with : ℕ → List Channel
+channels_with conn =
+    record { conn = record { 0 = conn }; side = Fwd }
+    ∷ record { conn = record { 0 = conn }; side = Back } ∷ []
+
+-- The channels of a use case: both of each connection that it has, in the order of connections.
+abbrev pub channels_of : GroupsData → ℕ → List Channel
+channels_of groups u =
+    flat_map channels_with (filter (has_at groups u) (range_with_len 0 groups.connections))

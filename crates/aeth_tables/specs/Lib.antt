@@ -1,0 +1,9 @@
+pub mod Granted
+pub mod Routes
+pub mod Tables
+pub mod Switching
+pub mod Changes
+pub mod Lines
+pub mod TableText
+pub mod Reserved
+pub mod Promises

@@ -1,0 +1,86 @@
+// The lines of queues, in the order of interfaces and queues.
+ghost use Rattle.aeth_plan.specs.Plan.{connection_names, name_at};
+ghost use Rattle.aeth_tables.specs.Lines.{queue_line};
+ghost use Rattle.aeth_tables.specs.TableText.{NamesConnection, lines_of_queue, queue_lines};
+ghost use Rattle.aeth_tables.specs.TableText.{queues_at};
+ghost use Rattle.aeth_text.specs.Spelling.{ended_line, text_of_lines};
+ghost use Rattle.std.specs.Prelude.{◌≡◌, ◌<◌, ◌++◌, All, OnOk, length};
+
+use crate::lines::push_queue;
+use crate::promised::{PromisedRow, rows_at};
+use aeth_app::App;
+use aeth_base::{NiId, NoMemory};
+use aeth_chip::Chip;
+use aeth_ni::QUEUES_OF_INTERFACE;
+use std::alloc::Global;
+
+/// Appends the line of a row, of an interface that has this name.
+#[tactic(auto, unfolding(aeth_plan::specs::Plan::connection_names))]
+fn push_row(out: &mut Vec<u8>, app: &App, name: &[u8], one: &PromisedRow) -> Result<(), NoMemory>
+    requires { NamesConnection app.now one.now }
+    ensures { OnOk result (out.new.items ≡ out.old.items ++ ended_line (queue_line name.now
+        (name_at (connection_names app.now) one.now.row.channel.conn.0) one.now)) }
+{
+    let connection = app.connection(one.row.channel.conn);
+    push_queue(out, name, connection.name.as_bytes(), one)
+}
+
+/// Appends the lines of a queue of an interface that has this name, of its rows.
+fn push_queue_of(
+    out: &mut Vec<u8>,
+    app: &App,
+    name: &[u8],
+    rows: &[PromisedRow],
+    queue: u32,
+) -> Result<(), NoMemory>
+    requires { All (NamesConnection app.now) rows.now }
+    ensures { OnOk result (out.new.items
+        ≡ out.old.items ++ text_of_lines (lines_of_queue app.now name.now rows.now queue)) }
+{
+    for one in rows {
+        if one.row.queue as u32 == queue {
+            push_row(out, app, name, one)?;
+        }
+    }
+    Ok(())
+}
+
+/// Appends the lines of the queues of an interface.
+fn push_queues_at(
+    alloc: Global,
+    out: &mut Vec<u8>,
+    chip: &Chip,
+    app: &App,
+    rows: &[PromisedRow],
+    ni: NiId,
+) -> Result<(), NoMemory>
+    requires ni { ni.0 < length chip.now.nis }
+    requires rows { All (NamesConnection app.now) rows.now }
+    ensures { OnOk result (out.new.items
+        ≡ out.old.items ++ text_of_lines (queues_at chip.now app.now rows.now ni.0)) }
+{
+    let own = rows_at(alloc, rows, ni)?;
+    let name = chip.ni_name(ni);
+    for queue in 0..QUEUES_OF_INTERFACE as u32 {
+        push_queue_of(out, app, name.as_bytes(), &own, queue)?;
+    }
+    Ok(())
+}
+
+/// Appends the lines of all queues.
+pub(crate) fn push_queues(
+    alloc: Global,
+    out: &mut Vec<u8>,
+    chip: &Chip,
+    app: &App,
+    rows: &[PromisedRow],
+) -> Result<(), NoMemory>
+    requires { All (NamesConnection app.now) rows.now }
+    ensures { OnOk result (out.new.items
+        ≡ out.old.items ++ text_of_lines (queue_lines chip.now app.now rows.now)) }
+{
+    for ni in 0..chip.nis() {
+        push_queues_at(alloc, out, chip, app, rows, NiId(ni))?;
+    }
+    Ok(())
+}
