@@ -1,1 +1,2 @@
 mod OnLiterals
+mod LogLemmas

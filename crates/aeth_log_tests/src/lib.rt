@@ -1,8 +1,11 @@
-//! Tests of what a run shows: worked texts from the definitions, timelines, and programs.
+//! Tests of what a run shows: worked texts from the definitions, a log that is printed, timelines, and
+//! programs.
 #![tactic(auto)]
 
 #[cfg(test)]
 mod designs;
+#[cfg(test)]
+mod printing;
 #[cfg(test)]
 mod programs;
 pub mod texts;
