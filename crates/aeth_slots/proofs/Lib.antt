@@ -14,4 +14,5 @@ mod EarliestSlots
 mod Rounds
 mod WaySearch
 mod RoundSearch
+mod SuitedLemmas
 mod FirstRound

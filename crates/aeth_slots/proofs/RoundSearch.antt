@@ -40,6 +40,16 @@ fewest_more free end gap first count earliest has is after way is_way =
       | inr enough ↦ absurd (omega (arith, is.is_earliest.earlier first has (way, is_way, enough)))
     ]
 
+-- No way leads over a stretch of a gap without free slots.
+pub none_crosses : (free : List ℕ) (end gap to from : ℕ) (way : List ℕ)
+    → ((slot : ℕ) → Contains free slot → slot < to → slot + gap < to) → to ≤ end
+    → Contains free from → from < to → IsWay free end gap from way → ⊥
+none_crosses free end gap to from [] stretch past has before is_way =
+    omega (arith, stretch from has before)
+none_crosses free end gap to from (next ∷ rest) stretch past has before (member, after, near, on) =
+    none_crosses free end gap to next rest stretch past member
+    (omega (arith, stretch from has before)) on
+
 -- ---- the least first slot
 
 -- Of the starts of rounds over so many further slots none comes before the first that allows at
@@ -138,18 +148,28 @@ least_of_all free gap start least is all so_far (first ∷ way) round =
     so_far.below first way (omega arith) round
 
 -- No round starts past the size, nor past the gap.
-pub least_ends : (free : Slots) (gap start least : ℕ) → IsSlotSet free → min free.size gap ≤ start
-    → IsLeastSoFar free gap start least → IsLeastSize free gap least
-least_ends free gap start least is all so_far = record {
+pub least_ends : (free : Slots) (need gap start least : ℕ) → IsSlotSet free
+    → min free.size gap ≤ start → IsLeastSoFar free gap start least
+    → IsLeastSize free need gap least
+least_ends free need gap start least is all so_far = record {
   has = so_far.has;
-  least = least_of_all free gap start least is all so_far;
+  least = λ round is_round.
+      omega (arith, least_of_all free gap start least is all so_far round is_round);
+}
+
+-- A round of no more slots than are needed.
+pub least_enough : (free : Slots) (need gap start least : ℕ) → least ≤ need
+    → IsLeastSoFar free gap start least → IsLeastSize free need gap least
+least_enough free need gap start least enough so_far = record {
+  has = so_far.has;
+  least = λ round is_round. omega arith;
 }
 
 -- ---- the chosen set
 
 -- There is a round of as many slots as are needed, or as the least round has.
 pub round_needed : (free : Slots) (need gap least : ℕ) → IsSlotSet free → IsSuitable need gap free
-    → IsLeastSize free gap least → HasRound free gap (max least need)
+    → IsLeastSize free need gap least → HasRound free gap (max least need)
 round_needed free need gap least is suitable is_least =
     let (round, is_round, count) = is_least.has in
     let room = round-length free gap round is is_round in
@@ -160,7 +180,7 @@ round_needed free need gap least is suitable is_least =
 
 -- The first round of so many slots is the chosen set.
 pub round_chosen : (free set : Slots) (need gap least count : ℕ) → IsSlotSet free
-    → IsLeastSize free gap least → count ≡ max least need → set.size ≡ free.size
+    → IsLeastSize free need gap least → count ≡ max least need → set.size ≡ free.size
     → IsFirstRound free gap count set.slots → IsChosen free need gap set
 round_chosen free set need gap least count is is_least count_is size first =
     let same : set_of free set.slots ≡ set = λ i. record { size = sym size i; slots = set.slots } in

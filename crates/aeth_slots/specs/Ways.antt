@@ -1,7 +1,7 @@
 -- The words of the search for the chosen set: ways over free slots from a slot to an end.
 -- Once round the table is a way from a slot to the same slot one table later.
 use Rattle.std.specs.Prelude.{ℕ, ◌+◌, ◌<◌, ◌≤◌, ◌≡◌, ◌≢◌, List, [], ◌∷◌, ◌++◌, length, Contains}
-use Rattle.std.specs.Prelude.{slice_index}
+use Rattle.std.specs.Prelude.{max, slice_index}
 use Rattle.std.specs.declared.cmp.Ordering.TheVariants.{Less}
 use Rattle.std.specs.Ordering.{nat_cmp}
 use Rattle.std.specs.Cmp.Lexicographic.{slice_cmp}
@@ -73,10 +73,10 @@ abbrev pub StartsWithin : Slots → ℕ → ℕ → ℕ → Type 0
 StartsWithin free gap more first =
     Contains free.slots first × ReachesWithin free.slots (first + free.size) gap first more
 
--- The least number of slots of a round.
-pub record IsLeastSize (free : Slots) (gap count : ℕ) : Type 0 where
+-- The number of slots of a round: no round has fewer, or no more slots are needed.
+pub record IsLeastSize (free : Slots) (need gap count : ℕ) : Type 0 where
   pub has : HasRound free gap count
-  pub least : (round : List ℕ) → IsRound free gap round → count ≤ length round
+  pub least : (round : List ℕ) → IsRound free gap round → count ≤ max need (length round)
 
 -- The least first slot of a round over so many further slots.
 pub record IsFirstMember (free : Slots) (gap more first : ℕ) : Type 0 where

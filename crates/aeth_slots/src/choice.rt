@@ -25,21 +25,24 @@ pub fn choose(free: &SlotSet, need: u32, gap: u32) -> Option<SlotSet>
     if !free.suitable(need, gap) {
         return None;
     }
-    let more = least_size(free, gap).max(need) - 1;
+    let more = least_size(free, need, gap).max(need) - 1;
     let first = first_member(free, gap, more);
     Some(first_round(free, gap, first, more))
 }
 
-/// The least number of slots of a round.
-fn least_size(free: &SlotSet, gap: u32) -> u32
+/// The least number of slots of a round, or that of one with no more slots than are needed.
+fn least_size(free: &SlotSet, need: u32, gap: u32) -> u32
     requires { IsSuitable 1 gap free.now }
-    ensures { IsLeastSize free.now gap result }
+    ensures { IsLeastSize free.now need gap result }
 {
     let size = free.size();
     let mut least = free.count();
 
     // A round ends below the size and at most a gap before its first slot one table later.
     for first in 0..size.min(gap) {
+        if least <= need {
+            return least;
+        }
         if let Some(more) = fewest(free, first, gap) {
             least = least.min(more + 1);
         }
@@ -72,7 +75,7 @@ fn starts(free: &SlotSet, first: u32, gap: u32, more: u32) -> bool
 }
 
 /// The fewest further slots of a round from a first slot.
-fn fewest(free: &SlotSet, first: u32, gap: u32) -> Option<u32>
+pub(crate) fn fewest(free: &SlotSet, first: u32, gap: u32) -> Option<u32>
     requires { first < free.now.size }
     ensures some { IfSome result (IsFewest free.now.slots (first + free.now.size) gap first) }
     ensures member { IsSome result → Contains free.now.slots first }
@@ -87,7 +90,13 @@ fn fewest(free: &SlotSet, first: u32, gap: u32) -> Option<u32>
         if earliest <= first {
             return Some(count);
         }
-        earliest = free.at_or_after(earliest.saturating_sub(gap))?;
+        let next = free.at_or_after(earliest.saturating_sub(gap))?;
+
+        // No free slot is near enough to the earliest, so nothing reaches the end from before it.
+        if next == earliest {
+            return None;
+        }
+        earliest = next;
     }
     None
 }

@@ -3,6 +3,7 @@ ghost use Rattle.std.specs.Prelude.{◌≡◌, ◌<◌, ◌≤◌, ◌↔◌, le
 ghost use Rattle.aeth_slots.specs.SlotSet.{IsSlotSet, gap_of};
 ghost use Rattle.aeth_slots.specs.Choice.{IsSuitable};
 
+use crate::choice::fewest;
 use crate::{Members, SlotSet};
 
 impl SlotSet {
@@ -39,6 +40,9 @@ impl SlotSet {
         ensures set { IsSlotSet self.now }
     {
         let count = self.count();
-        count > 0 && count >= need && self.gap() <= gap
+        let Some(first) = self.at_or_after(0) else {
+            return false;
+        };
+        count >= need && fewest(self, first, gap).is_some()
     }
 }

@@ -1,8 +1,9 @@
-use Rattle.std.proofs.Common.{◌+◌, ◌-◌, ◌∙◌, ap, arith}
+use Rattle.std.proofs.Common.{◌+◌, ◌-◌, ◌∙◌, ap, inl, inr, arith}
+use Rattle.std.proofs.lemmas.Bool.{cases_lt}
 use Rattle.aeth_slots.proofs.EarliestSlots.{none_near, earliest_none, earliest_more}
 use Rattle.aeth_slots.proofs.Ways.{way_short}
 use Rattle.aeth_slots.proofs.Rounds.{free_below}
-use Rattle.aeth_slots.proofs.RoundSearch.{fewest_more}
+use Rattle.aeth_slots.proofs.RoundSearch.{fewest_more, none_crosses}
 use Rattle.aeth_slots.proofs.choice.fewest.Goals as goal
 
 -- No free slot is near enough to the end.
@@ -25,18 +26,32 @@ loop-count-init c = record {
 }
 
 -- The slot itself lies at or after the place that is looked up.
-pub returns-in_err-earliest-2-clause-none : goal.returns-in_err-earliest-2-clause-none
-returns-in_err-earliest-2-clause-none c =
+pub returns-in_err-next-clause-none : goal.returns-in_err-next-clause-none
+returns-in_err-next-clause-none c =
     let before =
-    c.in_err-earliest-2.ensures.none c.loop-count.earliest
+    c.in_err-next.ensures.none c.loop-count.earliest
     c.loop-count.invariant.is_earliest.member in absurd (omega arith)
+
+-- No way leads from before the earliest to it.
+pub returns-then-next-earliest-clause-none : goal.returns-then-next-earliest-clause-none
+returns-then-next-earliest-clause-none c = λ way round.
+    none_crosses c.args.free.now.slots (c.args.first + c.args.free.now.size) c.args.gap
+    c.loop-count.earliest c.args.first way
+    (λ slot has before. elim (cases_lt slot c.saturating_sub-in-loop-count.result) [
+      | inl far ↦ omega (arith, c.saturating_sub-in-loop-count.ensures)
+      | inr near ↦
+          absurd (omega (arith, c.in_ok-next.ensures.some.least slot has near))
+    ])
+    (let below = free_below c.size-size.ensures.set c.loop-count.earliest
+    c.loop-count.invariant.is_earliest.member in omega arith)
+    (c.has.ensures.0 c.if-not-has.false) (omega arith) round.1
 
 -- The first slot comes before the earliest, so one slot more is needed.
 pub loop-count-preserved : goal.loop-count-preserved
 loop-count-preserved c = record {
   is_earliest =
       earliest_more c.loop-count.invariant.is_earliest c.saturating_sub-in-loop-count.ensures
-      c.in_ok-earliest-2.ensures.some;
+      c.in_ok-next.ensures.some;
   fewest =
       fewest_more c.args.free.now.slots (c.args.first + c.args.free.now.size) c.args.gap
       c.args.first c.loop-count.count c.loop-count.earliest

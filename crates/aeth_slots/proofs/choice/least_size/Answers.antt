@@ -2,7 +2,7 @@ use Rattle.std.proofs.Common.{◌∙◌, ◌+◌, refl, sym, subst, arith}
 use Rattle.aeth_slots.proofs.Ways.{way_short}
 use Rattle.aeth_slots.proofs.Rounds.{free_below}
 use Rattle.aeth_slots.proofs.RoundSearch.{IsLeastSoFar, least_starts, least_with, least_without}
-use Rattle.aeth_slots.proofs.RoundSearch.{least_ends}
+use Rattle.aeth_slots.proofs.RoundSearch.{least_ends, least_enough}
 use Rattle.aeth_slots.proofs.choice.least_size.Goals.{in-Some, in_default}
 use Rattle.aeth_slots.proofs.choice.least_size.Goals as goal
 
@@ -35,9 +35,15 @@ loop-first-preserved c = elim c.match-fewest.branch [
       w.in_default.ensures.none c.loop-first.invariant)
 ]
 
+-- So many slots are enough.
+pub returns-then-least-need : goal.returns-then-least-need
+returns-then-least-need c =
+    least_enough c.args.free.now c.args.need c.args.gap c.loop-first.first c.loop-first.least
+    c.if-least-need.true c.loop-first.invariant
+
 -- No round starts later.
 pub returns : goal.returns
 returns c =
-    least_ends c.args.free.now c.args.gap c.loop-first.first c.loop-first.least
+    least_ends c.args.free.now c.args.need c.args.gap c.loop-first.first c.loop-first.least
     c.size-size.ensures.set (omega (arith, c.min-first-end.ensures, c.size-size.ensures.size))
     c.loop-first.invariant
