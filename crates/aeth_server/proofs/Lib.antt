@@ -12,4 +12,5 @@ pub mod SingleWord
 pub mod AloneStates
 pub mod LandingLemmas
 mod LastCounts
+mod StartSlots
 mod LatencyWalk

@@ -171,7 +171,7 @@ module _ (size : ℕ) (slots : List ℕ) where
 
   -- ---- the q-th slot
   -- q slots lie from s on, up to n cycles later
-  abbrev reaches : ℕ → ℕ → ℕ → Bool
+  abbrev pub reaches : ℕ → ℕ → ℕ → Bool
   reaches s q n = leb q (within s (n + 1))
 
   -- it comes within a turn

@@ -8,7 +8,7 @@ use aeth_slots::SlotSet;
 /// The latency, in cycles, of a server that sends up to `cap` words in each of these slots and
 /// keeps a rate of `rate` words per table: the least with which every slot, from every cycle on,
 /// comes in time. A slot carries 1 to 15 words, and the rate is from 1 to what all slots carry. It
-/// takes about as many steps as the square of the table size.
+/// takes about as many steps as the table size times the number of slots.
 /// After the latency-rate server (Stiliadis and Varma, 1998), for whole words.
 pub fn latency(slots: &SlotSet, cap: u32, rate: u32) -> u32
     requires least_cap { 1 ≤ cap }
@@ -24,7 +24,10 @@ pub fn latency(slots: &SlotSet, cap: u32, rate: u32) -> u32
 {
     let mut late = 0;
     for s in 0..slots.size() {
-        late = late.max(lateness_from(slots, cap, rate, s));
+        // From a cycle that isn't behind a slot, each slot comes sooner than from the cycle before.
+        if s == 0 || slots.has(s - 1) {
+            late = late.max(lateness_from(slots, cap, rate, s));
+        }
     }
     late.div_ceil(rate)
 }
