@@ -1,15 +1,19 @@
 -- The table of units behind units: a place for each connection and each number that a group may have.
 -- This project's own.
 use Rattle.std.specs.Prelude.{◌≡◌, ◌<◌, ℕ, ◌+◌, ◌*◌, ◌/◌, ◌%◌, Bool, List, Some, length, map}
-use Rattle.std.specs.Prelude.{filter}
+use Rattle.std.specs.Prelude.{Option, filter}
 use Rattle.std.specs.Prelude.{slice_get}
 use Rattle.std.specs.List.{filter_map, items_where_true, range_with_len}
+use Rattle.std.specs.Ordering.{nat_cmp, on, then_cmp}
+use Rattle.std.specs.declared.cmp.Ordering.{Ordering}
 use Rattle.aeth_base.specs.declared.ids.Unit.{Unit as GroupUnit}
 use Rattle.aeth_app.specs.App.{AppData}
 use Rattle.aeth_app.specs.Limits.{max_uses}
 use Rattle.aeth_group.specs.Members.{GroupsData, is_member}
-use Rattle.aeth_order.specs.Order.{first_by, has_core, unit_order}
+use Rattle.aeth_seats.specs.Places.{Place}
+use Rattle.aeth_order.specs.Order.{first_by, has_core, seat_key, unit_order}
 use Rattle.aeth_order.specs.Units.{keys_of}
+use Rattle.aeth_order.specs.declared.keys.Ranked.{Ranked}
 use Rattle.aeth_order.specs.declared.keys.UnitKeys.{UnitKeys}
 
 -- How many places there are for so many connections.
@@ -40,6 +44,16 @@ marks_of groups = map (is_unit_at groups) (range_with_len 0 (places groups.conne
 -- The first units of some lists of units, each by its own order.
 abbrev pub firsts_of : List (List UnitKeys) → List UnitKeys
 firsts_of queues = filter_map (first_by unit_order) queues
+
+-- A unit with its first key in a turn, and the comparison of two such.
+abbrev pub ranked_keys : Ranked → UnitKeys
+ranked_keys a = a.keys
+
+abbrev pub IsRanked : List (Option Place) → Ranked → Type 0
+IsRanked places a = a.rank ≡ seat_key places a.keys
+
+abbrev pub rank_order : Ranked → Ranked → Ordering
+rank_order = then_cmp (on (λ (a : Ranked). a.rank) nat_cmp) (on ranked_keys unit_order)
 
 -- What holds of a table of units: each place has its own unit, between two of so many cores.
 pub record IsPlaced (cores place : ℕ) (a : UnitKeys) : Type 0 where

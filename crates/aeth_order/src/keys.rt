@@ -1,5 +1,6 @@
 // What the place of a unit in the order rests on.
-ghost use Rattle.std.specs.Prelude.{◌≡◌, ◌<◌, Some, length};
+ghost use Rattle.std.specs.Prelude.{◌≡◌, ◌<◌, IfSome, Some, length, option_map};
+ghost use Rattle.aeth_order.specs.Grid.{IsRanked, rank_order, ranked_keys};
 ghost use Rattle.aeth_order.specs.Order.{earlier, first_by, has_core, is_seated, seat_key};
 ghost use Rattle.aeth_order.specs.Order.{turn_order, unit_order};
 ghost use Rattle.aeth_order.specs.Units.{is_unit, keys_of};
@@ -77,15 +78,6 @@ impl UnitKeys {
         })
     }
 
-    /// The comparison with another unit in a turn.
-    fn order_in_turn(&self, seats: &Seats, other: &UnitKeys) -> Ordering
-        ensures { result ≡ turn_order seats.now.places self.now other.now }
-    {
-        self.seat_key(seats)
-            .cmp(&other.seat_key(seats))
-            .then(self.order(other))
-    }
-
     // 0 where one of its cores has a seat, 1 where none has.
     fn seat_key(&self, seats: &Seats) -> u32
         ensures { result ≡ seat_key seats.now.places self.now }
@@ -95,6 +87,35 @@ impl UnitKeys {
         } else {
             1
         }
+    }
+}
+
+/// A unit with its first key in a turn, so that it isn't asked for again.
+#[derive(Clone, Copy)]
+pub(crate) struct Ranked {
+    pub keys: UnitKeys,
+    rank: u32,
+}
+
+impl Ranked {
+    /// A unit with its first key.
+    fn of(seats: &Seats, unit: &UnitKeys) -> Ranked
+        ensures keys { result.keys ≡ unit.now }
+        ensures rank { IsRanked seats.now.places result }
+    {
+        Ranked {
+            keys: *unit,
+            rank: unit.seat_key(seats),
+        }
+    }
+
+    /// The comparison with another unit in a turn.
+    fn order(&self, other: &Ranked) -> Ordering
+        ensures { result ≡ rank_order self.now other.now }
+    {
+        self.rank
+            .cmp(&other.rank)
+            .then_with(|| self.keys.order(&other.keys))
     }
 }
 
@@ -121,15 +142,23 @@ fn earlier(best: Option<UnitKeys>, unit: &UnitKeys) -> UnitKeys
     }
 }
 
-/// The same in a turn.
-pub(crate) fn earlier_in_turn(seats: &Seats, best: Option<UnitKeys>, unit: &UnitKeys) -> UnitKeys
-    ensures { Some result ≡ earlier (turn_order seats.now.places) best unit.now }
+/// The earlier in a turn of what was first, if anything, and one more.
+pub(crate) fn earlier_in_turn(seats: &Seats, best: Option<Ranked>, unit: &UnitKeys) -> Ranked
+    requires { IfSome best (IsRanked seats.now.places) }
+    ensures rank { IsRanked seats.now.places result }
+    ensures first { Some result.keys
+        ≡ earlier (turn_order seats.now.places) (option_map ranked_keys best) unit.now }
 {
     match best {
-        None => *unit,
+        None => Ranked::of(seats, unit),
         Some(first) => {
-            if unit.order_in_turn(seats, &first).is_lt() {
-                *unit
+            // Only its own order brings a unit before one of which a core has a seat.
+            if first.rank == 0 && !unit.order(&first.keys).is_lt() {
+                return first;
+            }
+            let one = Ranked::of(seats, unit);
+            if one.order(&first).is_lt() {
+                one
             } else {
                 first
             }

@@ -83,5 +83,8 @@ pub(crate) fn first_in_turn(queues: &[Queue], seats: &Seats) -> Option<UnitKeys>
             best = Some(earlier_in_turn(seats, best, &unit));
         }
     }
-    best
+    match best {
+        Some(first) => Some(first.keys),
+        None => None,
+    }
 }
