@@ -1,0 +1,138 @@
+"""Where the routers of a chip stand: each on a place (column, row) of a grid.
+
+A mesh is recognised, whatever the names and the order of its routers. Any other chip is placed so that routers
+with a link between them are near.
+"""
+from collections import deque
+
+MOST_ROUNDS = 5
+
+
+def neighbours_of(routers, links):
+    """The routers next to each router, whichever way the link between them leads."""
+    near = {router: set() for router in routers}
+    for link in links:
+        if link.source in near and link.target in near and link.source != link.target:
+            near[link.source].add(link.target)
+            near[link.target].add(link.source)
+    return near
+
+
+def distances_from(router, near):
+    found, waiting = {router: 0}, deque([router])
+    while waiting:
+        here = waiting.popleft()
+        for other in sorted(near[here] - found.keys()):
+            found[other] = found[here] + 1
+            waiting.append(other)
+    return found
+
+
+def mesh_between(corner, other, near, distances):
+    """The places of a mesh whose upper corners these two are, or None where the chip is no such mesh."""
+    wide = distances[corner].get(other, 0)
+    places = {}
+    for router in near:
+        if router not in distances[corner]:
+            return None
+        along = distances[corner][router] - distances[other][router] + wide
+        down = distances[corner][router] + distances[other][router] - wide
+        places[router] = (along // 2, down // 2)
+    taken = {place: router for router, place in places.items()}
+    columns = wide + 1
+    if len(taken) != len(near) or len(near) % columns:
+        return None
+    rows = len(near) // columns
+    if set(taken) != {(x, y) for x in range(columns) for y in range(rows)}:
+        return None
+    for (x, y), router in taken.items():
+        beside = {taken.get(place) for place in ((x - 1, y), (x + 1, y), (x, y - 1), (x, y + 1))} - {None}
+        if near[router] != beside:
+            return None
+    return places
+
+
+def mesh_places(routers, near):
+    """The places of a mesh, the first router as high and as far left as may be; None where it is no mesh."""
+    corners = [router for router in routers if len(near[router]) <= 2]
+    distances = {corner: distances_from(corner, near) for corner in corners}
+    meshes = [mesh_between(corner, other, near, distances) for corner in corners for other in corners]
+    by_file = lambda places: [places[router][::-1] for router in routers]
+    return min(filter(None, meshes), key=by_file, default=None)
+
+
+def snake(order, columns):
+    """Places one after the other, each row the other way than the row before."""
+    places = {}
+    for number, router in enumerate(order):
+        row, step = divmod(number, columns)
+        places[router] = (step if row % 2 == 0 else columns - 1 - step, row)
+    return places
+
+
+def depth_first(routers, near):
+    """The routers, each followed by a neighbour of its own where one is left, the one with the fewest left first."""
+    order, stack, seen = [], list(reversed(routers)), set()
+    while stack:
+        router = stack.pop()
+        if router not in seen:
+            seen.add(router)
+            order.append(router)
+            left = near[router] - seen
+            stack += sorted(left, key=lambda other: (-len(near[other] - seen), other))
+    return order
+
+
+def breadth_first(routers, near):
+    order = []
+    for router in routers:
+        if router not in order:
+            order += [other for other in distances_from(router, near) if other not in order]
+    return order
+
+
+def reach(router, place, places, near):
+    """How far it is from a place to the neighbours of a router."""
+    return sum(
+        abs(place[0] - places[other][0]) + abs(place[1] - places[other][1]) for other in near[router] if other in places
+    )
+
+
+def swapped_nearer(places, near, cells):
+    """Exchanges what stands on two places wherever that brings neighbours nearer. Says whether it did."""
+    holder = {place: router for router, place in places.items()}
+    moved = False
+    for number, first in enumerate(cells):
+        for second in cells[:number]:
+            pair = [(holder.get(first), first, second), (holder.get(second), second, first)]
+            pair = [(router, here, there) for router, here, there in pair if router]
+            before = sum(reach(router, here, places, near) for router, here, _ in pair)
+            places.update({router: there for router, _, there in pair})
+            if sum(reach(router, there, places, near) for router, _, there in pair) < before:
+                holder[first], holder[second] = holder.get(second), holder.get(first)
+                moved = True
+            else:
+                places.update({router: here for router, here, _ in pair})
+    return moved
+
+
+def near_places(routers, near):
+    """Places on a grid that is about square, by some rounds of exchanges from three first orders: the shortest in all."""
+    columns = max(1, round(len(routers) ** 0.5))
+    rows = -(-len(routers) // columns)
+    cells = [(x, y) for y in range(rows) for x in range(columns)]
+    found = []
+    for order in (list(routers), depth_first(routers, near), breadth_first(routers, near)):
+        places = snake(order, columns)
+        for _ in range(MOST_ROUNDS):
+            if not swapped_nearer(places, near, cells):
+                break
+        found.append(places)
+    return min(found, key=lambda places: sum(reach(router, places[router], places, near) for router in routers))
+
+
+def place_routers(routers, links):
+    """The place of each router, and whether the chip is a mesh."""
+    near = neighbours_of(routers, links)
+    mesh = mesh_places(routers, near)
+    return (mesh, True) if mesh else (near_places(routers, near), False)

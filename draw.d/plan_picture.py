@@ -1,0 +1,183 @@
+"""The picture of a plan in one use case: the chip, the channels in its tables of slots, and a legend of channels."""
+from collections import Counter, defaultdict
+
+from chip_map import ChipMap
+import chip_parts
+import svg
+
+MARGIN = 24
+LEAST_WIDTH = 480
+ROW = 16  # the height of a line of the legend
+LEAST_ROWS = 8  # of the legend, before a further column is begun
+NUMBERS = (("rate", 44), ("latency", 58), ("buffer", 52))  # what the legend tells of a channel, and the room for it
+
+RULES = """
+.big{font-size:12px}.core{fill:none;stroke-width:.6}.line{marker-end:url(#tip)}
+.on{font-size:9px;text-anchor:middle}.way{stroke-width:3;stroke-linejoin:round;visibility:hidden;pointer-events:none}
+.c:hover .way,.c:focus .way{visibility:visible}.c:hover .name,.c:focus .name{font-weight:bold}
+#channels:hover .c:not(:hover),#channels:focus-within .c:not(:focus):not(:hover){opacity:.15}
+.c:focus{outline:none}.curve{opacity:.5}
+"""
+
+
+def colours_of(design):
+    """A colour for each connection: of those that share most links with others first, the colour that is met least."""
+    on_link = defaultdict(set)
+    for channel in design.channels:
+        for number in channel.path:
+            on_link[number].add(channel.connection)
+    met = defaultdict(Counter)
+    for connections in on_link.values():
+        for connection in connections:
+            met[connection].update(connections - {connection})
+    names = dict.fromkeys(channel.connection for channel in design.channels)
+    colours, taken = {}, Counter()
+    for name in sorted(names, key=lambda name: -sum(met[name].values())):
+        clashes = Counter()
+        for other, times in met[name].items():
+            if other in colours:
+                clashes[colours[other]] += times
+        colours[name] = min(range(svg.COLOURS), key=lambda colour: (clashes[colour], taken[colour], colour))
+        taken[colours[name]] += 1
+    return colours
+
+
+def tells_of(design, channel):
+    """What a channel is, in words."""
+    nodes = [design.links[channel.path[0]].source] + [design.links[number].target for number in channel.path]
+    return (
+        f"{channel.name}, {channel.sender} to {channel.receiver}: {channel.rate} words in {design.slots} cycles, "
+        f"latency {channel.latency} cycles, buffer {channel.buffer} words; by {' '.join(nodes)}, "
+        f"starts in {' '.join(map(str, channel.starts))}"
+    )
+
+
+def cells_of(chip_map, channel, place):
+    """A channel's cells in the tables of all links of its path, with its number where there is room for it."""
+    strip, path, signs = chip_map.strip, [], []
+    for link, slots in chip_map.design.passages(channel):
+        lane = chip_map.lanes[link.number]
+        for slot in slots:
+            x, y, along = lane.cell(strip, slot)
+            path.append(f"M{x} {y}{along}{strip.cell - 1}")
+            if strip.has_numbers:
+                half = (strip.cell - 1) / 2
+                middle = (x, y + half + 3) if lane.upright else (x + half, y + 3)
+                signs.append(svg.tag("text", str(place), class_="on", x=middle[0], y=middle[1]))
+    width = strip.height - 1 if channel.side == "fwd" else strip.height / 2
+    return svg.tag("path", d="".join(path), stroke_width=width) + "".join(signs)
+
+
+def way_of(chip_map, channel):
+    """A channel's whole path as one line, which shows where the pointer rests on the channel."""
+    routes = [chip_map.lanes[number].route for number in channel.path]
+    return svg.tag("path", class_="way", d="M" + "L".join(routes))
+
+
+class Legend:
+    """A list of all channels in as many columns as there is room for."""
+
+    def __init__(self, channels, width, top):
+        self.name_width = 8 + svg.text_width(max((c.name for c in channels), key=len, default="")[:26], 11)
+        self.column = 44 + self.name_width + sum(room for _, room in NUMBERS) + MARGIN
+        self.columns = max(1, min(-(-len(channels) // LEAST_ROWS), int((width + MARGIN) // self.column)))
+        self.rows = -(-len(channels) // self.columns)
+        self.top = top
+        self.bottom = top + (self.rows + 1) * ROW
+
+    def head(self):
+        """The names of the columns."""
+        parts = []
+        for column in range(self.columns):
+            x = column * self.column + 44 + self.name_width
+            parts.append(svg.label("channel", column * self.column + 44, self.top, "less"))
+            for name, room in NUMBERS:
+                x += room
+                parts.append(svg.label(name, x, self.top, "less end"))
+        return "".join(parts)
+
+    def line(self, place, channel):
+        """One channel's line, with its colour as a cell."""
+        column, row = divmod(place, self.rows)
+        left, y = column * self.column, self.top + (row + 1) * ROW
+        parts = [
+            svg.tag("path", d=f"M{svg.number(left)} {y - 4}h14", stroke_width=12 if channel.side == "fwd" else 6),
+            svg.label(str(place + 1), left + 39, y, "less end"),
+            svg.label(channel.name, left + 44, y, "name", self.name_width),
+        ]
+        x = left + 44 + self.name_width
+        for (_, room), value in zip(NUMBERS, (channel.rate, channel.latency, channel.buffer)):
+            x += room
+            parts.append(svg.label(str(value), x, y, "end"))
+        return "".join(parts)
+
+
+def draw_channels(chip_map, legend):
+    """Each channel as one group of its cells, its line of the legend and its way."""
+    design, colours = chip_map.design, colours_of(chip_map.design)
+    parts = []
+    for place, channel in enumerate(design.channels):
+        parts.append(svg.tag(
+            "g",
+            svg.title(tells_of(design, channel)),
+            cells_of(chip_map, channel, place + 1),
+            legend.line(place, channel),
+            way_of(chip_map, channel),
+            class_=f"c k{colours[channel.connection]}", role="img", tabindex="0",
+        ))
+    return svg.tag("g", "\n".join(parts), id="channels")
+
+
+def summary(design):
+    """What the picture shows, in sentences."""
+    used, slots = design.used_slots(), design.slots
+    share = round(100 * sum(used) / (slots * len(used))) if used else 0
+    fullest = sorted(design.links, key=lambda link: (-used[link.number], link.number))[:4]
+    named = [f"{link.source} to {link.target} {used[link.number]}" for link in fullest if used[link.number]]
+    connections = len({channel.connection for channel in design.channels})
+    parts = [
+        f"{svg.count(len(design.routers), 'router')}, {svg.count(len(design.interfaces), 'interface')} and "
+        f"{svg.count(len(used), 'link')} with {svg.count(slots, 'slot')} each; {svg.count(connections, 'connection')} "
+        f"with {svg.count(len(design.channels), 'channel')}. "
+        f"Of all slots {share} % are in use."
+    ]
+    if named:
+        parts.append(f"The fullest links, of {slots} slots: {', '.join(named)}.")
+    return parts
+
+
+def reading(chip_map):
+    """How to read the picture."""
+    strip = chip_map.strip
+    rows = f"in rows of {strip.row} " if strip.rows > 1 else ""
+    return (
+        f"Beside each link stands its table: slots 0 to {strip.slots - 1} {rows}from the left, and downwards where it is "
+        "upright. A cell is a slot, in the colour of its connection; it is full for a forward channel and half for a "
+        "back one. The more of a link is in use, the wider its line. The rate is in words in "
+        f"{strip.slots} cycles, the latency in cycles from a word's offer to its landing, the buffer in words."
+    )
+
+
+def draw_head(lines, use, width):
+    """The name of the picture and the sentences below it, and how high they are."""
+    parts, y = [svg.label(f"Use case {use}", MARGIN, MARGIN + 14, "head", width, 18)], MARGIN + 34
+    for sentence, kind in lines:
+        for text in svg.wrapped(sentence, width, 11):
+            parts.append(svg.label(text, MARGIN, y, kind))
+            y += 15
+        y += 4
+    return parts, y
+
+
+def draw_plan(design):
+    """The whole picture, as a text."""
+    chip_map = ChipMap(design)
+    width = max(chip_map.width, LEAST_WIDTH)
+    told = summary(design)
+    head, top = draw_head([(text, None) for text in told] + [(reading(chip_map), "less")], design.use, width)
+    legend = Legend(design.channels, width, chip_map.height + 2 * MARGIN)
+    inner = [legend.head(), *chip_parts.draw_chip(chip_map), draw_channels(chip_map, legend)]
+    body = svg.tag("g", "\n" + "\n".join(inner) + "\n", transform=f"translate({MARGIN} {top + 8})")
+    height = top + 8 + legend.bottom + MARGIN
+    parts = [chip_parts.definitions(chip_map), *head, body]
+    return svg.picture(width + 2 * MARGIN, height, f"Plan of use case {design.use}", " ".join(told), RULES, parts)
