@@ -15,6 +15,7 @@ LINES = 24  # the room of the two lines of a pair of links, between their strips
 LINE_AT = 5  # how far a line is from the middle of its pair
 APART = 10  # the lines of an interface, one from the other
 SEAT_HEIGHT = 16
+LEAST_ROOM = 120  # beside a router, for an interface with its cores
 
 
 class Strip:
@@ -78,7 +79,8 @@ class ChipMap:
         self.sort_links()
         self.band = 2 * self.strip.breadth + LINES
         self.box_width = self.band + 4 * APART * max(map(len, self.at_router.values()))
-        self.pitch = self.box_width + self.strip.length + 3 * GAP
+        self.room = max(self.strip.length, LEAST_ROOM)
+        self.pitch = self.box_width + self.room + 3 * GAP
         self.set_rows()
         self.lanes = {}
         self.lay_pairs()
@@ -174,7 +176,7 @@ class ChipMap:
 
     def lay_interface(self, interface, x, y, post, bottom):
         """The two links of an interface, from the router's lower edge to the interface's upper one."""
-        middle, end = y + self.band // 2, x + self.strip.length + 5
+        middle, end = y + self.band // 2, x + self.room + 5
         under = y + self.band + 4
         for link in self.design.links:
             if link.target == interface:
@@ -190,4 +192,4 @@ class ChipMap:
         """The left and upper edge of an interface, its width and its height."""
         lane = next(self.lanes[link.number] for link in self.design.links if link.target == interface)
         height = self.interface_height(interface) - self.band - 4
-        return lane.left, lane.top + self.band + 4, self.strip.length + 2 * APART, height
+        return lane.left, lane.top + self.band + 4, self.room + 2 * APART, height

@@ -52,7 +52,7 @@ def draw_link(chip_map, link, used):
     table = svg.tag("use", href="#table", transform=turn)
     if link not in chip_map.curves.get(link.source, []):
         return "", svg.tag("g", svg.title(tells), way, table)
-    name = svg.label(f"{svg.ARROW} {link.target}", x, y - 3, "less", chip_map.strip.length)
+    name = svg.label(f"{svg.ARROW} {link.target}", x, y - 3, "less", chip_map.room)
     return svg.tag("g", svg.title(tells), way, class_="curve"), svg.tag("g", svg.title(tells), name, table)
 
 

@@ -46,9 +46,10 @@ def tells_of(design, channel):
     """What a channel is, in words."""
     nodes = [design.links[channel.path[0]].source] + [design.links[number].target for number in channel.path]
     return (
-        f"{channel.name}, {channel.sender} to {channel.receiver}: {channel.rate} words in {design.slots} cycles, "
-        f"latency {channel.latency} cycles, buffer {channel.buffer} words; by {' '.join(nodes)}, "
-        f"starts in {' '.join(map(str, channel.starts))}"
+        f"{channel.name}, {channel.sender} to {channel.receiver}: {channel.rate} words in "
+        f"{svg.count(design.slots, 'cycle')}, "
+        f"latency {channel.latency} cycles, buffer {channel.buffer} words; "
+        f"by {' '.join(nodes)}, starts in {' '.join(map(str, channel.starts))}"
     )
 
 
@@ -78,10 +79,11 @@ class Legend:
     """A list of all channels in as many columns as there is room for."""
 
     def __init__(self, channels, width, top):
-        self.name_width = 8 + svg.text_width(max((c.name for c in channels), key=len, default="")[:26], 11)
+        longest = max([len("channel")] + [len(channel.name) for channel in channels])
+        self.name_width = 8 + svg.text_width("n" * min(longest, 26), 11)
         self.column = 44 + self.name_width + sum(room for _, room in NUMBERS) + MARGIN
-        self.columns = max(1, min(-(-len(channels) // LEAST_ROWS), int((width + MARGIN) // self.column)))
-        self.rows = -(-len(channels) // self.columns)
+        self.columns = min(-(-len(channels) // LEAST_ROWS), max(1, int((width + MARGIN) // self.column)))
+        self.rows = -(-len(channels) // max(1, self.columns))
         self.top = top
         self.bottom = top + (self.rows + 1) * ROW
 
@@ -154,7 +156,7 @@ def reading(chip_map):
         f"Beside each link stands its table: slots 0 to {strip.slots - 1} {rows}from the left, and downwards where it is "
         "upright. A cell is a slot, in the colour of its connection; it is full for a forward channel and half for a "
         "back one. The more of a link is in use, the wider its line. The rate is in words in "
-        f"{strip.slots} cycles, the latency in cycles from a word's offer to its landing, the buffer in words."
+        f"{svg.count(strip.slots, 'cycle')}, the latency in cycles from a word's offer to its landing, the buffer in words."
     )
 
 
