@@ -1,10 +1,14 @@
 -- The channels of an application's connections, and of a log that is regular for it.
 use Rattle.std.proofs.Common.{◌≡◌, ◌<◌, ℕ, List, [], ◌∷◌, Contains, map, sym, ap, inl}
-use Rattle.std.proofs.Common.{inr, arith}
+use Rattle.std.proofs.Common.{inr, arith, ◌&&◌, true, refl}
+use Rattle.std.specs.Prelude.{◌==◌}
+use Rattle.std.proofs.lemmas.Bool.{and_from, and_parts, eq-eqb, eqb-true}
 use Rattle.std.specs.List.{All, range_with_len}
 use Rattle.std.proofs.lemmas.List.Elements.{All-contains, All-contains_itself}
 use Rattle.aeth_base.specs.declared.ids.Channel.{Channel}
+use Rattle.aeth_base.specs.declared.ids.Side.{Side}
 use Rattle.aeth_base.specs.declared.ids.Side.TheVariants.{Back, Fwd}
+use Rattle.aeth_trace.specs.Channels.{is_channel, is_side}
 use Rattle.aeth_base.proofs.Members.{Contains-cases, Contains-map, Contains-nil, flat_map-Contains}
 use Rattle.aeth_base.proofs.Ranges.{All-range}
 use Rattle.aeth_report.specs.Channels.{channels_of, channels_with}
@@ -42,3 +46,27 @@ log-known connections log same k default within =
     let itself = All-contains_itself log k default within in
     let has = Contains-map (λ (one : ChannelData). one.channel) log _ itself in
     channels_of-known connections _ (rw same at has)
+
+-- ---- channels that are one
+
+-- Sides that the test says are one are.
+pub same_side : (one other : Side) → is_side one other ≡ true → one ≡ other
+same_side Fwd Fwd is = refl
+same_side Fwd Back is = absurd (cc is)
+same_side Back Fwd is = absurd (cc is)
+same_side Back Back is = refl
+
+-- So are channels.
+pub same_channel : (one other : Channel) → is_channel one other ≡ true → one ≡ other
+same_channel one other is =
+    let parts = and_parts (one.conn.0 == other.conn.0) (is_side one.side other.side) is in
+    let conn = eqb-true one.conn.0 other.conn.0 parts.0 in
+    let side = same_side one.side other.side parts.1 in
+    λ k. record { conn = record { 0 = conn k }; side = side k }
+
+-- A channel is itself.
+pub is_channel-itself : (channel : Channel) → is_channel channel channel ≡ true
+is_channel-itself channel =
+    let sides : (side : Side) → is_side side side ≡ true = elim [ Fwd ↦ refl | Back ↦ refl ] in
+    and_from (channel.conn.0 == channel.conn.0) (is_side channel.side channel.side)
+    (eq-eqb channel.conn.0 channel.conn.0 refl) (sides channel.side)

@@ -18,6 +18,7 @@ use Rattle.aeth_trace.specs.Channels.{is_side}
 use Rattle.aeth_report.specs.Design.{Design, grant_at, is_for, no_grant}
 use Rattle.aeth_report.specs.Sessions.{AreTogether}
 use Rattle.aeth_report.specs.Sound.{AreGranted}
+use Rattle.aeth_report.proofs.ChannelLemmas.{same_side}
 
 -- What a search finds in a list is in it, and passes the test.
 find-passes : {X : Type 0} (test : X → Bool) (xs : List X)
@@ -33,13 +34,6 @@ find-passes {X} test (x ∷ xs) = elim (cases_Bool (test x)) [
       ] in
       rw other (more (find test xs) (find-passes test xs))
 ]
-
--- Sides that the test says are one are.
-pub same_side : (one other : Side) → is_side one other ≡ true → one ≡ other
-same_side Fwd Fwd is = refl
-same_side Fwd Back is = absurd (cc is)
-same_side Back Fwd is = absurd (cc is)
-same_side Back Back is = refl
 
 module _ (design : Design) where
   -- A grant of the plan for a channel in a group.

@@ -66,6 +66,22 @@ module _ (groups : GroupsData) (spans : SpanData) where
         | inr there ↦ more s.closing (behind-closes c rows v go times.1 s there)
       ]
 
+  -- And each of them once it goes.
+  behind-after : (c : ℕ) (rows : List SwitchRow) (u low : ℕ) → AreInTime spans u low rows
+      → (s : Stay) → Contains (stays_behind groups c u rows) s
+      → ClosesFrom (go_of spans s.opening) s
+  behind-after c [] u low times s has = Contains-nil has
+  behind-after c (row ∷ rows) u low times s has =
+      let v = row.to.0 in
+      let go = go_by spans (switch_of u row) in
+      let opening = Some (switch_of u row) in
+      let behind = stays_behind groups c v rows in
+      elim (stay_with-cases groups c (opens groups u v c) opening v rows behind s has) [
+        | inl here ↦ subst (λ (x : Stay). ClosesFrom (go_of spans x.opening) x) here.1
+            (opened-closes c rows v go times.1)
+        | inr there ↦ behind-after c rows v go times.1 s there
+      ]
+
   -- Those that rows open go at `low` or later.
   behind-goes : (c : ℕ) (rows : List SwitchRow) (u low : ℕ) → AreInTime spans u low rows
       → (s : Stay) → Contains (stays_behind groups c u rows) s → low ≤ go_of spans s.opening
@@ -199,3 +215,37 @@ module _ (groups : GroupsData) (spans : SpanData) where
             ]
       ] in
       cases one.0.closing same beside
+
+  -- Each stay of a list of switches closes once it goes, if at all.
+  pub stays-after : (rows : List SwitchRow) (c : ℕ) → are_apart spans rows ≡ Ok tt → (s : Stay)
+      → Contains (stays_of groups c rows) s → ClosesFrom (go_of spans s.opening) s
+  stays-after [] c apart s has = Contains-nil has
+  stays-after (first ∷ rows) c apart s has =
+      let u = first.to.0 in
+      let times = in_time spans u 0 2 rows apart in
+      let behind = stays_behind groups c u rows in
+      elim (stay_with-cases groups c (has_at groups u c) None u rows behind s has) [
+        | inl here ↦ subst (λ (x : Stay). ClosesFrom (go_of spans x.opening) x) here.1
+            (opened-closes c rows u 0 times)
+        | inr there ↦ behind-after c rows u 0 times s there
+      ]
+
+  -- So a session stops accepting words once it goes.
+  pub sessions_after : (rows : List SwitchRow) (c : ℕ) → are_apart spans rows ≡ Ok tt
+      → (s : Session) → Contains (sessions_of groups spans c rows) s → (close : Close)
+      → s.close ≡ Some close → s.go ≤ close.until
+  sessions_after rows c apart s has close is =
+      let found = map-Contains (session_of spans) (stays_of groups c rows) s has in
+      let go : go_of spans found.0.opening ≡ s.go = ap (λ (z : Session). z.go) found.1 in
+      let same : option_map (close_by spans) found.0.closing ≡ Some close =
+      ap (λ (z : Session). z.close) found.1 ∙ is in
+      let cases : (o : Option Switch) → option_map (close_by spans) o ≡ Some close
+      → IfSome o (λ switch. go_of spans found.0.opening ≤ until_of switch)
+      → s.go ≤ close.until = elim [
+        | None ↦ λ none after. absurd (cc none)
+        | Some switch ↦ λ some after.
+            let closed = same_Some (close_by spans switch) close some in
+            let until : until_of switch ≡ close.until = ap (λ (z : Close). z.until) closed in
+            omega arith
+      ] in
+      cases found.0.closing same (stays-after rows c apart found.0 found.2)

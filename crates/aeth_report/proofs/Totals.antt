@@ -27,7 +27,7 @@ use Rattle.aeth_report.specs.RunLog.{log_of, session_log}
 use Rattle.aeth_report.specs.Sound.{IsSound}
 use Rattle.aeth_report.proofs.Accounts.{is_before}
 use Rattle.aeth_report.proofs.FlowPlaces.{channels_of-once}
-use Rattle.aeth_report.proofs.GrantLemmas.{same_side}
+use Rattle.aeth_report.proofs.ChannelLemmas.{same_channel}
 use Rattle.aeth_report.proofs.OneFlit.{session-paths}
 use Rattle.aeth_report.proofs.RegularLemmas.{channel-accounted}
 use Rattle.aeth_report.proofs.Sums.{count_by-sole, sum_by-below, sum_by-map, sum_by-none, sum_by-plus}
@@ -39,14 +39,6 @@ All-members P xs each k default within =
     each _ (All-contains_itself xs k default within)
 
 -- ---- the words of all channels
-
--- Channels that the test says are one are.
-same_channel : (one other : Channel) → is_channel one other ≡ true → one ≡ other
-same_channel one other is =
-    let parts = and_parts (one.conn.0 == other.conn.0) (is_side one.side other.side) is in
-    let conn = eqb-true one.conn.0 other.conn.0 parts.0 in
-    let side = same_side one.side other.side parts.1 in
-    λ k. record { conn = record { 0 = conn k }; side = side k }
 
 -- A word is on one channel at most.
 on-one : (n : ℕ) (channel : Channel)

@@ -34,10 +34,14 @@ pub fn sessions_meet()
         → IsInUse s t → IsInUse e t → i ≡ j }
 {}
 
-/// What a session has sent by its stop has landed by its finish. A session that goes after another
-/// one stops accepting words goes once that one has finished: channels that a switch opens are in use
-/// only when what was sent on those that it closes has landed.
+/// A session goes before it stops accepting words. What it has sent by its stop has landed by its
+/// finish. A session that goes after another one stops accepting words goes once that one has
+/// finished: channels that a switch opens are in use only when what was sent on those that it closes
+/// has landed.
 pub fn sessions_close()
+    ensures begins { (run : Run) → IsSound run → (c : ℕ) (s : Session)
+        → Contains (sessions_in run c) s → (close : Close) → s.close ≡ Some close
+        → s.go ≤ close.until }
     ensures follow { (run : Run) → IsSound run → (c d : ℕ) (s e : Session)
         → Contains (sessions_in run c) s → Contains (sessions_in run d) e → (close : Close)
         → s.close ≡ Some close → close.until < e.go → close.fin ≤ e.go }

@@ -1,6 +1,11 @@
 use Rattle.aeth_report.proofs.ClosingLemmas.{lands_by_finish}
-use Rattle.aeth_report.proofs.SessionOrder.{sessions_follow}
+use Rattle.aeth_report.proofs.SessionOrder.{sessions_after, sessions_follow}
 use Rattle.aeth_report.proofs.laws.sessions_close.Goals as goal
+
+-- A switch is over before the next one begins.
+pub returns-clause-begins : goal.returns-clause-begins
+returns-clause-begins c run sound n =
+    sessions_after run.design.groups run.spans run.switches n sound.apart
 
 -- Switches follow one another.
 pub returns-clause-follow : goal.returns-clause-follow
