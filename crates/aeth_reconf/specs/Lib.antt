@@ -1,2 +1,3 @@
 pub mod Timeline
 pub mod Rows
+pub mod Windows

@@ -1,6 +1,7 @@
 -- The rows of the channels of use cases, and what the writes of a switch between two of them touch.
 --
---   RowOf, rows_that      the row of a channel in a group, and those of some connections
+--   RowOf, channels_that, rows_that      the row of a channel in a group, and the channels and rows of
+--                                        some connections
 --   rows_left, rows_entered, rows_kept, rows_closing, rows_opening      the rows of a switch
 --   switch_program      its writes
 --   Meets, AreApart      rows that share a queue or a slot of an interface
@@ -24,10 +25,14 @@ use Rattle.aeth_report.specs.Sessions.{closes, opens}
 abbrev pub RowOf : Type 0
 RowOf = ℕ → Channel → ChannelRow
 
--- The rows in a group of the channels of the connections that pass a test, in channel order.
+-- The channels of the connections that pass a test, in channel order.
+abbrev pub channels_that : GroupsData → (ℕ → Bool) → List Channel
+channels_that groups test =
+    flat_map channels_with (filter test (range_with_len 0 groups.connections))
+
+-- Their rows in a group.
 abbrev pub rows_that : GroupsData → RowOf → ℕ → (ℕ → Bool) → List ChannelRow
-rows_that groups row_of group test =
-    map (row_of group) (flat_map channels_with (filter test (range_with_len 0 groups.connections)))
+rows_that groups row_of group test = map (row_of group) (channels_that groups test)
 
 module _ (groups : GroupsData) (row_of : RowOf) (u v : ℕ) where
   -- The rows of the use case that is left.
