@@ -1,0 +1,11 @@
+pub mod Words
+pub mod Counts
+pub mod Unique
+pub mod Routes
+pub mod Routers
+pub mod Owning
+pub mod Ready
+pub mod Queues
+pub mod Faces
+pub mod Landing
+pub mod Step

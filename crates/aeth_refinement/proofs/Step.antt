@@ -1,0 +1,349 @@
+-- Driving, taking and latching lead from the counts before a cycle to those after it.
+use Rattle.std.proofs.Common.{◌≡◌, ◌≤◌, ◌<◌, ◌∙◌, ℕ, suc, ◌+◌, ◌-◌, ◌%◌, min, List, ◌++◌, length, drop, Option}
+use Rattle.std.proofs.Common.{Some, refl, sym, ap, subst, arith, inl, inr, Bool}
+use Rattle.aeth_clocked.specs.declared.flit.Flit.{Flit}
+use Rattle.aeth_ni.specs.Component.{Arrival, arrival_of}
+use Rattle.aeth_ni.specs.Limits.{max_count}
+use Rattle.aeth_ni.specs.Queue.{QueueState}
+use Rattle.aeth_ni.specs.declared.queue.Route.{Route}
+use Rattle.aeth_report.specs.Carries.{returns, sends}
+use Rattle.aeth_server.specs.PrivateServer.{arrived, credited, landed, pull_at, returned, sent, taken}
+use Rattle.aeth_server.proofs.PrivateServerLemmas.{credited-more, has-grown, in-order, sent-more}
+use Rattle.aeth_server.proofs.PrivateServerLemmas.{taken-next}
+use Rattle.aeth_server.proofs.SessionEnds.{idle-before}
+use Rattle.aeth_refinement.specs.Accepted.{IsAccepted}
+use Rattle.aeth_refinement.specs.Carried.{Exact, words_from}
+use Rattle.aeth_refinement.specs.Changes.{Latched, Took}
+use Rattle.aeth_refinement.specs.Components.{Net, after, credits_for, queue_of, words_for}
+use Rattle.aeth_refinement.specs.Fabric.{Fabric, IsGoing, Owns, flow_at, server_at}
+use Rattle.aeth_refinement.specs.Standing.{HasCounter, Stands}
+use Rattle.aeth_refinement.proofs.Counts.{owed-most, returned-sent, room-next}
+use Rattle.aeth_refinement.proofs.Faces.{leaves}
+use Rattle.aeth_refinement.proofs.Landing.{lands}
+use Rattle.aeth_refinement.proofs.Owning.{early-alone, exact-same, going-or-early, landed-most, owns-back}
+use Rattle.aeth_refinement.proofs.Owning.{received-length}
+use Rattle.aeth_refinement.proofs.Queues.{brought_by-counter, brought_by-kept, brought_by-received}
+use Rattle.aeth_refinement.proofs.Queues.{sent_from-kept, words_taken-is}
+use Rattle.aeth_refinement.proofs.Ready.{Enough}
+use Rattle.aeth_refinement.proofs.Unique.{known-back, paths-of, returns-step, sends-step}
+use Rattle.aeth_refinement.proofs.Words.{drop-words_from, length-words_from, words_from-append}
+
+-- What is owed behind the takes is a count: no more than the buffer.
+owed-fits : (owed left more count gives gave given was now buffer : ℕ) → more ≡ count
+    → left ≡ owed - gives → gives ≤ owed → gives ≡ given - gave → owed + gave ≡ was → gave ≤ given
+    → now ≡ was + count → now ≤ buffer + given → buffer ≤ max_count → left + more ≤ max_count
+owed-fits owed left more count gives gave given was now buffer same rest some step owes grows take least fits =
+    omega arith
+
+module _ (fabric : Fabric) (ok : IsAccepted fabric) (t : ℕ) (net drained new : Net)
+    (wires : ℕ → Option Flit) (at : Stands fabric (suc t) t net) (enough : Enough fabric ok t net)
+    (took : Took fabric t (after fabric net t) drained) (exact : Exact fabric t wires)
+    (latched : Latched fabric wires drained new) where
+  -- A session's queue before the drive, behind it, behind the takes, and behind the latch; and what comes.
+  abbrev first : ℕ → QueueState
+  first c = queue_of fabric net c
+
+  abbrev second : ℕ → QueueState
+  second c = queue_of fabric (after fabric net t) c
+
+  abbrev third : ℕ → QueueState
+  third c = queue_of fabric drained c
+
+  abbrev last : ℕ → QueueState
+  last c = queue_of fabric new c
+
+  abbrev comes : ℕ → Option Arrival
+  comes c = arrival_of (wires (fabric.entering (fabric.passage c).ni))
+
+  abbrev number : ℕ → ℕ
+  number c = (fabric.passage c).queue
+
+  -- What stays in all of these.
+  drive-keeps : (c : ℕ) → second c
+      ≡ record (first c) {
+        waiting = (second c).waiting;
+        counter = (second c).counter;
+        owed = (second c).owed;
+      }
+  drive-keeps c =
+      sent_from-kept (net.entry (fabric.passage c).ni (t % fabric.size)) (number c) (first c)
+
+  latch-keeps : (c : ℕ) → c < fabric.count → last c
+      ≡ record (third c) { received = (last c).received; counter = (last c).counter }
+  latch-keeps c h =
+      let same = latched.queue c h in
+      same ∙ brought_by-kept (comes c) (number c) (third c)
+      ∙ ap (λ (q : QueueState). record (third c) { received = q.received; counter = q.counter })
+      (sym same)
+
+  route-stays : (c : ℕ) → c < fabric.count → (last c).route ≡ (first c).route
+  route-stays c h =
+      ap (λ (q : QueueState). q.route) (latch-keeps c h)
+      ∙ ap (λ (q : QueueState). q.route) (took.kept c h)
+      ∙ ap (λ (q : QueueState). q.route) (drive-keeps c)
+
+  halted-stays : (c : ℕ) → c < fabric.count → (last c).halted ≡ (first c).halted
+  halted-stays c h =
+      ap (λ (q : QueueState). q.halted) (latch-keeps c h)
+      ∙ ap (λ (q : QueueState). q.halted) (took.kept c h)
+      ∙ ap (λ (q : QueueState). q.halted) (drive-keeps c)
+
+  third-room : (c : ℕ) → c < fabric.count → (third c).room ≡ (first c).room
+  third-room c h =
+      ap (λ (q : QueueState). q.room) (took.kept c h)
+      ∙ ap (λ (q : QueueState). q.room) (drive-keeps c)
+
+  handed-stays : (c : ℕ) → c < fabric.count → new.handed c ≡ net.handed c
+  handed-stays c h = latched.handed c h ∙ took.handed c h
+
+  entry-stays : (n x : ℕ) → new.entry n x ≡ net.entry n x
+  entry-stays n x = latched.entry n x ∙ took.entry n x
+
+  -- What a session's private server takes is taken from the queue at which it lands, which is that of
+  -- the opposite session.
+  record Takes (c : ℕ) : Type 0 where
+    count : ℕ
+    received : (third c).received ≡ drop count (first c).received
+    owed : (third c).owed ≡ (second c).owed + count
+    few : count ≤ length (first c).received
+    server : taken (server_at fabric (fabric.opposite c)) (suc t)
+        ≡ taken (server_at fabric (fabric.opposite c)) t + count
+
+  takes-going : (c : ℕ) → c < fabric.count → Owns fabric c (suc t) → IsGoing fabric c t → Takes c
+  takes-going c h own going =
+      let d = fabric.opposite c in
+      let g = known-back fabric ok c h in
+      let server = server_at fabric d in
+      let paths = paths-of fabric ok d g in
+      let pull = pull_at server t in
+      let gone = leaves fabric ok t net at enough c h own in
+      let same : (second c).received ≡ (first c).received =
+      ap (λ (q : QueueState). q.received) (drive-keeps c) in
+      let size : length (second c).received ≡ length (first c).received =
+      ap (λ (ws : List ℕ). length ws) same in
+      let some = received-length fabric ok (suc t) t net at c h own in
+      let step : taken server (suc t) ≡ taken server t + min pull (length (first c).received) =
+      taken-next server paths t
+      ∙ ap (λ n. taken server t + min pull n) (sym some) in
+      let owes : (second c).owed ≡ (first c).owed - returns (flow_at fabric c) t =
+      ap (λ (q : QueueState). q.owed) gone.is in
+      let gives = returns-step fabric ok c t h in
+      let was = at.owed c h own in
+      let more = credited-more server paths t (suc t) (omega arith) in
+      let least = owed-most server paths (suc t) in
+      let buffer = (ok.given d g).buffer in
+      let few : (second c).owed + min pull (length (second c).received) ≤ max_count =
+      owed-fits (first c).owed (second c).owed (min pull (length (second c).received))
+      (min pull (length (first c).received)) (returns (flow_at fabric c) t) (credited server t)
+      (credited server (suc t)) (taken server t) (taken server (suc t)) server.buffer
+      (ap (λ n. min pull n) size) owes gone.credits gives was more step least buffer in
+      let is = words_taken-is pull (second c) few in
+      record {
+        count = min pull (length (first c).received);
+        received = ap (λ (q : QueueState). q.received) (took.takes c h going) ∙ is.received
+            ∙ ap (λ n. drop (min pull n) (second c).received) size
+            ∙ ap (λ (ws : List ℕ). drop (min pull (length (first c).received)) ws) same;
+        owed = ap (λ (q : QueueState). q.owed) (took.takes c h going) ∙ is.owed
+            ∙ ap (λ n. (second c).owed + min pull n) size;
+        few = omega arith;
+        server = step;
+      }
+
+  takes-early : (c : ℕ) → c < fabric.count → Owns fabric c (suc t) → t < (server_at fabric c).go
+      → Takes c
+  takes-early c h own early =
+      let d = fabric.opposite c in
+      let g = known-back fabric ok c h in
+      let server = server_at fabric d in
+      let paths = paths-of fabric ok d g in
+      let go = (ok.answered c h).go in
+      let before = (idle-before server paths t (omega arith)).taken in
+      let after = (idle-before server paths (suc t) (omega arith)).taken in
+      let same = took.rests c h (early-alone fabric ok c t h own early) in
+      record {
+        count = 0;
+        received = ap (λ (q : QueueState). q.received) same
+            ∙ ap (λ (q : QueueState). q.received) (drive-keeps c);
+        owed = ap (λ (q : QueueState). q.owed) same ∙ omega arith;
+        few = omega arith;
+        server = omega (arith, before, after);
+      }
+
+  takes : (c : ℕ) → c < fabric.count → Owns fabric c (suc t) → Takes c
+  takes c h own = elim (going-or-early fabric ok c t own) [
+    | inl going ↦ takes-going c h own going
+    | inr early ↦ takes-early c h own early
+  ]
+
+  -- What comes at a session's queue, from the opposite session.
+  record Brings (c : ℕ) : Type 0 where
+    words : words_for (number c) (comes c)
+        ≡ words_from (flow_at fabric (fabric.opposite c)).values
+        (landed (server_at fabric (fabric.opposite c)) (suc t))
+        (landed (server_at fabric (fabric.opposite c)) (suc (suc t))
+        - landed (server_at fabric (fabric.opposite c)) (suc t))
+    grows : landed (server_at fabric (fabric.opposite c)) (suc t)
+        ≤ landed (server_at fabric (fabric.opposite c)) (suc (suc t))
+    credits : credits_for (number c) (comes c) + returned (server_at fabric c) (suc t)
+        ≡ returned (server_at fabric c) (suc (suc t))
+
+  brings : (c : ℕ) → c < fabric.count → Owns fabric c (suc t) → Brings c
+  brings c h own =
+      let d = fabric.opposite c in
+      let back = (ok.answered c h).back in
+      let land = lands fabric ok t wires exact d (known-back fabric ok c h)
+      (owns-back fabric ok c (suc t) h own) in
+      record {
+        words = ap (λ n. words_for (number n) (comes n)) (sym back) ∙ land.words;
+        grows = land.grows;
+        credits = ap (λ n. credits_for (number n) (comes n) + returned (server_at fabric n) (suc t))
+            (sym back)
+            ∙ land.credits ∙ ap (λ n. returned (server_at fabric n) (suc (suc t))) back;
+      }
+
+  received-next : (c : ℕ) → c < fabric.count → Owns fabric c (suc t)
+      → let d = fabric.opposite c in
+      (last c).received ≡ words_from (flow_at fabric d).values (taken (server_at fabric d) (suc t))
+      (landed (server_at fabric d) (suc (suc t)) - taken (server_at fabric d) (suc t))
+  received-next c h own =
+      let d = fabric.opposite c in
+      let g = known-back fabric ok c h in
+      let server = server_at fabric d in
+      let paths = paths-of fabric ok d g in
+      let values = (flow_at fabric d).values in
+      let was = taken server t in
+      let now = taken server (suc t) in
+      let here = landed server (suc t) in
+      let next = landed server (suc (suc t)) in
+      let take = takes c h own in
+      let bring = brings c h own in
+      let some = received-length fabric ok (suc t) t net at c h own in
+      let order = (in-order server paths (suc t)).takes in
+      let left : (third c).received ≡ words_from values now (here - now) =
+      take.received ∙ ap (λ (ws : List ℕ). drop take.count ws) (at.received c h own)
+      ∙ drop-words_from take.count values was (here - was) now (here - now)
+      take.server (omega (arith, take.server)) (omega (arith, take.few, some)) in
+      let all : (third c).received ++ words_for (number c) (comes c)
+      ≡ words_from values now (next - now) =
+      ap (λ (ws : List ℕ). ws ++ words_for (number c) (comes c)) left
+      ∙ ap (λ (ws : List ℕ). words_from values now (here - now) ++ ws) bring.words
+      ∙ words_from-append values now (here - now) here (next - here) (next - now)
+      (omega (arith, order)) (omega (arith, order, bring.grows)) in
+      let most = landed-most fabric ok d (suc (suc t)) g in
+      let size : length ((third c).received ++ words_for (number c) (comes c)) ≡ next - now =
+      ap (λ (ws : List ℕ). length ws) all
+      ∙ length-words_from values now (next - now) (omega (arith, order, bring.grows, most)) in
+      let room = room-next server paths (suc t) in
+      let holds = at.room c h in
+      let same = third-room c h in
+      ap (λ (q : QueueState). q.received) (latched.queue c h)
+      ∙ brought_by-received (comes c) (number c) (third c) (omega (arith, size, room, holds, same))
+      ∙ all
+
+  counter-next : (c : ℕ) → c < fabric.count → HasCounter fabric c (suc t)
+      → (last c).counter + sent (server_at fabric c) (suc t)
+      ≡ (server_at fabric c).buffer + returned (server_at fabric c) (suc (suc t))
+  counter-next c h has =
+      let server = server_at fabric c in
+      let paths = paths-of fabric ok c h in
+      let set = has.set in
+      let since = (ok.ordered c h).set_since in
+      let own : Owns fabric c (suc t) = record { since = omega arith; finish = has.finish } in
+      let gone = leaves fabric ok t net at enough c h own in
+      let bring = brings c h own in
+      let was = at.counter c h has in
+      let step = sends-step fabric ok c t in
+      let grows = sent-more server paths t (suc t) (omega arith) in
+      let back = returned-sent server paths (suc t) in
+      let buffer = (ok.given c h).buffer in
+      let left : (third c).counter ≡ (first c).counter - sends (flow_at fabric c) t =
+      ap (λ (q : QueueState). q.counter) (took.kept c h)
+      ∙ ap (λ (q : QueueState). q.counter) gone.is in
+      let within = gone.counter in
+      let total : (third c).counter + credits_for (number c) (comes c) + sent server (suc t)
+      ≡ server.buffer + returned server (suc (suc t)) =
+      omega (arith, left, bring.credits, was, step, grows, within) in
+      let counts : (last c).counter ≡ (third c).counter + credits_for (number c) (comes c) =
+      ap (λ (q : QueueState). q.counter) (latched.queue c h)
+      ∙ brought_by-counter (comes c) (number c) (third c) (omega (arith, total, back, buffer)) in
+      omega (arith, counts, total)
+
+  owed-next : (c : ℕ) → c < fabric.count → Owns fabric c (suc t)
+      → let d = fabric.opposite c in
+      (last c).owed + credited (server_at fabric d) (suc t) ≡ taken (server_at fabric d) (suc t)
+  owed-next c h own =
+      let d = fabric.opposite c in
+      let server = server_at fabric d in
+      let paths = paths-of fabric ok d (known-back fabric ok c h) in
+      let gone = leaves fabric ok t net at enough c h own in
+      let take = takes c h own in
+      let was = at.owed c h own in
+      let step = returns-step fabric ok c t h in
+      let grows = credited-more server paths t (suc t) (omega arith) in
+      let left : (second c).owed ≡ (first c).owed - returns (flow_at fabric c) t =
+      ap (λ (q : QueueState). q.owed) gone.is in
+      let same : (last c).owed ≡ (third c).owed = ap (λ (q : QueueState). q.owed) (latch-keeps c h) in
+      let within = gone.credits in
+      omega (arith, same, take.owed, take.server, left, was, step, grows, within)
+
+  -- No more goes than waits.
+  handed-low : (c : ℕ) → c < fabric.count → Owns fabric c (suc t)
+      → sent (server_at fabric c) (suc t) ≤ new.handed c
+  handed-low c h own =
+      let gone = leaves fabric ok t net at enough c h own in
+      let low = at.handed_low c h own in
+      let step = sends-step fabric ok c t in
+      let grows = sent-more (server_at fabric c) (paths-of fabric ok c h) t (suc t) (omega arith) in
+      omega (arith, gone.words, low, step, grows, handed-stays c h)
+
+  waiting-next : (c : ℕ) → c < fabric.count → Owns fabric c (suc t)
+      → (last c).waiting ≡ words_from (flow_at fabric c).values (sent (server_at fabric c) (suc t))
+      (new.handed c - sent (server_at fabric c) (suc t))
+  waiting-next c h own =
+      let server = server_at fabric c in
+      let gone = leaves fabric ok t net at enough c h own in
+      let step = sends-step fabric ok c t in
+      let grows = sent-more server (paths-of fabric ok c h) t (suc t) (omega arith) in
+      let low = at.handed_low c h own in
+      let same = handed-stays c h in
+      let few = sends (flow_at fabric c) t in
+      ap (λ (q : QueueState). q.waiting) (latch-keeps c h)
+      ∙ ap (λ (q : QueueState). q.waiting) (took.kept c h)
+      ∙ ap (λ (q : QueueState). q.waiting) gone.is
+      ∙ ap (λ (ws : List ℕ). drop few ws) (at.waiting c h own)
+      ∙ drop-words_from few (flow_at fabric c).values (sent server t) (net.handed c - sent server t)
+      (sent server (suc t)) (new.handed c - sent server (suc t)) (omega (arith, step, grows))
+      (omega (arith, same, step, grows, low)) gone.words
+
+  -- The components after the cycle stand as the counts after it say.
+  pub stands-next : Stands fabric (suc t) (suc t) new
+  stands-next = record {
+    entry_only = λ n x queue is. at.entry_only n x queue (sym (entry-stays n x) ∙ is);
+    entry_all = λ c x h has. entry-stays (fabric.passage c).ni x ∙ at.entry_all c x h has;
+    route = λ c h run. route-stays c h ∙ at.route c h run;
+    running = λ c h run. halted-stays c h ∙ at.running c h run;
+    halted = λ c h stop freed. halted-stays c h ∙ at.halted c h stop freed;
+    unhanded = λ c h soon. handed-stays c h ∙ at.unhanded c h soon;
+    handed_low = handed-low;
+    handed_high = λ c h own.
+        let high = at.handed_high c h own in
+        let grows = sent-more (server_at fabric c) (paths-of fabric ok c h) t (suc t) (omega arith) in
+        omega (arith, high, grows, handed-stays c h);
+    handed_arrived = λ c h own.
+        let few = at.handed_arrived c h own in
+        let grows = has-grown (server_at fabric c) (paths-of fabric ok c h) (suc t) (suc (suc t))
+        (omega arith) in
+        omega (arith, few, grows.arrived, handed-stays c h);
+    waiting = waiting-next;
+    received = received-next;
+    counter = counter-next;
+    owed = owed-next;
+    room = λ c h.
+        let same = ap (λ (q : QueueState). q.room) (latch-keeps c h) ∙ third-room c h in
+        omega (arith, at.room c h, same);
+    held = λ v is.
+        let now : t ≡ v = omega arith in
+        subst (λ n. Exact fabric n new.held) now
+        (exact-same fabric t wires new.held latched.held exact);
+    held_none = λ none. absurd (omega arith);
+  }

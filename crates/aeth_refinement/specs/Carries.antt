@@ -1,0 +1,28 @@
+-- What a wire carries in a cycle: the flits of all sessions that are on it then, as a list, so that two
+-- flits on one wire in one cycle would be seen.
+-- This project's own.
+use Rattle.std.specs.Prelude.{ℕ, ◌-◌, ◌==◌, ◌&&◌, nat_le, if◌then◌else◌, Bool, List, [], ◌∷◌}
+use Rattle.std.specs.List.{enumerate_from, flat_map, range_with_len}
+use Rattle.aeth_clocked.specs.declared.flit.Flit.{Flit}
+use Rattle.aeth_report.specs.Carries.{injects}
+use Rattle.aeth_refinement.specs.Fabric.{Fabric, flow_at}
+use Rattle.aeth_refinement.specs.Carried.{flit_of}
+
+module _ (fabric : Fabric) (l t : ℕ) where
+  -- Whether a flit of a session is on the wire in the cycle, at a place of its path.
+  abbrev pub is_there : ℕ → ℕ × ℕ → Bool
+  is_there c place =
+      place.1 == l && nat_le place.0 t && injects (flow_at fabric c) (t - place.0)
+
+  -- That flit, if there is one.
+  abbrev pub flits_at : ℕ → ℕ × ℕ → List Flit
+  flits_at c place =
+      if is_there c place then flit_of fabric c place.0 (t - place.0) ∷ [] else []
+
+  -- Those at all places of its path.
+  abbrev pub flits_on : ℕ → List Flit
+  flits_on c = flat_map (flits_at c) (enumerate_from 0 (fabric.passage c).wires)
+
+  -- The flits that the wire carries in the cycle, in the order of sessions.
+  abbrev pub carries : List Flit
+  carries = flat_map flits_on (range_with_len 0 fabric.count)

@@ -1,0 +1,89 @@
+-- A fabric: the wires of a chip, and the sessions that pass over them.
+--
+--   WireEnd      where a wire starts or ends
+--   Passage      a session: its flow, its sending end, its wires, and the cycles of its tables
+--   Fabric      a chip and the passages over it
+--   flow_at, server_at      the flow of a session, and its private server
+--   IsPlace, has_slot      a wire of its path, and a slot of its own
+--   Owns, IsGoing      the cycles in which it has its queues, and in which it is in use
+--   IsSameQueue      two sessions whose sending ends are one queue
+-- Slot tables that are written while the network runs: after Æthereal (2005). This form of them: this
+-- project's own.
+use Rattle.std.specs.Prelude.{◌≡◌, ◌≤◌, ◌<◌, ℕ, Bool, List, Some, slice_get, ◌==◌}
+use Rattle.std.specs.List.{list_any}
+use Rattle.aeth_report.specs.Flows.{Flow}
+use Rattle.aeth_server.specs.PrivateServer.{PrivateServer}
+
+-- Where a wire starts or ends: at a router, at an interface, or at a stage, which goes by the number
+-- of the wire that it reads.
+pub data WireEnd : Type 0 where
+  AtRouter : (router : ℕ) → WireEnd
+  AtInterface : (interface : ℕ) → WireEnd
+  AtStage : (wire : ℕ) → WireEnd
+
+-- A session of a channel: its flow; the interface and the queue from which it sends; the wires that it
+-- goes over, each link followed by its further wires, so that a place is an offset; and how many
+-- routers a flit has passed by at each place.
+--
+-- The last five are numbers of cycles after whose halts, finishes and writes something holds: 0 for
+-- what is done before cycle 0, and e + 1 for what is done in cycle e. The queue is the session's from
+-- `since` on, where the session before it on that queue finished. Its route is set at `set` and cleared
+-- at `freed`, the entry of one of its slots is set at `slot_set` and cleared at `slot_freed`.
+pub record Passage : Type 0 where
+  pub flow : Flow
+  pub ni : ℕ
+  pub queue : ℕ
+  pub wires : List ℕ
+  pub hops : ℕ → ℕ
+  pub since : ℕ
+  pub set : ℕ
+  pub freed : ℕ
+  pub slot_set : ℕ → ℕ
+  pub slot_freed : ℕ → ℕ
+
+-- A chip: its table size, where each wire starts and ends, the port of a wire that leaves a router, the
+-- wires that enter each router in order, and the wires that leave and enter each interface. And the
+-- sessions by their numbers, with the number of the opposite channel's session.
+pub record Fabric : Type 0 where
+  pub size : ℕ
+  pub start : ℕ → WireEnd
+  pub end : ℕ → WireEnd
+  pub port : ℕ → ℕ
+  pub incoming : ℕ → List ℕ
+  pub leaving : ℕ → ℕ
+  pub entering : ℕ → ℕ
+  pub count : ℕ
+  pub passage : ℕ → Passage
+  pub opposite : ℕ → ℕ
+
+module _ (fabric : Fabric) where
+  -- The flow of a session.
+  abbrev pub flow_at : ℕ → Flow
+  flow_at c = (fabric.passage c).flow
+
+  -- Its private server.
+  abbrev pub server_at : ℕ → PrivateServer
+  server_at c = (flow_at c).server
+
+  -- A wire stands at a place of a session's path.
+  abbrev pub IsPlace : ℕ → ℕ → ℕ → Type 0
+  IsPlace c i l = slice_get (fabric.passage c).wires i ≡ Some l
+
+  -- Whether a slot is a session's own.
+  abbrev pub has_slot : ℕ → ℕ → Bool
+  has_slot c slot = list_any (λ own. slot == own) (server_at c).shape.slots
+
+  -- A session has its queues, after the halts, finishes and writes of t cycles.
+  pub record Owns (c t : ℕ) : Type 0 where
+    pub since : (fabric.passage c).since ≤ t
+    pub finish : t ≤ (server_at c).finish
+
+  -- A session is in use in cycle t.
+  pub record IsGoing (c t : ℕ) : Type 0 where
+    pub goes : (server_at c).go ≤ t
+    pub unfinished : t < (server_at c).finish
+
+  -- Two sessions send from one queue.
+  pub record IsSameQueue (d c : ℕ) : Type 0 where
+    pub ni : (fabric.passage d).ni ≡ (fabric.passage c).ni
+    pub queue : (fabric.passage d).queue ≡ (fabric.passage c).queue
