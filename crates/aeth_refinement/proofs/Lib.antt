@@ -9,3 +9,4 @@ pub mod Queues
 pub mod Faces
 pub mod Landing
 pub mod Step
+pub mod Switching
