@@ -10,3 +10,5 @@ pub mod Faces
 pub mod Landing
 pub mod Step
 pub mod Switching
+pub mod Whole
+pub mod Listed

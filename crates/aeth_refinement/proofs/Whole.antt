@@ -1,0 +1,141 @@
+-- Whole runs, by induction on the cycle.
+use Rattle.std.proofs.Common.{◌≡◌, ◌≤◌, ◌<◌, ◌∙◌, ℕ, zero, suc, ◌+◌, ◌-◌, List, length, Option, Some, refl}
+use Rattle.std.proofs.Common.{sym, ap, subst, arith}
+use Rattle.aeth_clocked.specs.declared.flit.Flit.{Flit}
+use Rattle.aeth_server.specs.PrivateServer.{landed, returned, sent, taken}
+use Rattle.aeth_server.proofs.PrivateServerLemmas.{counts-none}
+use Rattle.aeth_refinement.specs.Accepted.{IsAccepted}
+use Rattle.aeth_refinement.specs.Carried.{Exact, IsPassed, words_from}
+use Rattle.aeth_refinement.specs.Changes.{Cycle, Switched}
+use Rattle.aeth_refinement.specs.Components.{Net, driven, queue_of}
+use Rattle.aeth_refinement.specs.Fabric.{AtRouter, Fabric, Owns, flow_at, server_at}
+use Rattle.aeth_refinement.specs.Runs.{Begins, Run}
+use Rattle.aeth_refinement.specs.Standing.{Stands}
+use Rattle.aeth_refinement.proofs.Counts.{returned-sent, room-next}
+use Rattle.aeth_refinement.proofs.Faces.{wires-exact}
+use Rattle.aeth_refinement.proofs.Owning.{exact-same, received-length}
+use Rattle.aeth_refinement.proofs.Ready.{enough, ready}
+use Rattle.aeth_refinement.proofs.Step.{stands-next}
+use Rattle.aeth_refinement.proofs.Switching.{switched}
+use Rattle.aeth_refinement.proofs.Unique.{known-back, paths-of}
+use Rattle.aeth_refinement.proofs.Words.{same_words}
+
+module _ (fabric : Fabric) (ok : IsAccepted fabric) where
+  -- What one cycle leads to.
+  pub record IsStep (t : ℕ) (wires : ℕ → Option Flit) (new : Net) : Type 0 where
+    pub exact : Exact fabric t wires
+    pub stands : Stands fabric (suc t) (suc t) new
+
+  -- One cycle leads from the private servers' counts before it to those after it, and its wires are what
+  -- they say.
+  pub step : (t : ℕ) (old new : Net) (wires : ℕ → Option Flit) → Stands fabric t t old
+      → Cycle fabric t old wires new → IsStep t wires new
+  step t old new wires at cycle =
+      let next : t + 1 ≡ suc t = omega arith in
+      let change = subst (λ n. Switched fabric n old cycle.tables) next cycle.switched in
+      let tables = switched fabric ok t old cycle.tables at change in
+      let stands = ready fabric ok t cycle.tables cycle.ready tables cycle.refilled in
+      let some = enough fabric ok t cycle.tables cycle.ready tables cycle.refilled in
+      let exact = exact-same fabric t (driven fabric cycle.ready t) wires cycle.drives
+      (wires-exact fabric ok t cycle.ready stands some) in
+      record {
+        exact = exact;
+        stands = stands-next fabric ok t cycle.ready cycle.drained new wires stands some cycle.took
+            exact cycle.latched;
+      }
+
+  -- Nothing has landed by the end of cycle 0, and nothing has returned.
+  landed-first : (c : ℕ) → c < fabric.count → landed (server_at fabric c) 1 ≡ 0
+  landed-first c h =
+      let server = server_at fabric c in
+      let paths = paths-of fabric ok c h in
+      let some = paths.path in
+      let first : 1 - server.shape.path_delay ≡ 0 = omega (arith, some) in
+      ap (sent server) first ∙ (counts-none server).sent
+
+  returned-first : (c : ℕ) → c < fabric.count → returned (server_at fabric c) 1 ≡ 0
+  returned-first c h =
+      let server = server_at fabric c in
+      let few = returned-sent server (paths-of fabric ok c h) 0 in
+      omega (arith, few, (counts-none server).sent)
+
+  -- Before cycle 0 all counts are 0, and so stand the components.
+  pub begun : (net : Net) → Begins fabric net → Stands fabric 0 0 net
+  begun net begins =
+      record {
+        entry_only = λ n x queue is.
+            let now = begins.entry_only n x queue is in
+            let order = (ok.ordered now.number now.at.known).slot_lasts x now.at.uses in
+            let falls = now.falls in
+            record {
+              number = now.number;
+              at = now.at;
+              queue_is = now.queue_is;
+              has = record {
+                uses = now.at.uses;
+                set = omega (arith, falls);
+                freed = omega (arith, falls, order);
+              };
+            };
+        entry_all = λ c x h has.
+            let set = has.set in
+            begins.entry_all (fabric.passage c).ni x c
+            (record { known = h; uses = has.uses; ni = refl }) (omega (arith, set));
+        route = λ c h run. let set = run.set in begins.route c h (omega (arith, set));
+        running = λ c h run. begins.halted c h;
+        halted = λ c h stop freed. absurd (omega (arith, stop));
+        unhanded = λ c h soon. begins.handed c h;
+        handed_low = λ c h own. omega (arith, (counts-none (server_at fabric c)).sent);
+        handed_high = λ c h own. omega (arith, begins.handed c h);
+        handed_arrived = λ c h own. omega (arith, begins.handed c h);
+        waiting = λ c h own.
+            let gone = sent (server_at fabric c) 0 in
+            begins.waiting c h
+            ∙ same_words (flow_at fabric c).values gone 0 gone (net.handed c - gone) refl
+            (omega (arith, begins.handed c h));
+        received = λ c h own.
+            let d = fabric.opposite c in
+            let g = known-back fabric ok c h in
+            let server = server_at fabric d in
+            let gone = taken server 0 in
+            begins.received c h
+            ∙ same_words (flow_at fabric d).values gone 0 gone (landed server 1 - gone) refl
+            (omega (arith, landed-first d g));
+        counter = λ c h has.
+            let set = has.set in
+            let counter = begins.counter c h (omega (arith, set)) in
+            omega (arith, counter, (counts-none (server_at fabric c)).sent, returned-first c h);
+        owed = λ c h own.
+            let none = counts-none (server_at fabric (fabric.opposite c)) in
+            omega (arith, begins.owed c h, none.taken, none.credited);
+        room = begins.room;
+        held = λ v is. absurd (omega (arith, is));
+        held_none = λ is. begins.held;
+      }
+
+  module _ (nets : ℕ → Net) (wires : ℕ → ℕ → Option Flit) (run : Run fabric nets wires) where
+    -- A cycle of the run.
+    cycle-at : (t : ℕ) → Cycle fabric t (nets t) (wires t) (nets (suc t))
+    cycle-at t =
+        let next : t + 1 ≡ suc t = omega arith in
+        subst (λ n. Cycle fabric t (nets t) (wires t) (nets n)) next (run.goes t)
+
+    -- Before each cycle the components stand as the private servers say.
+    pub always : (t : ℕ) → Stands fabric t t (nets t)
+    always zero = begun (nets 0) run.begins
+    always (suc t) = (step t (nets t) (nets (suc t)) (wires t) (always t) (cycle-at t)).stands
+
+    -- The wires of each cycle are what they say.
+    pub exact : (t : ℕ) → Exact fabric t (wires t)
+    exact t = (step t (nets t) (nets (suc t)) (wires t) (always t) (cycle-at t)).exact
+
+  module _ (t : ℕ) (net : Net) (at : Stands fabric t t net) where
+    -- What a receive queue holds has landed and wasn't taken, and is no more than the buffer.
+    pub within-buffer : (c : ℕ) → c < fabric.count → Owns fabric c t
+        → length (queue_of fabric net c).received
+        ≤ (server_at fabric (fabric.opposite c)).buffer
+    within-buffer c h own =
+        let d = fabric.opposite c in
+        let some = received-length fabric ok t t net at c h own in
+        let room = room-next (server_at fabric d) (paths-of fabric ok d (known-back fabric ok c h)) t in
+        omega (arith, some, room)
