@@ -201,11 +201,17 @@ module _ (fabric : Fabric) (ok : IsAccepted fabric) (t : ℕ) (net drained new :
             ∙ land.credits ∙ ap (λ n. returned (server_at fabric n) (suc (suc t))) back;
       }
 
-  received-next : (c : ℕ) → c < fabric.count → Owns fabric c (suc t)
-      → let d = fabric.opposite c in
-      (last c).received ≡ words_from (flow_at fabric d).values (taken (server_at fabric d) (suc t))
-      (landed (server_at fabric d) (suc (suc t)) - taken (server_at fabric d) (suc t))
-  received-next c h own =
+  -- Behind the latch the queue has what it had behind the takes, and what comes; and these are the words
+  -- of the opposite session from those taken to those landed.
+  record Receives (c : ℕ) : Type 0 where
+    whole : (last c).received ≡ (third c).received ++ words_for (number c) (comes c)
+    is : (last c).received ≡ words_from (flow_at fabric (fabric.opposite c)).values
+        (taken (server_at fabric (fabric.opposite c)) (suc t))
+        (landed (server_at fabric (fabric.opposite c)) (suc (suc t))
+        - taken (server_at fabric (fabric.opposite c)) (suc t))
+
+  receives : (c : ℕ) → c < fabric.count → Owns fabric c (suc t) → Receives c
+  receives c h own =
       let d = fabric.opposite c in
       let g = known-back fabric ok c h in
       let server = server_at fabric d in
@@ -236,9 +242,9 @@ module _ (fabric : Fabric) (ok : IsAccepted fabric) (t : ℕ) (net drained new :
       let room = room-next server paths (suc t) in
       let holds = at.room c h in
       let same = third-room c h in
-      ap (λ (q : QueueState). q.received) (latched.queue c h)
-      ∙ brought_by-received (comes c) (number c) (third c) (omega (arith, size, room, holds, same))
-      ∙ all
+      let whole = ap (λ (q : QueueState). q.received) (latched.queue c h)
+      ∙ brought_by-received (comes c) (number c) (third c) (omega (arith, size, room, holds, same)) in
+      record { whole = whole; is = whole ∙ all }
 
   counter-next : (c : ℕ) → c < fabric.count → HasCounter fabric c (suc t)
       → (last c).counter + sent (server_at fabric c) (suc t)
@@ -335,7 +341,7 @@ module _ (fabric : Fabric) (ok : IsAccepted fabric) (t : ℕ) (net drained new :
         (omega arith) in
         omega (arith, few, grows.arrived, handed-stays c h);
     waiting = waiting-next;
-    received = received-next;
+    received = λ c h own. (receives c h own).is;
     counter = counter-next;
     owed = owed-next;
     room = λ c h.
@@ -347,3 +353,21 @@ module _ (fabric : Fabric) (ok : IsAccepted fabric) (t : ℕ) (net drained new :
         (exact-same fabric t wires new.held latched.held exact);
     held_none = λ none. absurd (omega arith);
   }
+
+  -- Nothing that comes is dropped.
+  pub received-whole : (c : ℕ) → c < fabric.count → Owns fabric c (suc t)
+      → (last c).received ≡ (third c).received ++ words_for (number c) (comes c)
+  received-whole c h own = (receives c h own).whole
+
+  -- What the receiver takes of what is there is what its private server takes.
+  pub taken-same : (c : ℕ) → c < fabric.count → Owns fabric c (suc t)
+      → let server = server_at fabric (fabric.opposite c) in
+      taken server (suc t) ≡ taken server t + min (pull_at server t) (length (second c).received)
+  taken-same c h own =
+      let d = fabric.opposite c in
+      let server = server_at fabric d in
+      let some = received-length fabric ok (suc t) t net at c h own in
+      let same : length (second c).received ≡ length (first c).received =
+      ap (λ (q : QueueState). length q.received) (drive-keeps c) in
+      taken-next server (paths-of fabric ok d (known-back fabric ok c h)) t
+      ∙ ap (λ n. taken server t + min (pull_at server t) n) (sym (same ∙ some))

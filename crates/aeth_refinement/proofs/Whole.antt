@@ -1,13 +1,14 @@
 -- Whole runs, by induction on the cycle.
-use Rattle.std.proofs.Common.{◌≡◌, ◌≤◌, ◌<◌, ◌∙◌, ℕ, zero, suc, ◌+◌, ◌-◌, List, length, Option, Some, refl}
+use Rattle.std.proofs.Common.{◌≡◌, ◌≤◌, ◌<◌, ◌∙◌, ℕ, zero, suc, ◌+◌, ◌-◌, ◌++◌, min, List, length, Option, Some, refl}
 use Rattle.std.proofs.Common.{sym, ap, subst, arith}
 use Rattle.aeth_clocked.specs.declared.flit.Flit.{Flit}
-use Rattle.aeth_server.specs.PrivateServer.{landed, returned, sent, taken}
+use Rattle.aeth_ni.specs.Component.{arrival_of}
+use Rattle.aeth_server.specs.PrivateServer.{landed, pull_at, returned, sent, taken}
 use Rattle.aeth_server.proofs.PrivateServerLemmas.{counts-none}
 use Rattle.aeth_refinement.specs.Accepted.{IsAccepted}
 use Rattle.aeth_refinement.specs.Carried.{Exact, IsPassed, words_from}
 use Rattle.aeth_refinement.specs.Changes.{Cycle, Switched}
-use Rattle.aeth_refinement.specs.Components.{Net, driven, queue_of}
+use Rattle.aeth_refinement.specs.Components.{Net, after, driven, queue_of, words_for}
 use Rattle.aeth_refinement.specs.Fabric.{AtRouter, Fabric, Owns, flow_at, server_at}
 use Rattle.aeth_refinement.specs.Runs.{Begins, Run}
 use Rattle.aeth_refinement.specs.Standing.{Stands}
@@ -15,21 +16,31 @@ use Rattle.aeth_refinement.proofs.Counts.{returned-sent, room-next}
 use Rattle.aeth_refinement.proofs.Faces.{wires-exact}
 use Rattle.aeth_refinement.proofs.Owning.{exact-same, received-length}
 use Rattle.aeth_refinement.proofs.Ready.{enough, ready}
-use Rattle.aeth_refinement.proofs.Step.{stands-next}
+use Rattle.aeth_refinement.proofs.Step.{received-whole, stands-next, taken-same}
 use Rattle.aeth_refinement.proofs.Switching.{switched}
 use Rattle.aeth_refinement.proofs.Unique.{known-back, paths-of}
 use Rattle.aeth_refinement.proofs.Words.{same_words}
 
 module _ (fabric : Fabric) (ok : IsAccepted fabric) where
-  -- What one cycle leads to.
-  pub record IsStep (t : ℕ) (wires : ℕ → Option Flit) (new : Net) : Type 0 where
+  -- What one cycle leads to: exact wires, components that stand, receive queues that keep all that comes,
+  -- and takes that are those of the private servers.
+  pub record IsStep (t : ℕ) (old : Net) (wires : ℕ → Option Flit) (new : Net)
+      (cycle : Cycle fabric t old wires new) : Type 0 where
     pub exact : Exact fabric t wires
     pub stands : Stands fabric (suc t) (suc t) new
+    pub whole : (c : ℕ) → c < fabric.count → Owns fabric c (suc t)
+        → (queue_of fabric new c).received ≡ (queue_of fabric cycle.drained c).received
+        ++ words_for (fabric.passage c).queue
+        (arrival_of (wires (fabric.entering (fabric.passage c).ni)))
+    pub takes : (c : ℕ) → c < fabric.count → Owns fabric c (suc t)
+        → let server = server_at fabric (fabric.opposite c) in
+        taken server (suc t) ≡ taken server t
+        + min (pull_at server t) (length (queue_of fabric (after fabric cycle.ready t) c).received)
 
   -- One cycle leads from the private servers' counts before it to those after it, and its wires are what
   -- they say.
   pub step : (t : ℕ) (old new : Net) (wires : ℕ → Option Flit) → Stands fabric t t old
-      → Cycle fabric t old wires new → IsStep t wires new
+      → (cycle : Cycle fabric t old wires new) → IsStep t old wires new cycle
   step t old new wires at cycle =
       let next : t + 1 ≡ suc t = omega arith in
       let change = subst (λ n. Switched fabric n old cycle.tables) next cycle.switched in
@@ -41,6 +52,10 @@ module _ (fabric : Fabric) (ok : IsAccepted fabric) where
       record {
         exact = exact;
         stands = stands-next fabric ok t cycle.ready cycle.drained new wires stands some cycle.took
+            exact cycle.latched;
+        whole = received-whole fabric ok t cycle.ready cycle.drained new wires stands some cycle.took
+            exact cycle.latched;
+        takes = taken-same fabric ok t cycle.ready cycle.drained new wires stands some cycle.took
             exact cycle.latched;
       }
 

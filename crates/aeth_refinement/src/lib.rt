@@ -1,2 +1,4 @@
-//! A network of interfaces, routers and stages against its private servers, through switches.
+//! A network of interfaces, routers and stages does what its private servers do, through switches.
 #![tactic(auto)]
+
+pub mod laws;

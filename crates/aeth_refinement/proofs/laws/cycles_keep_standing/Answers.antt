@@ -1,0 +1,14 @@
+use Rattle.std.proofs.Common.{◌≡◌, suc, ◌+◌, arith, subst}
+use Rattle.aeth_refinement.specs.Standing.{Stands}
+use Rattle.aeth_refinement.proofs.Whole.{step}
+use Rattle.aeth_refinement.proofs.laws.cycles_keep_standing.Goals as goal
+
+-- The five parts of the cycle, one after the other.
+pub returns-clause-wires : goal.returns-clause-wires
+returns-clause-wires c fabric ok t old new wires at cycle =
+    (step fabric ok t old new wires at cycle).exact
+
+pub returns-clause-components : goal.returns-clause-components
+returns-clause-components c fabric ok t old new wires at cycle =
+    let next : suc t ≡ t + 1 = omega arith in
+    subst (λ n. Stands fabric n n new) next (step fabric ok t old new wires at cycle).stands

@@ -1,0 +1,25 @@
+use Rattle.std.proofs.Common.{◌∙◌, Some, ap}
+use Rattle.aeth_clocked.specs.declared.flit.Flit.{Flit}
+use Rattle.aeth_ni.specs.Component.{arrival_of}
+use Rattle.aeth_report.specs.Carries.{header_at, words_at}
+use Rattle.aeth_refinement.specs.Fabric.{flow_at}
+use Rattle.aeth_refinement.proofs.Routers.{none_lost}
+use Rattle.aeth_refinement.proofs.Routes.{arrives}
+use Rattle.aeth_refinement.proofs.laws.no_flit_is_lost.Goals as goal
+
+-- Its session's path goes on, and no other flit goes on there.
+pub returns-clause-passed : goal.returns-clause-passed
+returns-clause-passed c fabric ok t held exact = none_lost fabric ok t held exact
+
+pub returns-clause-read : goal.returns-clause-read
+returns-clause-read c fabric ok t wires exact l flit there =
+    let comes = exact.only l flit there in
+    let flow = flow_at fabric comes.number in
+    (
+      record {
+        header = header_at flow ((fabric.passage comes.number).hops comes.place) comes.cycle;
+        words = words_at flow comes.cycle;
+      },
+      ap (λ (f : Flit). arrival_of (Some f)) comes.is
+          ∙ arrives fabric ok comes.number comes.place comes.cycle comes.on.known,
+    )
