@@ -1,10 +1,10 @@
 -- Laws of the counts of private servers, as the network needs them.
-use Rattle.std.proofs.Common.{◌≡◌, ◌≤◌, ◌<◌, ◌∙◌, ℕ, zero, suc, ◌+◌, ◌-◌, ◌&&◌, min, Bool, true, false}
-use Rattle.std.proofs.Common.{cond, ltb, List, [], ◌∷◌, length, sym, ap, arith}
+use Rattle.std.proofs.Common.{◌≡◌, ◌≤◌, ◌<◌, ◌∙◌, ℕ, suc, ◌+◌, ◌-◌, ◌&&◌, Bool, true, false}
+use Rattle.std.proofs.Common.{cond, ltb, List, [], ◌∷◌, length, ap, arith}
 use Rattle.std.specs.Prelude.{filter, nat_lt}
 use Rattle.std.proofs.lemmas.Bool.{lt-ltb}
 use Rattle.aeth_server.specs.PrivateServer.{PrivateServer, accepted, arrived, credited, landed}
-use Rattle.aeth_server.specs.PrivateServer.{pull_at, returned, sent, taken}
+use Rattle.aeth_server.specs.PrivateServer.{returned, sent, taken}
 use Rattle.aeth_server.specs.Shape.{HasPaths}
 use Rattle.aeth_server.specs.SlotCycles.{is_slot}
 use Rattle.aeth_server.proofs.PrivateServerLemmas.{credited-more, credited-next, credits_ready}
@@ -41,7 +41,8 @@ module _ (server : PrivateServer) (paths : HasPaths server.shape) where
   credited-slot t early slot =
       credited-next server paths t
       ∙ ap (λ (b : Bool). credited server t
-      + cond (b && is_slot server.shape.size server.shape.back_slots t) (credits_ready server paths t) 0)
+      + cond (b && is_slot server.shape.size server.shape.back_slots t)
+      (credits_ready server paths t) 0)
       (lt-ltb t server.stop early)
       ∙ ap (λ (b : Bool). credited server t + cond b (credits_ready server paths t) 0) slot
 
@@ -82,5 +83,6 @@ module _ (server : PrivateServer) (paths : HasPaths server.shape) where
   returned-sent t =
       let order = in-order server paths t in
       let some = paths.back_path in
-      let less = credited-more server paths (suc t - server.shape.back_path_delay) t (omega arith) in
+      let less =
+      credited-more server paths (suc t - server.shape.back_path_delay) t (omega arith) in
       omega (arith, order.credits, order.takes, order.lands, less)

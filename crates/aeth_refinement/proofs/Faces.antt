@@ -1,34 +1,33 @@
 -- Interfaces emit the flits of the sessions that begin there, and nothing else.
-use Rattle.std.proofs.Common.{◌≡◌, ◌≤◌, ◌<◌, ◌∙◌, ◌⊎◌, ℕ, zero, suc, ◌+◌, ◌-◌, ◌*◌, ◌/◌, ◌%◌, ◌^◌, min, Bool}
-use Rattle.std.proofs.Common.{true, false, cond, List, length, take, drop, map, Option, Some, None, refl}
+use Rattle.std.proofs.Common.{◌≡◌, ◌≤◌, ◌<◌, ◌∙◌, ◌⊎◌, ℕ, zero, suc, ◌+◌, ◌-◌, ◌*◌, ◌/◌, ◌%◌, ◌^◌}
+use Rattle.std.proofs.Common.{min, Bool}
+use Rattle.std.proofs.Common.{true, cond, List, length, take, map, Option, Some, None, refl}
 use Rattle.std.proofs.Common.{sym, ap, subst, arith, inl, inr}
 use Rattle.std.proofs.lemmas.Bool.{cases_Bool, cases_lt, both_ways, eqb-true, eq-eqb}
 use Rattle.std.proofs.lemmas.Option.{same_Some}
-use Rattle.std.specs.Prelude.{slice_index, ◌==◌}
-use Rattle.aeth_base.specs.Limits.{credits_per_flit, words_per_flit}
+use Rattle.std.specs.Prelude.{slice_index}
+use Rattle.aeth_base.specs.Limits.{words_per_flit}
 use Rattle.aeth_clocked.specs.declared.flit.Flit.{Flit}
 use Rattle.aeth_header.specs.Header.{word_of}
 use Rattle.aeth_header.specs.Layout.{port_bits}
-use Rattle.aeth_header.specs.declared.header.Header.{Header}
 use Rattle.aeth_ni.specs.Queue.{QueueState}
 use Rattle.aeth_ni.specs.Sending.{credits_sent, emitted, next_flit, words_sent, flit_sent}
 use Rattle.aeth_ni.specs.declared.queue.Route.{Route}
 use Rattle.aeth_report.specs.Carries.{flit_at, returns, sends, words_at}
-use Rattle.aeth_report.specs.Flows.{Flow}
 use Rattle.aeth_router.specs.Ports.{flits_for, sole}
-use Rattle.aeth_server.specs.PrivateServer.{PrivateServer, arrived, credited, returned, sent, taken}
+use Rattle.aeth_server.specs.PrivateServer.{arrived, returned, sent}
 use Rattle.aeth_server.proofs.PrivateServerLemmas.{words_ready}
 use Rattle.aeth_server.proofs.SessionEnds.{idle-before}
-use Rattle.aeth_refinement.specs.Accepted.{HasEntry, IsAccepted}
-use Rattle.aeth_refinement.specs.Carried.{Comes, Exact, IsOnWire, flit_of, words_from}
-use Rattle.aeth_refinement.specs.Changes.{route_of}
-use Rattle.aeth_refinement.specs.Components.{Net, after, driven, emit, emitted_by, is_entry, queue_of}
-use Rattle.aeth_refinement.specs.Components.{sent_from}
-use Rattle.aeth_refinement.specs.Fabric.{AtInterface, AtRouter, AtStage, Fabric, IsPlace, IsSameQueue}
+use Rattle.aeth_refinement.specs.Accepted.{IsAccepted}
+use Rattle.aeth_refinement.specs.Carried.{Comes, Exact, IsOnWire, flit_of}
+use Rattle.aeth_refinement.specs.Switches.{route_of}
+use Rattle.aeth_refinement.specs.Components.{Net, after, driven, emit, emitted_by, is_entry}
+use Rattle.aeth_refinement.specs.Components.{queue_of}
+use Rattle.aeth_refinement.specs.Fabric.{AtInterface, AtRouter, AtStage, Fabric}
 use Rattle.aeth_refinement.specs.Fabric.{Owns, WireEnd, flow_at, has_slot, server_at}
 use Rattle.aeth_refinement.specs.Standing.{HasCounter, IsRunning, Stands}
 use Rattle.aeth_refinement.proofs.Counts.{credited-slot, sent-slot}
-use Rattle.aeth_refinement.proofs.Owning.{owns-back, owns-running, waiting-length}
+use Rattle.aeth_refinement.proofs.Owning.{owns-running, waiting-length}
 use Rattle.aeth_refinement.proofs.Queues.{emitted-parts, emitted-some, flit_sent-behind}
 use Rattle.aeth_refinement.proofs.Queues.{flit_sent-halted, without, without-none}
 use Rattle.aeth_refinement.proofs.Ready.{Enough}
@@ -38,7 +37,8 @@ use Rattle.aeth_router.proofs.PortLemmas.{Alone-from_sole}
 use Rattle.aeth_refinement.proofs.Routers.{not_both, not_end, place_before, router_all, router_only}
 use Rattle.aeth_refinement.proofs.Routers.{same_interface, stage_all, stage_only, starts_at}
 use Rattle.aeth_refinement.proofs.Unique.{back_slot-is, early, in-slot, injects-some, known-back}
-use Rattle.aeth_refinement.proofs.Unique.{paths-of, returns-step, sends-step, slot-is, some-injected}
+use Rattle.aeth_refinement.proofs.Unique.{paths-of, returns-step, sends-step, slot-is}
+use Rattle.aeth_refinement.proofs.Unique.{some-injected}
 
 -- An entry that names a queue is that queue's.
 named-entry : (entry : Option ℕ) (queue : ℕ) → is_entry entry queue ≡ true → entry ≡ Some queue
@@ -98,7 +98,9 @@ module _ (fabric : Fabric) (ok : IsAccepted fabric) (t : ℕ) (net : Net)
             (arrived server (suc t) - gone) queue.counter
             (server.buffer + returned server (suc t) - gone) some count
             (enough c queue.counter h own) in
-            least ∙ difference gone (sent server (suc t)) (words_ready server paths t) went ∙ sym step
+            least
+            ∙ difference gone (sent server (suc t)) (words_ready server paths t) went
+            ∙ sym step
       ]
 
   -- And the credits that it gives back.
@@ -227,7 +229,8 @@ module _ (fabric : Fabric) (ok : IsAccepted fabric) (t : ℕ) (net : Net)
           known = runs.known;
           place = path.at ∙ ap (λ m. Some m) first;
           time = omega arith;
-          injected = injects-some fabric ok c t runs.known (omega (arith, parts.some, words, credits));
+          injected = injects-some fabric ok c t runs.known
+              (omega (arith, parts.some, words, credits));
         };
         is = sym parts.is ∙ ap (λ (r : Route). next_flit (queue_of fabric net c) r) route
             ∙ flit-sent c runs.known runs.uses runs.run;
@@ -305,7 +308,8 @@ module _ (fabric : Fabric) (ok : IsAccepted fabric) (t : ℕ) (net : Net)
   -- What a session's queue is behind the drive: without what its private server sends and returns.
   pub record Leaves (c : ℕ) : Type 0 where
     pub is : queue_of fabric (after fabric net t) c
-        ≡ without (sends (flow_at fabric c) t) (returns (flow_at fabric c) t) (queue_of fabric net c)
+        ≡ without (sends (flow_at fabric c) t) (returns (flow_at fabric c) t)
+        (queue_of fabric net c)
     pub words : sends (flow_at fabric c) t ≤ net.handed c - sent (server_at fabric c) t
     pub counter : sends (flow_at fabric c) t ≤ (queue_of fabric net c).counter
     pub credits : returns (flow_at fabric c) t ≤ (queue_of fabric net c).owed
@@ -351,8 +355,8 @@ module _ (fabric : Fabric) (ok : IsAccepted fabric) (t : ℕ) (net : Net)
         credits = omega (arith, credits);
       }
 
-  -- A session's queue is let go in its slots, between its write and its stop; else its private server
-  -- rests.
+  -- A session's queue is let go in its slots, between its write and its stop; else its private
+  -- server rests.
   pub leaves : (c : ℕ) → c < fabric.count → Owns fabric c (suc t) → Leaves c
   leaves c h own =
       let ni = (fabric.passage c).ni in
@@ -387,7 +391,8 @@ module _ (fabric : Fabric) (ok : IsAccepted fabric) (t : ℕ) (net : Net)
       → Comes fabric l t flit
   port_only zero now l r flit start is =
       let alone = Alone-from_sole (fabric.port l) (map net.held (fabric.incoming r)) flit is in
-      let from = mapped_at net.held (fabric.incoming r) alone.place (Some alone.flit) alone.names.at in
+      let from = mapped_at net.held (fabric.incoming r) alone.place (Some alone.flit)
+      alone.names.at in
       let none : None ≡ Some alone.flit = sym (at.held_none (sym now) from.0) ∙ from.2 in
       absurd cc
   port_only (suc v) now l r flit start is =

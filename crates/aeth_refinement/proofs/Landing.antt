@@ -1,5 +1,5 @@
 -- What the wires of a cycle bring to the queue at which a session lands.
-use Rattle.std.proofs.Common.{◌≡◌, ◌≤◌, ◌<◌, ◌∙◌, ℕ, suc, ◌+◌, ◌-◌, Bool, cond, List, [], length, Option}
+use Rattle.std.proofs.Common.{◌≡◌, ◌≤◌, ◌<◌, ◌∙◌, ℕ, suc, ◌+◌, ◌-◌, Bool, cond, [], length, Option}
 use Rattle.std.proofs.Common.{Some, None, true, refl, sym, ap, subst, arith, inl, inr}
 use Rattle.std.proofs.lemmas.Bool.{cases_Bool, cases_lt, eqb-false, eqb-true}
 use Rattle.std.proofs.lemmas.Option.{slice_get_within}
@@ -7,7 +7,7 @@ use Rattle.std.specs.Prelude.{◌==◌}
 use Rattle.aeth_clocked.specs.declared.flit.Flit.{Flit}
 use Rattle.aeth_ni.specs.Component.{Arrival, arrival_of}
 use Rattle.aeth_report.specs.Carries.{header_at, returns, sends, words_at}
-use Rattle.aeth_server.specs.PrivateServer.{PrivateServer, credited, landed, returned, sent}
+use Rattle.aeth_server.specs.PrivateServer.{credited, landed, returned, sent}
 use Rattle.aeth_server.proofs.PrivateServerLemmas.{credited-more, sent-more}
 use Rattle.aeth_refinement.specs.Accepted.{IsAccepted}
 use Rattle.aeth_refinement.specs.Carried.{Comes, Exact, IsOnWire, flit_of, words_from}
@@ -108,8 +108,7 @@ module _ (fabric : Fabric) (ok : IsAccepted fabric) where
               let words = sent-more own (paths-of fabric ok c h) u (suc u) (omega arith) in
               let credits = credited-more back
               (paths-of fabric ok (fabric.opposite c) (known-back fabric ok c h)) u (suc u)
-              (omega arith) in
-              (
+              (omega arith) in (
                 ap (λ k. sent own k) next ∙ omega (arith, nothing, one, words),
                 ap (λ k. credited back k) next ∙ omega (arith, nothing, two, credits),
               )
@@ -120,7 +119,8 @@ module _ (fabric : Fabric) (ok : IsAccepted fabric) where
         returned-at c (suc (suc t)) h ∙ same.1 ∙ sym (returned-at c (suc t) h) in
         record {
           words = no_words ∙ same_words (flow_at fabric c).values (landed own (suc t)) 0
-              (landed own (suc t)) (landed own (suc (suc t)) - landed own (suc t)) refl (omega (arith, now));
+              (landed own (suc t)) (landed own (suc (suc t)) - landed own (suc t)) refl
+              (omega (arith, now));
           grows = omega (arith, now);
           credits = omega (arith, no_credits, returned_now);
         }
@@ -165,7 +165,8 @@ module _ (fabric : Fabric) (ok : IsAccepted fabric) where
         let two = returns-step fabric ok c u h in
         let words = sent-more own (paths-of fabric ok c h) u (suc u) (omega arith) in
         let credits = credited-more back
-        (paths-of fabric ok (fabric.opposite c) (known-back fabric ok c h)) u (suc u) (omega arith) in
+        (paths-of fabric ok (fabric.opposite c) (known-back fabric ok c h)) u (suc u)
+        (omega arith) in
         let brings : credits_for (end_queue c) (comes_at c) ≡ returns flow u =
         ap (λ (a : Option Arrival). credits_for (end_queue c) a) comes
         ∙ ap (λ (b : Bool). cond b (returns flow u) 0) is in
@@ -194,16 +195,18 @@ module _ (fabric : Fabric) (ok : IsAccepted fabric) where
           | inl more ↦ absurd (
               let m = place_at (fabric.passage d).wires (suc i) more in
               elim ((ok.path d on.known).inner i (end_wire c) m.0 on.place m.1) [
-                | inl place ↦ not_both place.router (end_ni c) (fabric.end (end_wire c)) place.ends here.1
-                | inr place ↦ not_end (end_ni c) (end_wire c) (fabric.end (end_wire c)) here.1 place.ends
+                | inl place ↦ not_both place.router (end_ni c) (fabric.end (end_wire c))
+                    place.ends here.1
+                | inr place ↦ not_end (end_ni c) (end_wire c) (fabric.end (end_wire c)) here.1
+                    place.ends
               ])
           | inr none ↦ omega arith
         ] in
-        let ni : end_ni d ≡ end_ni c = same_interface (end_ni d) (end_ni c) (fabric.end (end_wire c))
+        let ni : end_ni d ≡ end_ni c =
+        same_interface (end_ni d) (end_ni c) (fabric.end (end_wire c))
         ((ok.path d on.known).last i (end_wire c) on.place last) here.1 in
         let queue : end_queue d ≡ end_queue c = sym (ok.answered d on.known).remote ∙ named in
-        let going = live fabric ok (end_wire c) t d i comes.cycle on in
-        (
+        let going = live fabric ok (end_wire c) t d i comes.cycle on in (
           one_receiver d c (suc t) on.known h (owns-going fabric ok d t on.known going) own
               (record { ni = ni; queue = queue }),
           last,

@@ -1,7 +1,9 @@
 -- The wires have the one member of `carries`, or nothing where it is empty.
-use Rattle.std.proofs.Common.{◌≡◌, ◌≢◌, ◌<◌, ◌≤◌, ◌∙◌, ℕ, zero, suc, ◌+◌, ◌-◌, ◌&&◌, Bool, true, cond, List, [], ◌∷◌}
+use Rattle.std.proofs.Common.{◌≡◌, ◌<◌, ◌∙◌, ℕ, zero, suc, ◌+◌, ◌-◌, ◌&&◌, Bool, true, cond, List}
+use Rattle.std.proofs.Common.{[], ◌∷◌}
 use Rattle.std.proofs.Common.{Option, Some, None, slice_get, refl, sym, ap, subst, arith, inl, inr}
-use Rattle.std.proofs.lemmas.Bool.{cases_Bool, and_from, and_parts, eqb-true, eq-eqb, leb-true, le-leb}
+use Rattle.std.proofs.lemmas.Bool.{cases_Bool, and_from, and_parts, eqb-true, eq-eqb, leb-true}
+use Rattle.std.proofs.lemmas.Bool.{le-leb}
 use Rattle.std.specs.List.{enumerate_from, range_with_len}
 use Rattle.std.specs.Option.{option_to_list}
 use Rattle.std.specs.Prelude.{◌==◌, IsTrue, nat_le}
@@ -12,7 +14,7 @@ use Rattle.aeth_report.proofs.Places.{place-enumerate_from, range-place}
 use Rattle.aeth_refinement.specs.Accepted.{IsAccepted}
 use Rattle.aeth_refinement.specs.Carried.{Exact, IsOnWire, flit_of}
 use Rattle.aeth_refinement.specs.Carries.{carries, flits_at, flits_on, is_there}
-use Rattle.aeth_refinement.specs.Fabric.{Fabric, IsPlace, flow_at}
+use Rattle.aeth_refinement.specs.Fabric.{Fabric, flow_at}
 use Rattle.aeth_refinement.proofs.Unique.{one_flit}
 
 -- A number of a range stands at its place.

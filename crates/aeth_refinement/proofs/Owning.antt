@@ -1,9 +1,9 @@
 -- Which session has a queue, and how long what stands there is.
-use Rattle.std.proofs.Common.{◌≡◌, ◌≤◌, ◌<◌, ◌∙◌, ◌⊎◌, ℕ, suc, ◌+◌, ◌-◌, List, length, Option, Some, sym, ap}
+use Rattle.std.proofs.Common.{◌≡◌, ◌≤◌, ◌<◌, ◌∙◌, ◌⊎◌, ℕ, suc, ◌-◌, List, length, Option, sym, ap}
 use Rattle.std.proofs.Common.{arith, inl, inr}
 use Rattle.std.proofs.lemmas.Bool.{cases_lt}
 use Rattle.aeth_clocked.specs.declared.flit.Flit.{Flit}
-use Rattle.aeth_server.specs.PrivateServer.{arrived, landed, sent, taken}
+use Rattle.aeth_server.specs.PrivateServer.{landed, sent, taken}
 use Rattle.aeth_server.proofs.PrivateServerLemmas.{in-order}
 use Rattle.aeth_refinement.specs.Accepted.{IsAccepted}
 use Rattle.aeth_refinement.specs.Carried.{Exact}

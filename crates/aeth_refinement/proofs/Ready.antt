@@ -8,7 +8,7 @@ use Rattle.aeth_server.specs.PrivateServer.{arrived, sent}
 use Rattle.aeth_server.proofs.SessionEnds.{idle-before}
 use Rattle.aeth_refinement.specs.Accepted.{IsAccepted}
 use Rattle.aeth_refinement.specs.Carried.{words_from}
-use Rattle.aeth_refinement.specs.Changes.{Refilled, handing}
+use Rattle.aeth_refinement.specs.Cycle.{Refilled, handing}
 use Rattle.aeth_refinement.specs.Components.{Net, queue_of}
 use Rattle.aeth_refinement.specs.Fabric.{Fabric, IsGoing, Owns, flow_at, server_at}
 use Rattle.aeth_refinement.specs.Standing.{Stands}
@@ -16,8 +16,8 @@ use Rattle.aeth_refinement.proofs.Owning.{early-alone, exact-same, going-or-earl
 use Rattle.aeth_refinement.proofs.Unique.{paths-of}
 use Rattle.aeth_refinement.proofs.Words.{words_from-append}
 
--- The numbers of a refilling: `old` words handed before, of which `gone` were sent, `all` have arrived,
--- and `more` are handed now.
+-- The numbers of a refilling: `old` words handed before, of which `gone` were sent, `all` have
+-- arrived, and `more` are handed now.
 record IsRefill (gone old all more : ℕ) : Type 0 where
   low : gone ≤ old + more
   high : old + more ≤ gone + waiting_words
@@ -42,7 +42,8 @@ module _ (fabric : Fabric) (ok : IsAccepted fabric) (t : ℕ) where
       ≡ min words_per_flit
       (min (arrived (server_at fabric c) (suc t) - sent (server_at fabric c) t) x)
 
-  module _ (old new : Net) (at : Stands fabric (suc t) t old) (fill : Refilled fabric t old new) where
+  module _ (old new : Net) (at : Stands fabric (suc t) t old)
+      (fill : Refilled fabric t old new) where
     -- What holds of a session's source queue then.
     record IsReady (c : ℕ) : Type 0 where
       low : sent (server_at fabric c) t ≤ new.handed c
@@ -54,7 +55,8 @@ module _ (fabric : Fabric) (ok : IsAccepted fabric) (t : ℕ) where
           ≡ min words_per_flit
           (min (arrived (server_at fabric c) (suc t) - sent (server_at fabric c) t) x)
 
-    going-ready : (c : ℕ) → c < fabric.count → Owns fabric c (suc t) → IsGoing fabric c t → IsReady c
+    going-ready : (c : ℕ) → c < fabric.count → Owns fabric c (suc t) → IsGoing fabric c t
+        → IsReady c
     going-ready c h own going =
         let server = server_at fabric c in
         let values = (flow_at fabric c).values in
@@ -74,7 +76,8 @@ module _ (fabric : Fabric) (ok : IsAccepted fabric) (t : ℕ) where
           high = omega (arith, numbers.high, counts);
           few = omega (arith, numbers.few, counts);
           waiting = fill.fills c h going
-              ∙ ap (λ (ws : List ℕ). ws ++ words_from values (old.handed c) (handing fabric old t c))
+              ∙ ap
+              (λ (ws : List ℕ). ws ++ words_from values (old.handed c) (handing fabric old t c))
               (at.waiting c h own)
               ∙ words_from-append values gone (old.handed c - gone) (old.handed c)
               (handing fabric old t c) (new.handed c - gone) (omega arith) (omega arith);

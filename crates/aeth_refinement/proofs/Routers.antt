@@ -1,6 +1,6 @@
 -- Routers and stages emit the flits that are to go on there, and nothing else.
-use Rattle.std.proofs.Common.{◌≡◌, ◌<◌, ◌∙◌, ℕ, zero, suc, ◌+◌, List, length, get_or, map, Option, Some, None}
-use Rattle.std.proofs.Common.{slice_get, refl, sym, ap, subst, arith, inl, inr}
+use Rattle.std.proofs.Common.{◌≡◌, ◌<◌, ◌∙◌, ℕ, zero, suc, List, length, get_or, map, Option, Some}
+use Rattle.std.proofs.Common.{slice_get, sym, ap, subst, arith, inl, inr}
 use Rattle.std.proofs.lemmas.Bool.{cases_lt}
 use Rattle.std.proofs.lemmas.Option.{same_Some, slice_get-get_or, slice_get-map, slice_get_within}
 use Rattle.std.specs.Prelude.{option_map}
@@ -8,7 +8,7 @@ use Rattle.aeth_clocked.specs.declared.flit.Flit.{Flit}
 use Rattle.aeth_header.specs.Header.{port_of}
 use Rattle.aeth_report.proofs.SessionMeetings.{mapped_at}
 use Rattle.aeth_router.specs.Ports.{flits_for, hopped, sole}
-use Rattle.aeth_router.proofs.PortLemmas.{Alone, Alone-from_sole, Names, sole-from_Alone}
+use Rattle.aeth_router.proofs.PortLemmas.{Alone-from_sole, sole-from_Alone}
 use Rattle.aeth_refinement.specs.Accepted.{IsAccepted, IsRouterPlace, IsStagePlace}
 use Rattle.aeth_refinement.specs.Carried.{Comes, Exact, IsOnWire, IsPassed, flit_of}
 use Rattle.aeth_refinement.specs.Fabric.{AtInterface, AtRouter, AtStage, Fabric, IsPlace, WireEnd}
@@ -40,7 +40,8 @@ place_at xs i within = (get_or xs i 0, slice_get-get_or xs i 0 within)
 
 pub place_before : (xs : List ℕ) (i l : ℕ) → slice_get xs (suc i) ≡ Some l
     → (m : ℕ) × (slice_get xs i ≡ Some m)
-place_before xs i l at = let within = slice_get_within xs (suc i) l at in place_at xs i (omega arith)
+place_before xs i l at =
+    let within = slice_get_within xs (suc i) l at in place_at xs i (omega arith)
 
 -- A held flit at its place among those of a router.
 held_at : (held : ℕ → Option Flit) (ls : List ℕ) (k l : ℕ) (flit : Flit) → slice_get ls k ≡ Some l
@@ -68,8 +69,11 @@ module _ (fabric : Fabric) (ok : IsAccepted fabric) where
       → IsPlace fabric c (suc i) m → fabric.end l ≡ AtRouter r
       → IsRouterPlace fabric c i l m × (fabric.start m ≡ AtRouter r)
   to_router c i l m r h here next end = elim ((ok.path c h).inner i l m here next) [
-    | inl place ↦ (place, place.starts
-        ∙ ap (λ n. AtRouter n) (same_router place.router r (fabric.end l) place.ends end))
+    | inl place ↦ (
+      place,
+      place.starts
+          ∙ ap (λ n. AtRouter n) (same_router place.router r (fabric.end l) place.ends end),
+    )
     | inr place ↦ absurd (not_stage r l (fabric.end l) end place.ends)
   ]
 
@@ -78,8 +82,11 @@ module _ (fabric : Fabric) (ok : IsAccepted fabric) where
       → IsPlace fabric c (suc i) m → fabric.start m ≡ AtRouter r
       → IsRouterPlace fabric c i l m × (fabric.end l ≡ AtRouter r)
   from_router c i l m r h here next start = elim ((ok.path c h).inner i l m here next) [
-    | inl place ↦ (place, place.ends
-        ∙ ap (λ n. AtRouter n) (same_router place.router r (fabric.start m) place.starts start))
+    | inl place ↦ (
+      place,
+      place.ends
+          ∙ ap (λ n. AtRouter n) (same_router place.router r (fabric.start m) place.starts start),
+    )
     | inr place ↦ absurd (not_stage r l (fabric.start m) start place.starts)
   ]
 
@@ -147,7 +154,8 @@ module _ (fabric : Fabric) (ok : IsAccepted fabric) where
         → Comes fabric l (suc t) flit
     router_only l r flit start is =
         let alone = Alone-from_sole (fabric.port l) (map held (fabric.incoming r)) flit is in
-        let from = mapped_at held (fabric.incoming r) alone.place (Some alone.flit) alone.names.at in
+        let from = mapped_at held (fabric.incoming r) alone.place (Some alone.flit)
+        alone.names.at in
         let on = goes_on l r from.0 alone.place alone.flit start from.1 from.2 alone.names.names in
         record {
           number = on.number;
@@ -184,8 +192,8 @@ module _ (fabric : Fabric) (ok : IsAccepted fabric) where
           alone = λ j flit too.
               let from = mapped_at held (fabric.incoming r) j (Some flit) too.at in
               let also = goes_on l r from.0 j flit start from.1 from.2 too.names in
-              let one = one_flit fabric ok l (suc t) also.number (suc also.place) also.cycle c (suc i) u
-              also.on on in
+              let one = one_flit fabric ok l (suc t) also.number (suc also.place) also.cycle c
+              (suc i) u also.on on in
               let places = one.1 in
               let same : also.place ≡ i = omega arith in
               let there : slice_get wires i ≡ Some from.0 =
@@ -260,8 +268,8 @@ module _ (fabric : Fabric) (ok : IsAccepted fabric) where
           alone = λ n contender ends has names.
               let at = ok.wired.reaches n r ends in
               let also = goes_on l r n at.0 contender through.1 at.1 has names in
-              let one = one_flit fabric ok l (suc t) also.number (suc also.place) also.cycle c (suc i)
-              comes.cycle also.on after in
+              let one = one_flit fabric ok l (suc t) also.number (suc also.place) also.cycle c
+              (suc i) comes.cycle also.on after in
               let places = one.1 in
               let same : also.place ≡ i = omega arith in
               let place : IsPlace fabric c i n =

@@ -1,11 +1,10 @@
 -- What the header of a flit says at each place of its path.
-use Rattle.std.proofs.Common.{◌≡◌, ◌<◌, ◌∙◌, ℕ, suc, ◌+◌, ◌*◌, ◌/◌, ◌%◌, ◌^◌, sym, ap, List, [], ◌∷◌, ◌≤◌}
+use Rattle.std.proofs.Common.{◌≡◌, ◌<◌, ◌∙◌, ℕ, suc, ◌+◌, sym, ap, List, [], ◌∷◌, ◌≤◌}
 use Rattle.std.proofs.Common.{length, take, drop, refl, arith, zero, Some}
 use Rattle.std.specs.Prelude.{slice_index}
 use Rattle.aeth_base.specs.Limits.{words_per_flit}
 use Rattle.aeth_clocked.specs.declared.flit.Flit.{Flit}
 use Rattle.aeth_header.specs.Header.{port_of}
-use Rattle.aeth_header.specs.Layout.{port_bits}
 use Rattle.aeth_header.proofs.HeaderLemmas.{header_of-word_of, port_of-word_of}
 use Rattle.aeth_ni.specs.Component.{arrival_by, arrival_of}
 use Rattle.aeth_report.specs.Carries.{flit_at, header_at, words_at, sends}

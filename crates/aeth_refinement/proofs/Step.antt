@@ -1,26 +1,27 @@
 -- Driving, taking and latching lead from the counts before a cycle to those after it.
-use Rattle.std.proofs.Common.{◌≡◌, ◌≤◌, ◌<◌, ◌∙◌, ℕ, suc, ◌+◌, ◌-◌, ◌%◌, min, List, ◌++◌, length, drop, Option}
-use Rattle.std.proofs.Common.{Some, refl, sym, ap, subst, arith, inl, inr, Bool}
+use Rattle.std.proofs.Common.{◌≡◌, ◌≤◌, ◌<◌, ◌∙◌, ℕ, suc, ◌+◌, ◌-◌, ◌%◌, min, List, ◌++◌, length}
+use Rattle.std.proofs.Common.{drop, Option}
+use Rattle.std.proofs.Common.{sym, ap, subst, arith, inl, inr}
 use Rattle.aeth_clocked.specs.declared.flit.Flit.{Flit}
 use Rattle.aeth_ni.specs.Component.{Arrival, arrival_of}
 use Rattle.aeth_ni.specs.Limits.{max_count}
 use Rattle.aeth_ni.specs.Queue.{QueueState}
-use Rattle.aeth_ni.specs.declared.queue.Route.{Route}
 use Rattle.aeth_report.specs.Carries.{returns, sends}
-use Rattle.aeth_server.specs.PrivateServer.{arrived, credited, landed, pull_at, returned, sent, taken}
+use Rattle.aeth_server.specs.PrivateServer.{credited, landed, pull_at, returned, sent, taken}
 use Rattle.aeth_server.proofs.PrivateServerLemmas.{credited-more, has-grown, in-order, sent-more}
 use Rattle.aeth_server.proofs.PrivateServerLemmas.{taken-next}
 use Rattle.aeth_server.proofs.SessionEnds.{idle-before}
 use Rattle.aeth_refinement.specs.Accepted.{IsAccepted}
 use Rattle.aeth_refinement.specs.Carried.{Exact, words_from}
-use Rattle.aeth_refinement.specs.Changes.{Latched, Took}
+use Rattle.aeth_refinement.specs.Cycle.{Latched, Took}
 use Rattle.aeth_refinement.specs.Components.{Net, after, credits_for, queue_of, words_for}
 use Rattle.aeth_refinement.specs.Fabric.{Fabric, IsGoing, Owns, flow_at, server_at}
 use Rattle.aeth_refinement.specs.Standing.{HasCounter, Stands}
 use Rattle.aeth_refinement.proofs.Counts.{owed-most, returned-sent, room-next}
 use Rattle.aeth_refinement.proofs.Faces.{leaves}
 use Rattle.aeth_refinement.proofs.Landing.{lands}
-use Rattle.aeth_refinement.proofs.Owning.{early-alone, exact-same, going-or-early, landed-most, owns-back}
+use Rattle.aeth_refinement.proofs.Owning.{early-alone, exact-same, going-or-early, landed-most}
+use Rattle.aeth_refinement.proofs.Owning.{owns-back}
 use Rattle.aeth_refinement.proofs.Owning.{received-length}
 use Rattle.aeth_refinement.proofs.Queues.{brought_by-counter, brought_by-kept, brought_by-received}
 use Rattle.aeth_refinement.proofs.Queues.{sent_from-kept, words_taken-is}
@@ -32,14 +33,16 @@ use Rattle.aeth_refinement.proofs.Words.{drop-words_from, length-words_from, wor
 owed-fits : (owed left more count gives gave given was now buffer : ℕ) → more ≡ count
     → left ≡ owed - gives → gives ≤ owed → gives ≡ given - gave → owed + gave ≡ was → gave ≤ given
     → now ≡ was + count → now ≤ buffer + given → buffer ≤ max_count → left + more ≤ max_count
-owed-fits owed left more count gives gave given was now buffer same rest some step owes grows take least fits =
+owed-fits owed left more count gives gave given was now buffer same rest some step owes grows
+    take least fits =
     omega arith
 
 module _ (fabric : Fabric) (ok : IsAccepted fabric) (t : ℕ) (net drained new : Net)
     (wires : ℕ → Option Flit) (at : Stands fabric (suc t) t net) (enough : Enough fabric ok t net)
     (took : Took fabric t (after fabric net t) drained) (exact : Exact fabric t wires)
     (latched : Latched fabric wires drained new) where
-  -- A session's queue before the drive, behind it, behind the takes, and behind the latch; and what comes.
+  -- A session's queue before the drive, behind it, behind the takes, and behind the latch; and
+  -- what comes.
   abbrev first : ℕ → QueueState
   first c = queue_of fabric net c
 
@@ -99,8 +102,8 @@ module _ (fabric : Fabric) (ok : IsAccepted fabric) (t : ℕ) (net drained new :
   entry-stays : (n x : ℕ) → new.entry n x ≡ net.entry n x
   entry-stays n x = latched.entry n x ∙ took.entry n x
 
-  -- What a session's private server takes is taken from the queue at which it lands, which is that of
-  -- the opposite session.
+  -- What a session's private server takes is taken from the queue at which it lands, which is
+  -- that of the opposite session.
   record Takes (c : ℕ) : Type 0 where
     count : ℕ
     received : (third c).received ≡ drop count (first c).received
@@ -201,8 +204,8 @@ module _ (fabric : Fabric) (ok : IsAccepted fabric) (t : ℕ) (net drained new :
             ∙ land.credits ∙ ap (λ n. returned (server_at fabric n) (suc (suc t))) back;
       }
 
-  -- Behind the latch the queue has what it had behind the takes, and what comes; and these are the words
-  -- of the opposite session from those taken to those landed.
+  -- Behind the latch the queue has what it had behind the takes, and what comes; and these are
+  -- the words of the opposite session from those taken to those landed.
   record Receives (c : ℕ) : Type 0 where
     whole : (last c).received ≡ (third c).received ++ words_for (number c) (comes c)
     is : (last c).received ≡ words_from (flow_at fabric (fabric.opposite c)).values
@@ -243,7 +246,8 @@ module _ (fabric : Fabric) (ok : IsAccepted fabric) (t : ℕ) (net drained new :
       let holds = at.room c h in
       let same = third-room c h in
       let whole = ap (λ (q : QueueState). q.received) (latched.queue c h)
-      ∙ brought_by-received (comes c) (number c) (third c) (omega (arith, size, room, holds, same)) in
+      ∙ brought_by-received (comes c) (number c) (third c)
+      (omega (arith, size, room, holds, same)) in
       record { whole = whole; is = whole ∙ all }
 
   counter-next : (c : ℕ) → c < fabric.count → HasCounter fabric c (suc t)
@@ -288,7 +292,8 @@ module _ (fabric : Fabric) (ok : IsAccepted fabric) (t : ℕ) (net drained new :
       let grows = credited-more server paths t (suc t) (omega arith) in
       let left : (second c).owed ≡ (first c).owed - returns (flow_at fabric c) t =
       ap (λ (q : QueueState). q.owed) gone.is in
-      let same : (last c).owed ≡ (third c).owed = ap (λ (q : QueueState). q.owed) (latch-keeps c h) in
+      let same : (last c).owed ≡ (third c).owed =
+      ap (λ (q : QueueState). q.owed) (latch-keeps c h) in
       let within = gone.credits in
       omega (arith, same, take.owed, take.server, left, was, step, grows, within)
 
@@ -333,7 +338,8 @@ module _ (fabric : Fabric) (ok : IsAccepted fabric) (t : ℕ) (net drained new :
     handed_low = handed-low;
     handed_high = λ c h own.
         let high = at.handed_high c h own in
-        let grows = sent-more (server_at fabric c) (paths-of fabric ok c h) t (suc t) (omega arith) in
+        let grows =
+        sent-more (server_at fabric c) (paths-of fabric ok c h) t (suc t) (omega arith) in
         omega (arith, high, grows, handed-stays c h);
     handed_arrived = λ c h own.
         let few = at.handed_arrived c h own in

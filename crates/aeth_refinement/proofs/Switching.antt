@@ -1,5 +1,6 @@
 -- The halts, finishes and writes of a cycle lead from the tables of the cycle before to its own.
-use Rattle.std.proofs.Common.{◌≡◌, ◌≢◌, ◌≤◌, ◌<◌, ◌∙◌, ◌⊎◌, ℕ, suc, ◌+◌, ◌-◌, true, false, [], Some, refl}
+use Rattle.std.proofs.Common.{◌≡◌, ◌≢◌, ◌≤◌, ◌<◌, ◌∙◌, ◌⊎◌, ℕ, suc, ◌+◌, ◌-◌, true, false, []}
+use Rattle.std.proofs.Common.{Some, refl}
 use Rattle.std.proofs.Common.{sym, ap, arith, inl, inr}
 use Rattle.std.proofs.lemmas.Bool.{cases_eq, cases_lt}
 use Rattle.aeth_ni.specs.Limits.{waiting_words}
@@ -8,8 +9,8 @@ use Rattle.aeth_server.specs.PrivateServer.{arrived, credited, landed, returned,
 use Rattle.aeth_server.proofs.SessionEnds.{idle-before}
 use Rattle.aeth_refinement.specs.Accepted.{HasEntry, HasRoute, IsAccepted}
 use Rattle.aeth_refinement.specs.Carried.{words_from}
-use Rattle.aeth_refinement.specs.Changes.{HasEvent, IsEntryAt, Switched, finish_of, freed_of, halt_of}
-use Rattle.aeth_refinement.specs.Changes.{route_of, set_of}
+use Rattle.aeth_refinement.specs.Switches.{HasEvent, Switched, finish_of, freed_of, halt_of}
+use Rattle.aeth_refinement.specs.Switches.{route_of, set_of}
 use Rattle.aeth_refinement.specs.Components.{Net, queue_of}
 use Rattle.aeth_refinement.specs.Fabric.{Fabric, IsSameQueue, Owns, flow_at, has_slot, server_at}
 use Rattle.aeth_refinement.specs.Standing.{HasCounter, IsEntryOf, IsRunning, Stands}
@@ -25,7 +26,8 @@ same-queue fabric net d c same =
     ∙ ap (λ q. net.queue (fabric.passage c).ni q) same.queue
 
 module _ (fabric : Fabric) (ok : IsAccepted fabric) where
-  -- A session lasts for some cycles: from the write of its route to its stop, its finish and its clear.
+  -- A session lasts for some cycles: from the write of its route to its stop, its finish and its
+  -- clear.
   record Lasts (c : ℕ) : Type 0 where
     since : (fabric.passage c).since ≤ (fabric.passage c).set
     go : (fabric.passage c).set ≤ (server_at fabric c).go
@@ -91,7 +93,10 @@ module _ (fabric : Fabric) (ok : IsAccepted fabric) where
         let falls = event.falls in
         let last = lasts d g in
         let one = (ok.apart d c g h).route t
-        (record { set = omega (arith, last.set, falls); freed = omega (arith, last.freed, falls) }) has
+        (record {
+          set = omega (arith, last.set, falls);
+          freed = omega (arith, last.freed, falls);
+        }) has
         event.same in
         let now : (server_at fabric d).stop ≡ t = omega (arith, falls) in
         other (ap (λ n. (server_at fabric n).stop) (sym one) ∙ now)
@@ -344,7 +349,8 @@ module _ (fabric : Fabric) (ok : IsAccepted fabric) where
     handed-low c h own = elim (own-since t c own) [
       | inl was ↦ omega (arith, at.handed_low c h was, change.handed c h)
       | inr now ↦
-          let none = idle-before (server_at fabric c) (paths-of fabric ok c h) t (fresh c h now).early in
+          let none = idle-before (server_at fabric c) (paths-of fabric ok c h) t
+          (fresh c h now).early in
           omega (arith, none.sent)
     ]
 
@@ -425,7 +431,8 @@ module _ (fabric : Fabric) (ok : IsAccepted fabric) where
 
     owes : (c : ℕ) → c < fabric.count → Owns fabric c (suc t)
         → let d = fabric.opposite c in
-        (queue_of fabric new c).owed + credited (server_at fabric d) t ≡ taken (server_at fabric d) t
+        (queue_of fabric new c).owed + credited (server_at fabric d) t
+        ≡ taken (server_at fabric d) t
     owes c h own = elim (own-since t c own) [
       | inl was ↦
           let same = change.kept_owed c h (no-finish t c h was.since own.finish) in

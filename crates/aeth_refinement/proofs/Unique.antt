@@ -1,15 +1,15 @@
 -- A wire has one flit at most in a cycle.
-use Rattle.std.proofs.Common.{◌≡◌, ◌≤◌, ◌<◌, ◌∙◌, ℕ, suc, ◌+◌, ◌-◌, ◌%◌, ◌&&◌, Bool, true, false, List}
+use Rattle.std.proofs.Common.{◌≡◌, ◌≤◌, ◌<◌, ◌∙◌, ℕ, suc, ◌+◌, ◌-◌, ◌%◌, ◌&&◌, Bool, true, false}
+use Rattle.std.proofs.Common.{List}
 use Rattle.std.proofs.Common.{ltb, length, sym, ap, arith, inl, inr}
 use Rattle.std.proofs.Math.Nat.{mod-add-mod}
-use Rattle.std.proofs.lemmas.Bool.{cases_Bool, cases_lt, and_parts, and_from, and_left, and_right}
-use Rattle.std.proofs.lemmas.Bool.{both_ways, eq-eqb, leb-true, ltb-true, le-leb, le-ltb, lt-ltb}
+use Rattle.std.proofs.lemmas.Bool.{cases_Bool, cases_lt, and_parts, and_from}
+use Rattle.std.proofs.lemmas.Bool.{both_ways, eq-eqb, ltb-true, le-leb, lt-ltb}
 use Rattle.std.proofs.lemmas.Bool.{not_from_false, not_from_true, eqb-true}
 use Rattle.std.proofs.lemmas.Option.{slice_get_within}
 use Rattle.std.specs.List.{list_any}
 use Rattle.std.specs.Prelude.{◌==◌, IsTrue, nat_le, nat_lt, not}
 use Rattle.aeth_report.specs.Carries.{injects, returns, sends}
-use Rattle.aeth_report.specs.Flows.{Flow}
 use Rattle.aeth_server.specs.PrivateServer.{PrivateServer, credited, sent}
 use Rattle.aeth_server.specs.Shape.{HasPaths}
 use Rattle.aeth_server.specs.SlotCycles.{is_slot}
@@ -51,7 +51,8 @@ module _ (fabric : Fabric) (ok : IsAccepted fabric) where
   returns-step c u h =
       let next : u + 1 ≡ suc u = omega arith in
       ap (λ (s : PrivateServer). credited s (u + 1) - credited s u) (ok.answered c h).server
-      ∙ ap (λ n. credited (server_at fabric (other c)) n - credited (server_at fabric (other c)) u) next
+      ∙ ap
+      (λ n. credited (server_at fabric (other c)) n - credited (server_at fabric (other c)) u) next
 
   -- The slots of a server are those of its session.
   pub slot-is : (c u : ℕ) → c < fabric.count
@@ -62,7 +63,8 @@ module _ (fabric : Fabric) (ok : IsAccepted fabric) where
 
   -- So are the slots in which the opposite server gives credits back.
   pub back_slot-is : (c u : ℕ) → c < fabric.count
-      → is_slot (server_at fabric (other c)).shape.size (server_at fabric (other c)).shape.back_slots u
+      → is_slot (server_at fabric (other c)).shape.size
+      (server_at fabric (other c)).shape.back_slots u
       ≡ has_slot fabric c (u % fabric.size)
   back_slot-is c u h =
       let g = known-back c h in
@@ -119,13 +121,18 @@ module _ (fabric : Fabric) (ok : IsAccepted fabric) where
   in-slot c u h some =
       let may : may_send c u ≡ true = elim (cases_Bool (may_send c u)) [
         | inl is ↦ is
-        | inr shut ↦ absurd (let none = silent c u h shut in let a = none.0 in let b = none.1 in omega arith)
+        | inr shut ↦
+            let none = silent c u h shut in
+            absurd (omega (arith, none.0, none.1, some))
       ] in
-      let parts = and_parts (ltb u (server_at fabric c).stop) (has_slot fabric c (u % fabric.size)) may in
+      let parts =
+      and_parts (ltb u (server_at fabric c).stop) (has_slot fabric c (u % fabric.size)) may in
       record {
         uses = parts.1;
         go = elim (cases_lt u (server_at fabric c).go) [
-          | inl before ↦ absurd (let none = early c u h before in let a = none.0 in let b = none.1 in omega arith)
+          | inl before ↦
+              let none = early c u h before in
+              absurd (omega (arith, none.0, none.1, some))
           | inr goes ↦ goes
         ];
         stop = ltb-true u (server_at fabric c).stop parts.0;
@@ -170,7 +177,8 @@ module _ (fabric : Fabric) (ok : IsAccepted fabric) where
             both_ways (not nothing) (not_from_true nothing is) parts.1)
       ]
 
-  -- A flit is on the wires within its session alone: so the drain of the greatest path delay is enough.
+  -- A flit is on the wires within its session alone: so the drain of the greatest path delay is
+  -- enough.
   pub live : (l t c i u : ℕ) → IsOnWire fabric l t c i u → IsGoing fabric c t
   live l t c i u on =
       let slot = in-slot c u on.known (some-injected c u on.injected) in
@@ -190,7 +198,8 @@ module _ (fabric : Fabric) (ok : IsAccepted fabric) where
       let same : (u % fabric.size + i) % fabric.size ≡ (v % fabric.size + j) % fabric.size =
       mod-add-mod u fabric.size i ∙ ap (λ n. n % fabric.size) (one.time ∙ sym two.time)
       ∙ sym (mod-add-mod v fabric.size j) in
-      let found = (ok.apart c d one.known two.known).wire i j l (u % fabric.size) (v % fabric.size) t
+      let found =
+      (ok.apart c d one.known two.known).wire i j l (u % fabric.size) (v % fabric.size) t
       (live l t c i u one) (live l t d j v two) one.place two.place x y same in
       let places = found.1 in
       let now = one.time in

@@ -1,8 +1,7 @@
 -- Laws of stretches of values.
-use Rattle.std.proofs.Common.{◌≡◌, ◌≤◌, ◌∙◌, ℕ, zero, suc, ◌+◌, ◌-◌, List, [], ◌++◌, length, take, drop}
-use Rattle.std.proofs.Common.{refl, sym, ap, arith, inl, inr}
+use Rattle.std.proofs.Common.{◌≡◌, ◌≤◌, ◌∙◌, ℕ, ◌+◌, ◌-◌, List, ◌++◌, length, take, drop}
+use Rattle.std.proofs.Common.{sym, ap, arith}
 use Rattle.std.proofs.Math.Seq.{take-add}
-use Rattle.std.proofs.lemmas.Bool.{cases_lt}
 use Rattle.std.proofs.lemmas.List.{drop-drop, drop-take, length-drop, length-take, take-take}
 use Rattle.aeth_refinement.specs.Carried.{words_from}
 
@@ -18,7 +17,8 @@ length-words_from values first count within =
 pub same_words : (values : List ℕ) (first count other number : ℕ) → first ≡ other → count ≡ number
     → words_from values first count ≡ words_from values other number
 same_words values first count other number firsts counts =
-    ap (λ (n : ℕ). words_from values n count) firsts ∙ ap (λ (n : ℕ). words_from values other n) counts
+    ap (λ (n : ℕ). words_from values n count) firsts
+    ∙ ap (λ (n : ℕ). words_from values other n) counts
 
 -- A stretch and the next one.
 pub words_from-append : (values : List ℕ) (first count next more all : ℕ) → next ≡ first + count

@@ -40,8 +40,8 @@ module _ (fabric : Fabric) where
     pub only : (l : ℕ) (flit : Flit) → wires l ≡ Some flit → Comes l t flit
     pub all : (l c i u : ℕ) → IsOnWire l t c i u → wires l ≡ Some (flit_of c i u)
 
-  -- Of the flits that routers hold from the wires, that of wire m names a port of its router, and no other
-  -- names that port there.
+  -- Of the flits that routers hold from the wires, that of wire m names a port of its router, and
+  -- no other names that port there.
   pub record IsPassed (held : ℕ → Option Flit) (m r : ℕ) (flit : Flit) : Type 0 where
     pub link : ℕ
     pub starts : fabric.start link ≡ AtRouter r

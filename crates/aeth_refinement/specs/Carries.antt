@@ -1,6 +1,5 @@
--- What a wire carries in a cycle: the flits of all sessions that are on it then, as a list, so that two
--- flits on one wire in one cycle would be seen.
--- This project's own.
+-- What a wire carries in a cycle: the flits of all sessions that are on it then, as a list, so
+-- that two flits on one wire in one cycle would be seen. This project's own.
 use Rattle.std.specs.Prelude.{ℕ, ◌-◌, ◌==◌, ◌&&◌, nat_le, if◌then◌else◌, Bool, List, [], ◌∷◌}
 use Rattle.std.specs.List.{enumerate_from, flat_map, range_with_len}
 use Rattle.aeth_clocked.specs.declared.flit.Flit.{Flit}

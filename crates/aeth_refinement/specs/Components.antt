@@ -7,7 +7,8 @@
 --   words_for, credits_for      what it brings to it
 --   words_taken      a queue after some takes
 -- This project's own.
-use Rattle.std.specs.Prelude.{ℕ, zero, suc, ◌%◌, ◌==◌, Bool, false, if◌then◌else◌, Option, Some, None, map}
+use Rattle.std.specs.Prelude.{ℕ, zero, suc, ◌%◌, ◌==◌, Bool, false, if◌then◌else◌, Option, Some}
+use Rattle.std.specs.Prelude.{None, map}
 use Rattle.std.specs.Prelude.{List, []}
 use Rattle.aeth_clocked.specs.declared.flit.Flit.{Flit}
 use Rattle.aeth_ni.specs.Component.{Arrival, arrival_of}
@@ -16,9 +17,9 @@ use Rattle.aeth_ni.specs.Sending.{emitted, flit_sent}
 use Rattle.aeth_router.specs.Ports.{flits_for, sole}
 use Rattle.aeth_refinement.specs.Fabric.{AtInterface, AtRouter, AtStage, Fabric, WireEnd}
 
--- All components: the entry of each slot of each interface, and each of its queues, by their numbers; and
--- the flit that a router or a stage holds from each wire. Beside them, how many words of each session
--- were handed to its source queue.
+-- All components: the entry of each slot of each interface, and each of its queues, by their
+-- numbers; and the flit that a router or a stage holds from each wire. Beside them, how many
+-- words of each session were handed to its source queue.
 pub record Net : Type 0 where
   pub entry : ℕ → ℕ → Option ℕ
   pub queue : ℕ → ℕ → QueueState

@@ -7,28 +7,29 @@
 --   IsPlace, has_slot      a wire of its path, and a slot of its own
 --   Owns, IsGoing      the cycles in which it has its queues, and in which it is in use
 --   IsSameQueue      two sessions whose sending ends are one queue
--- Slot tables that are written while the network runs: after Æthereal (2005). This form of them: this
--- project's own.
+-- Slot tables that are written while the network runs: after Æthereal (2005). This form of them:
+-- this project's own.
 use Rattle.std.specs.Prelude.{◌≡◌, ◌≤◌, ◌<◌, ℕ, Bool, List, Some, slice_get, ◌==◌}
 use Rattle.std.specs.List.{list_any}
 use Rattle.aeth_report.specs.Flows.{Flow}
 use Rattle.aeth_server.specs.PrivateServer.{PrivateServer}
 
--- Where a wire starts or ends: at a router, at an interface, or at a stage, which goes by the number
--- of the wire that it reads.
+-- Where a wire starts or ends: at a router, at an interface, or at a stage, which goes by the
+-- number of the wire that it reads.
 pub data WireEnd : Type 0 where
   AtRouter : (router : ℕ) → WireEnd
   AtInterface : (interface : ℕ) → WireEnd
   AtStage : (wire : ℕ) → WireEnd
 
--- A session of a channel: its flow; the interface and the queue from which it sends; the wires that it
--- goes over, each link followed by its further wires, so that a place is an offset; and how many
--- routers a flit has passed by at each place.
+-- A session of a channel: its flow; the interface and the queue from which it sends; the wires
+-- that it goes over, each link followed by its further wires, so that a place is an offset; and
+-- how many routers a flit has passed by at each place.
 --
--- The last five are numbers of cycles after whose halts, finishes and writes something holds: 0 for
--- what is done before cycle 0, and e + 1 for what is done in cycle e. The queue is the session's from
--- `since` on, where the session before it on that queue finished. Its route is set at `set` and cleared
--- at `freed`, the entry of one of its slots is set at `slot_set` and cleared at `slot_freed`.
+-- The last five are numbers of cycles after whose halts, finishes and writes something holds: 0
+-- for what is done before cycle 0, and e + 1 for what is done in cycle e. The queue is the
+-- session's from `since` on, where the session before it on that queue finished. Its route is set
+-- at `set` and cleared at `freed`, the entry of one of its slots is set at `slot_set` and cleared
+-- at `slot_freed`.
 pub record Passage : Type 0 where
   pub flow : Flow
   pub ni : ℕ
@@ -41,9 +42,10 @@ pub record Passage : Type 0 where
   pub slot_set : ℕ → ℕ
   pub slot_freed : ℕ → ℕ
 
--- A chip: its table size, where each wire starts and ends, the port of a wire that leaves a router, the
--- wires that enter each router in order, and the wires that leave and enter each interface. And the
--- sessions by their numbers, with the number of the opposite channel's session.
+-- A chip: its table size, where each wire starts and ends, the port of a wire that leaves a
+-- router, the wires that enter each router in order, and the wires that leave and enter each
+-- interface. And the sessions by their numbers, with the number of the opposite channel's
+-- session.
 pub record Fabric : Type 0 where
   pub size : ℕ
   pub start : ℕ → WireEnd

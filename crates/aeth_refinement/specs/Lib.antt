@@ -2,7 +2,8 @@ pub mod Fabric
 pub mod Carried
 pub mod Accepted
 pub mod Components
-pub mod Changes
+pub mod Switches
+pub mod Cycle
 pub mod Standing
 pub mod Runs
 pub mod Carries

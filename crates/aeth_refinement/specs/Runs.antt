@@ -3,7 +3,8 @@
 use Rattle.std.specs.Prelude.{◌≡◌, ◌≤◌, ◌<◌, ℕ, ◌+◌, false, [], Option, Some, None}
 use Rattle.aeth_clocked.specs.declared.flit.Flit.{Flit}
 use Rattle.aeth_refinement.specs.Fabric.{Fabric, flow_at, server_at}
-use Rattle.aeth_refinement.specs.Changes.{Cycle, IsEntryAt, IsSetNow, route_of}
+use Rattle.aeth_refinement.specs.Switches.{IsEntryAt, IsSetNow, route_of}
+use Rattle.aeth_refinement.specs.Cycle.{Cycle}
 use Rattle.aeth_refinement.specs.Components.{Net, queue_of}
 
 module _ (fabric : Fabric) where

@@ -6,7 +6,7 @@ use Rattle.aeth_server.specs.PrivateServer.{arrived, credited, landed, returned,
 use Rattle.aeth_refinement.specs.Fabric.{Fabric, Owns, flow_at, server_at}
 use Rattle.aeth_refinement.specs.Accepted.{HasEntry}
 use Rattle.aeth_refinement.specs.Carried.{Exact, words_from}
-use Rattle.aeth_refinement.specs.Changes.{IsEntryAt, route_of}
+use Rattle.aeth_refinement.specs.Switches.{IsEntryAt, route_of}
 use Rattle.aeth_refinement.specs.Components.{Net, queue_of}
 
 module _ (fabric : Fabric) where
@@ -27,12 +27,13 @@ module _ (fabric : Fabric) where
     pub set : (fabric.passage c).set ≤ t
     pub finish : t ≤ (server_at fabric c).finish
 
-  -- The components stand so, after the halts, finishes and writes of t cycles, and with the counts after k
-  -- cycles. Before cycle k both are k; between its writes and its drive t is k + 1.
+  -- The components stand so, after the halts, finishes and writes of t cycles, and with the
+  -- counts after k cycles. Before cycle k both are k; between its writes and its drive t is k +
+  -- 1.
   --
-  -- The queue from which a session sends has its words from those sent to those handed, the words of the
-  -- opposite session from those taken to those landed, a counter of what the buffer and the credits let
-  -- go, and the credits of the opposite session that are owed.
+  -- The queue from which a session sends has its words from those sent to those handed, the words
+  -- of the opposite session from those taken to those landed, a counter of what the buffer and
+  -- the credits let go, and the credits of the opposite session that are owed.
   pub record Stands (t k : ℕ) (net : Net) : Type 0 where
     pub entry_only : (n x queue : ℕ) → net.entry n x ≡ Some queue → IsEntryOf t n x queue
     pub entry_all : (c x : ℕ) → c < fabric.count → HasEntry fabric c x t
@@ -63,7 +64,8 @@ module _ (fabric : Fabric) where
         ≡ (server_at fabric c).buffer + returned (server_at fabric c) (suc k)
     pub owed : (c : ℕ) → c < fabric.count → Owns fabric c t
         → let d = fabric.opposite c in
-        (queue_of fabric net c).owed + credited (server_at fabric d) k ≡ taken (server_at fabric d) k
+        (queue_of fabric net c).owed + credited (server_at fabric d) k
+        ≡ taken (server_at fabric d) k
     pub room : (c : ℕ) → c < fabric.count
         → (server_at fabric (fabric.opposite c)).buffer ≤ (queue_of fabric net c).room
     pub held : (v : ℕ) → suc v ≡ k → Exact fabric v net.held

@@ -1,4 +1,5 @@
-//! What holds of every network whose sessions are those of an accepted plan, over the definitions alone.
+//! What holds of every network whose sessions are those of an accepted plan, over the definitions
+//! alone.
 ghost use Rattle.std.specs.Prelude.{◌≡◌, ◌≤◌, ◌<◌, ◌+◌, ◌-◌, ◌++◌, ℕ, min, length, Option, Some};
 ghost use Rattle.std.specs.Option.{option_to_list};
 ghost use Rattle.aeth_clocked.specs.declared.flit.Flit.{Flit};
@@ -7,7 +8,7 @@ ghost use Rattle.aeth_server.specs.PrivateServer.{landed, pull_at, taken};
 ghost use Rattle.aeth_refinement.specs.Accepted.{IsAccepted};
 ghost use Rattle.aeth_refinement.specs.Carried.{Exact, IsPassed, words_from};
 ghost use Rattle.aeth_refinement.specs.Carries.{carries};
-ghost use Rattle.aeth_refinement.specs.Changes.{Cycle};
+ghost use Rattle.aeth_refinement.specs.Cycle.{Cycle};
 ghost use Rattle.aeth_refinement.specs.Components.{Net, after, queue_of, words_for};
 ghost use Rattle.aeth_refinement.specs.Fabric.{AtRouter, Fabric, Owns, flow_at, server_at};
 ghost use Rattle.aeth_refinement.specs.Runs.{Begins, Run};
@@ -19,8 +20,8 @@ pub fn runs_begin_standing()
         → Stands fabric 0 0 net }
 {}
 
-/// One cycle leads from components that stand to components that stand, and its wires have the flits
-/// that the private servers send, and nothing else.
+/// One cycle leads from components that stand to components that stand, and its wires have the
+/// flits that the private servers send, and nothing else.
 pub fn cycles_keep_standing()
     ensures wires { (fabric : Fabric) → IsAccepted fabric → (t : ℕ) (old new : Net)
         (wires : ℕ → Option Flit) → Stands fabric t t old → Cycle fabric t old wires new
@@ -30,8 +31,8 @@ pub fn cycles_keep_standing()
         → Stands fabric (t + 1) (t + 1) new }
 {}
 
-/// Before each cycle of a run the components stand as the private servers say, and in each the wires have
-/// what these send.
+/// Before each cycle of a run the components stand as the private servers say, and in each the
+/// wires have what these send.
 pub fn components_stand()
     ensures components { (fabric : Fabric) → IsAccepted fabric → (nets : ℕ → Net)
         (wires : ℕ → ℕ → Option Flit) → Run fabric nets wires → (t : ℕ)
@@ -47,7 +48,8 @@ pub fn wires_carry()
         → Exact fabric t wires → (l : ℕ) → carries fabric l t ≡ option_to_list (wires l) }
 {}
 
-/// No receive queue ever holds more than its session's buffer, and in a cycle it keeps all that comes.
+/// No receive queue ever holds more than its session's buffer, and in a cycle it keeps all that
+/// comes.
 pub fn queues_fit()
     ensures buffer { (fabric : Fabric) → IsAccepted fabric → (t : ℕ) (net : Net)
         → Stands fabric t t net → (c : ℕ) → c < fabric.count → Owns fabric c t
@@ -61,8 +63,8 @@ pub fn queues_fit()
         (arrival_of (wires (fabric.entering (fabric.passage c).ni))) }
 {}
 
-/// What the wires of a cycle bring to a session's receiver are the words of its private server that land
-/// in the next cycle, in their order.
+/// What the wires of a cycle bring to a session's receiver are the words of its private server
+/// that land in the next cycle, in their order.
 pub fn words_land()
     ensures { (fabric : Fabric) → IsAccepted fabric → (t : ℕ) (wires : ℕ → Option Flit)
         → Exact fabric t wires → (c : ℕ) → c < fabric.count → Owns fabric c (t + 1)
@@ -72,8 +74,8 @@ pub fn words_land()
         (landed (server_at fabric c) (t + 2) - landed (server_at fabric c) (t + 1)) }
 {}
 
-/// What a receiver takes in a cycle, of the words that are there behind the drive, is what its private
-/// server takes.
+/// What a receiver takes in a cycle, of the words that are there behind the drive, is what its
+/// private server takes.
 pub fn words_are_taken()
     ensures { (fabric : Fabric) → IsAccepted fabric → (t : ℕ) (old new : Net)
         (wires : ℕ → Option Flit) → Stands fabric t t old → (cycle : Cycle fabric t old wires new)
@@ -84,8 +86,8 @@ pub fn words_are_taken()
         (length (queue_of fabric (after fabric cycle.ready t) c).received) }
 {}
 
-/// A flit that a router holds names one of its ports, and no other flit that it holds names that port. No
-/// flit on a wire has a payload count of 3.
+/// A flit that a router holds names one of its ports, and no other flit that it holds names that
+/// port. No flit on a wire has a payload count of 3.
 pub fn no_flit_is_lost()
     ensures passed { (fabric : Fabric) → IsAccepted fabric → (t : ℕ) (held : ℕ → Option Flit)
         → Exact fabric t held → (m r : ℕ) (flit : Flit) → fabric.end m ≡ AtRouter r

@@ -14,8 +14,7 @@ returns-clause-passed c fabric ok t held exact = none_lost fabric ok t held exac
 pub returns-clause-read : goal.returns-clause-read
 returns-clause-read c fabric ok t wires exact l flit there =
     let comes = exact.only l flit there in
-    let flow = flow_at fabric comes.number in
-    (
+    let flow = flow_at fabric comes.number in (
       record {
         header = header_at flow ((fabric.passage comes.number).hops comes.place) comes.cycle;
         words = words_at flow comes.cycle;

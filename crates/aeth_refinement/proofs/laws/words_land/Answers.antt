@@ -13,7 +13,9 @@ returns c fabric ok t wires exact number known own =
     let server = server_at fabric number in
     let values = (flow_at fabric number).values in
     (lands fabric ok t wires exact number known (subst (λ n. Owns fabric number n) next own)).words
-    ∙ ap (λ (n : ℕ). words_from values (landed server n) (landed server (suc (suc t)) - landed server n))
+    ∙ ap (λ (n : ℕ). words_from values (landed server n)
+    (landed server (suc (suc t)) - landed server n))
     (sym next)
-    ∙ ap (λ (n : ℕ). words_from values (landed server (t + 1)) (landed server n - landed server (t + 1)))
+    ∙ ap (λ (n : ℕ). words_from values (landed server (t + 1))
+    (landed server n - landed server (t + 1)))
     then
