@@ -1,2 +1,1 @@
 mod OnLiterals
-mod LogLemmas

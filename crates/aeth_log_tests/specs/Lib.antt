@@ -1,4 +1,4 @@
 pub mod Designs
 pub mod Traces
 pub mod Texts
-pub mod Logs
+pub mod Told

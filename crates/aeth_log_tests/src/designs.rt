@@ -12,6 +12,21 @@ link = [
 ]
 "#;
 
+/// One connection, in one use case.
+pub(crate) const ONE: &str = r#"version = 1
+detour = 0
+core = [{name = "cpu", ni = "n0"}, {name = "mem", ni = "n1"}]
+[[connection]]
+name = "c0"
+from = "cpu"
+to = "mem"
+fwd = {words = 1, per = 2, latency = 6, delay = 0}
+back = {words = 0, per = 1, latency = 12, delay = 0}
+[[use]]
+name = "main"
+connections = ["c0"]
+"#;
+
 /// Two connections, and two use cases of one group: with the first, and with both.
 pub(crate) const TWO: &str = r#"version = 1
 detour = 0

@@ -1,7 +1,9 @@
-//! Tests of what a run shows: worked texts from the definitions, a log that is printed, timelines, and
+//! Tests of what a run shows: worked texts from the definitions, logs that are printed, timelines, and
 //! programs.
 #![tactic(auto)]
 
+#[cfg(test)]
+mod cases;
 #[cfg(test)]
 mod designs;
 #[cfg(test)]

@@ -1,10 +1,10 @@
-// What no clause says: that a log is printed where memory is left.
-ghost use Rattle.std.specs.Prelude.{◌≡◌, ◌∷◌, [], true, IfOk};
-ghost use Rattle.aeth_base.specs.declared.ids.Side.TheVariants.{Fwd};
-ghost use Rattle.aeth_log_tests.specs.Logs.{channel_with, closed_log, one_landing, quiet_session};
-ghost use Rattle.aeth_log_tests.specs.Logs.{session_from};
+// What no clause says: that logs are printed where memory is left, and the texts of worked runs.
+ghost use Rattle.std.specs.Prelude.{◌≡◌, ◌≤◌, IfOk, IfSome, length, sum};
+ghost use Rattle.aeth_log_tests.specs.Told.{AreTold, IsToldChannel, IsToldLog, IsToldSession};
+ghost use Rattle.aeth_report.specs.Limits.{max_total};
 
-use crate::designs::{PAIR, TWO};
+use crate::cases::{CASES, Case, Row, Told};
+use crate::designs::PAIR;
 use aeth_app::{App, read_app};
 use aeth_base::{Channel, ConnId, NoMemory, Side};
 use aeth_chip::read_chip;
@@ -12,106 +12,144 @@ use aeth_report::{ChannelLog, Landing, SessionLog, SimLog, sim_text};
 use std::alloc::Global;
 use std::test::*;
 
-// A channel with one session from cycle 0 on, and no word outside of it.
-fn channel(
-    alloc: Global,
-    conn: u32,
-    side: Side,
-    ended: bool,
-    counts: (u32, u32),
-    rows: Vec<Landing>,
-) -> Result<ChannelLog, NoMemory>
-    ensures { IfOk result (λ one. one
-        ≡ channel_with conn side (session_from ended counts.0 counts.1 rows.items)) }
+// Landings.
+fn landings(alloc: Global, rows: &[Row]) -> Result<Vec<Landing>, NoMemory>
+    ensures { IfOk result (λ all. length all.items ≡ length rows.now) }
 {
-    let session = SessionLog {
-        go: 0,
-        ended,
-        offered: counts.0,
-        landed: counts.1,
-        taken: 0,
-        rows,
+    let mut all = Vec::new(alloc);
+    for row in rows {
+        let (offered, landed, due, value) = *row;
+        all.push(Landing {
+            offered,
+            landed,
+            due,
+            value,
+        })?;
+    }
+    Ok(all)
+}
+
+// A session.
+fn session(alloc: Global, told: &Told) -> Option<SessionLog>
+    ensures { IfSome result (λ one. IsToldSession one) }
+{
+    let (go, ended, (offered, landed, taken), rows, _) = *told;
+    if taken > landed || landed > offered {
+        return None;
+    }
+    let Ok(rows) = landings(alloc, rows.get(..landed as usize)?) else {
+        return None;
     };
-    Ok(ChannelLog {
+    Some(SessionLog {
+        go,
+        ended,
+        offered: offered as u32,
+        landed: landed as u32,
+        taken: taken as u32,
+        rows,
+    })
+}
+
+// A channel with one session.
+fn channel(alloc: Global, conn: u32, side: Side, told: &Told) -> Option<ChannelLog>
+    ensures { IfSome result (λ one. IsToldChannel conn side one) }
+{
+    let session = session(alloc, told)?;
+    let Ok(sessions) = vec![in alloc; session] else {
+        return None;
+    };
+    Some(ChannelLog {
         channel: Channel {
             conn: ConnId(conn),
             side,
         },
-        sessions: vec![in alloc; session]?,
-        outside: 0,
+        sessions,
+        outside: told.4 as u32,
     })
 }
 
-// A channel in whose one session nothing was offered.
-fn quiet(alloc: Global, conn: u32, side: Side, ended: bool) -> Result<ChannelLog, NoMemory>
-    ensures { IfOk result (λ one. one ≡ channel_with conn side (quiet_session ended)) }
+// The channels of one connection.
+fn channels_of_one(alloc: Global, fwd: &Told, back: &Told) -> Option<Vec<ChannelLog>>
+    ensures { IfSome result (λ all. AreTold 1 all.items) }
 {
-    channel(alloc, conn, side, ended, (0, 0), Vec::new(alloc))
+    let there = channel(alloc, 0, Side::Fwd, fwd)?;
+    let home = channel(alloc, 0, Side::Back, back)?;
+    vec![in alloc; there, home].ok()
 }
 
-// The channel that a switch closes.
-fn closed(alloc: Global) -> Result<ChannelLog, NoMemory>
-    ensures { IfOk result (λ one. one
-        ≡ channel_with 1 Fwd (session_from true 2 1 (one_landing ∷ []))) }
+// The channels of two, forward and back.
+fn channels_of_two(
+    alloc: Global,
+    first: (&Told, &Told),
+    second: (&Told, &Told),
+) -> Option<Vec<ChannelLog>>
+    ensures { IfSome result (λ all. AreTold 2 all.items) }
 {
-    let row = Landing {
-        offered: 0,
-        landed: 4,
-        due: 10,
-        value: 200,
-    };
-    channel(alloc, 1, Side::Fwd, true, (2, 1), vec![in alloc; row]?)
+    let there = channel(alloc, 0, Side::Fwd, first.0)?;
+    let home = channel(alloc, 0, Side::Back, first.1)?;
+    let there_too = channel(alloc, 1, Side::Fwd, second.0)?;
+    let home_too = channel(alloc, 1, Side::Back, second.1)?;
+    vec![in alloc; there, home, there_too, home_too].ok()
 }
 
-// The worked log.
-fn log(alloc: Global) -> Result<SimLog, NoMemory>
-    ensures { IfOk result (λ log. log ≡ closed_log) }
+// The channels of so many connections.
+fn channels(alloc: Global, connections: u32, told: &[Told]) -> Option<Vec<ChannelLog>>
+    ensures { IfSome result (λ all. AreTold connections all.items) }
 {
-    let channels = vec![in alloc;
-        quiet(alloc, 0, Side::Fwd, false)?,
-        quiet(alloc, 0, Side::Back, false)?,
-        closed(alloc)?,
-        quiet(alloc, 1, Side::Back, true)?,
-    ]?;
-    Ok(SimLog {
-        cycles: 12,
-        channels,
-        flits: vec![in alloc; 1, 0, 0, 1, 1, 0]?,
-    })
-}
-
-// Its text for an application of two connections.
-fn text_for(alloc: Global, app: &App) -> Option<Vec<u8>> {
-    if app.connections() != 2 {
-        return None;
+    match told {
+        [fwd, back] => {
+            if connections != 1 {
+                return None;
+            }
+            channels_of_one(alloc, fwd, back)
+        }
+        [fwd, back, fwd_too, back_too] => {
+            if connections != 2 {
+                return None;
+            }
+            channels_of_two(alloc, (fwd, back), (fwd_too, back_too))
+        }
+        _ => None,
     }
-    let Ok(log) = log(alloc) else {
-        return None;
-    };
+}
+
+// How many flits each link carried.
+fn flits(alloc: Global, counts: [u8; 6]) -> Option<Vec<u32>>
+    ensures { IfSome result (λ all. sum all.items ≤ max_total) }
+{
+    let [a, b, c, d, e, f] = counts;
+    vec![in alloc; a as u32, b as u32, c as u32, d as u32, e as u32, f as u32].ok()
+}
+
+// A log.
+fn log(alloc: Global, connections: u32, case: &Case) -> Option<SimLog>
+    ensures { IfSome result (IsToldLog connections) }
+{
+    Some(SimLog {
+        cycles: case.cycles,
+        channels: channels(alloc, connections, case.channels)?,
+        flits: flits(alloc, case.flits)?,
+    })
+}
+
+// Its text for an application.
+fn text_for(alloc: Global, app: &App, case: &Case) -> Option<Vec<u8>> {
+    let log = log(alloc, app.connections(), case)?;
     sim_text(alloc, &log, app).ok()
 }
 
-// Its text.
-fn text(alloc: Global) -> Option<Vec<u8>> {
+// Its text for that of the run.
+fn text(alloc: Global, case: &Case) -> Option<Vec<u8>> {
     let chip = read_chip(alloc, PAIR.as_bytes()).ok()?;
-    let app = read_app(alloc, TWO.as_bytes(), &chip).ok()?;
-    text_for(alloc, &app)
+    let app = read_app(alloc, case.app.as_bytes(), &chip).ok()?;
+    text_for(alloc, &app, case)
 }
 
-const TEXT: &str = "sim 1 12\n\
-    chan c0 fwd 0 running 0 0 0\n\
-    chan c0 back 0 running 0 0 0\n\
-    chan c1 fwd 0 ended 2 1 0\n\
-    land 1 0 4 10 200\n\
-    drop 1 1\n\
-    chan c1 back 0 ended 0 0 0\n\
-    drop 0 0\n\
-    link 0 1\nlink 1 0\nlink 2 0\nlink 3 1\nlink 4 1\nlink 5 0\n\
-    end\n";
-
 #[test]
-fn a_log_is_printed(rt: HostRuntime) -> Result<(), Fail> {
-    let text = text(rt.alloc()).ok_or("a text")?;
-    assert_eq!(rt; text.as_slice(), TEXT.as_bytes());
+fn worked_logs_are_printed(rt: HostRuntime) -> Result<(), Fail> {
+    for case in &CASES {
+        let text = text(rt.alloc(), case).ok_or(case.name)?;
+        assert_eq!(rt; text.as_slice(), case.text.as_bytes(), "{}", case.name);
+    }
     Ok(())
 }

@@ -1,6 +1,5 @@
 //! Worked texts, computed by the definitions.
 ghost use Rattle.aeth_log_tests.specs.Designs.{one_app, one_groups, two_app, two_groups};
-ghost use Rattle.aeth_log_tests.specs.Logs.{LogOfClosing};
 ghost use Rattle.aeth_log_tests.specs.Texts.{ConnectionClosed, ConnectionOpened, LinkWithDelay};
 ghost use Rattle.aeth_log_tests.specs.Texts.{OneConnection, ReceiverStalls, ReceiverTakes};
 ghost use Rattle.aeth_log_tests.specs.Texts.{SwitchesPastTheEnd};
@@ -27,5 +26,4 @@ pub fn runs_through_switches()
     ensures connection_opened { ConnectionOpened }
     ensures connection_closed { ConnectionClosed }
     ensures switches_past_the_end { SwitchesPastTheEnd }
-    ensures log_of_closing { LogOfClosing }
 {}

@@ -14,7 +14,3 @@ returns-clause-connection_closed c = refl
 pub returns-clause-switches_past_the_end : goal.returns-clause-switches_past_the_end
 unfolding on_literals
 returns-clause-switches_past_the_end c = refl
-
-pub returns-clause-log_of_closing : goal.returns-clause-log_of_closing
-unfolding on_literals
-returns-clause-log_of_closing c = refl
