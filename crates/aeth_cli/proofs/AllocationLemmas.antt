@@ -1,12 +1,12 @@
 -- Laws of the answer to an allocation.
-use Rattle.std.proofs.Common.{◌≡◌, List, [], ◌∷◌, arith}
+use Rattle.std.proofs.Common.{◌≡◌, List, [], ◌∷◌}
 use Rattle.aeth_alloc.specs.Allocation.{OutcomeData}
 use Rattle.aeth_alloc.specs.declared.outcome.Refused.{Refused}
 use Rattle.aeth_app.specs.App.{AppData}
 use Rattle.aeth_chip.specs.Chip.{ChipData}
 use Rattle.aeth_plan.specs.PlanText.{plan_text}
 use Rattle.aeth_cli.specs.Commands.Allocate.{allocation_job, outcome_job, refusals_text}
-use Rattle.aeth_cli.specs.Job.{Job, done, not_granted}
+use Rattle.aeth_cli.specs.Job.{Job}
 use Rattle.aeth_cli.specs.Places.{Files}
 use Rattle.aeth_cli.specs.Task.{IsAnswer, ends}
 use Rattle.aeth_cli.proofs.FileLemmas.{IsAnswer-done, IsAnswer-not_granted}

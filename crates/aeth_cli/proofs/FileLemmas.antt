@@ -83,6 +83,14 @@ IfAnswer-left old now new task rest (Ok answer) leaves answers = leaves new answ
 IfAnswer-left old now new task rest (Err (Ends answer)) leaves answers = leaves new answer answers
 IfAnswer-left old now new task rest (Err Memory) leaves answers = tt
 
+-- The refusal of a file ends a task.
+pub IsAnswer-refused : (now : Files) (file : List ℕ) (broken : BrokenRule) (answer : Job)
+    → answer ≡ refused_file file broken
+    → IsAnswer now now (ends (refused_file file broken)) answer
+IsAnswer-refused now file broken answer is =
+    rw is
+    (IsAnswer-ends now now (refused_file file broken) (omega arith) (λ usage. omega (arith, usage)))
+
 -- A job that isn't granted ends a task.
 pub IsAnswer-not_granted : (now : Files) (text : List ℕ) (answer : Job) → answer ≡ not_granted text
     → IsAnswer now now (ends (not_granted text)) answer

@@ -6,8 +6,11 @@ pub mod Check
 pub mod Chip
 pub mod Server
 pub mod Slots
-use Rattle.std.specs.Prelude.{ℕ, ◌≡◌, List, [], ◌∷◌, Option, Some, None, codes, if◌then◌else◌}
+pub mod Tables
+use Rattle.std.specs.Prelude.{ℕ, ◌≡◌, ◌≤◌, ⊤, List, [], ◌∷◌, Option, Some, None, codes}
+use Rattle.std.specs.Prelude.{if◌then◌else◌}
 use Rattle.std.specs.Str.{bytes_eq}
+use Rattle.aeth_base.specs.Limits.{max_path_delay, max_slots}
 use Rattle.aeth_cli.specs.declared.commands.Command.{Command}
 use Rattle.aeth_cli.specs.declared.commands.Command.TheVariants as command
 use Rattle.aeth_cli.specs.Commands.Allocate.{allocate_command, allocate_task}
@@ -16,6 +19,7 @@ use Rattle.aeth_cli.specs.Commands.Check.{check_command, check_task}
 use Rattle.aeth_cli.specs.Commands.Chip.{chip_command, chip_task}
 use Rattle.aeth_cli.specs.Commands.Server.{latency_job, server_command}
 use Rattle.aeth_cli.specs.Commands.Slots.{chosen_job, slots_command}
+use Rattle.aeth_cli.specs.Commands.Tables.{tables_command, tables_task}
 use Rattle.aeth_cli.specs.Job.{Job, usage}
 use Rattle.aeth_cli.specs.Places.{Files}
 use Rattle.aeth_cli.specs.Task.{IsAnswer, Task, ends, job_with}
@@ -30,7 +34,19 @@ command_of (name ∷ words) =
     else if bytes_eq name (codes "app") then app_command words
     else if bytes_eq name (codes "allocate") then allocate_command words
     else if bytes_eq name (codes "check") then check_command words
+    else if bytes_eq name (codes "tables") then tables_command words
     else None
+
+-- The numbers of a command are in the ranges of its words.
+abbrev pub HasRanges : Command → Type 0
+HasRanges (command.Slots need gap free) = 1 ≤ need
+HasRanges (command.Server need links slots) =
+    (1 ≤ need) × (need ≤ max_slots) × (links ≤ max_path_delay)
+HasRanges (command.Chip chip) = ⊤
+HasRanges (command.App chip app) = ⊤
+HasRanges (command.Allocate chip app) = ⊤
+HasRanges (command.Check chip app plan) = ⊤
+HasRanges (command.Tables chip app plan name) = ⊤
 
 -- What a command does.
 abbrev pub task_of : Command → Task
@@ -40,6 +56,7 @@ task_of (command.Chip chip) = chip_task chip
 task_of (command.App chip app) = app_task chip app
 task_of (command.Allocate chip app) = allocate_task chip app
 task_of (command.Check chip app plan) = check_task chip app plan
+task_of (command.Tables chip app plan name) = tables_task chip app plan name
 
 -- What is asked for by a command, or by words that are none, where the contents on which it rests
 -- are told.

@@ -10,4 +10,5 @@ pub mod Status
 pub mod Stop
 pub mod Task
 pub mod Text
+pub mod Uses
 pub mod Words

@@ -1,8 +1,8 @@
 // The commands, and what each answers.
-ghost use Rattle.aeth_cli.specs.Commands.{IsAnswerTo, command_of};
+ghost use Rattle.aeth_cli.specs.Commands.{HasRanges, IsAnswerTo, command_of};
 ghost use Rattle.aeth_cli.specs.Places.{files_of};
 ghost use Rattle.aeth_cli.specs.Stop.{IfAnswer};
-ghost use Rattle.std.specs.Prelude.{◌≡◌, IfOk, map, string_bytes};
+ghost use Rattle.std.specs.Prelude.{◌≡◌, IfOk, IfSome, map, string_bytes};
 
 mod allocate;
 mod app;
@@ -10,10 +10,11 @@ mod check;
 mod chip;
 mod server;
 mod slots;
+mod tables;
 
 use crate::answer::{Answer, Stop};
 use crate::words::FileName;
-use aeth_base::NoMemory;
+use aeth_base::{Name, NoMemory};
 use aeth_io::Shelf;
 use aeth_slots::SlotSet;
 use std::alloc::Global;
@@ -56,11 +57,19 @@ pub enum Command<'a> {
         app: FileName<'a>,
         plan: FileName<'a>,
     },
+    /// `tables CHIP APP PLAN USE`: the tables of the interfaces in the use case of this name.
+    Tables {
+        chip: FileName<'a>,
+        app: FileName<'a>,
+        plan: FileName<'a>,
+        name: Name,
+    },
 }
 
 /// The command that the words are, if they are one.
 fn command_of(words: &[String]) -> Option<Command<'_>>
-    ensures { result ≡ command_of (map string_bytes words.now) }
+    ensures command { result ≡ command_of (map string_bytes words.now) }
+    ensures ranges { IfSome result HasRanges }
 {
     let (name, words) = words.split_first()?;
     match name.as_str() {
@@ -70,6 +79,7 @@ fn command_of(words: &[String]) -> Option<Command<'_>>
         "app" => app::command(words),
         "allocate" => allocate::command(words),
         "check" => check::command(words),
+        "tables" => tables::command(words),
         _ => None,
     }
 }
@@ -103,5 +113,11 @@ fn command_answer<H: Shelf>(alloc: Global, words: &[String], shelf: &mut H) -> R
         Command::App { chip, app } => app::answer(alloc, &chip, &app, shelf),
         Command::Allocate { chip, app } => allocate::answer(alloc, &chip, &app, shelf),
         Command::Check { chip, app, plan } => check::answer(alloc, &chip, &app, &plan, shelf),
+        Command::Tables {
+            chip,
+            app,
+            plan,
+            name,
+        } => tables::answer(alloc, &chip, &app, &plan, &name, shelf),
     }
 }

@@ -9,6 +9,7 @@ mod plans;
 mod program;
 mod status;
 mod text;
+mod uses;
 mod words;
 
 pub use host::start;

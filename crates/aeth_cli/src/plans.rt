@@ -1,4 +1,5 @@
 // Plans that a command judges once it has read them.
+ghost use Rattle.aeth_check.specs.Accepted.{IsAccepted};
 ghost use Rattle.aeth_cli.specs.Job.{not_granted};
 ghost use Rattle.aeth_cli.specs.Places.{Files};
 ghost use Rattle.aeth_cli.specs.Plans.{accepted_plan, broken_text, connection_name, missing_text};
@@ -29,8 +30,9 @@ pub fn accept_plan(
 ) -> Result<(), Stop>
     requires groups { groups.now ≡ groups_of app.now }
     requires plan { IsPlanOf chip.now app.now groups.now plan.now }
-    ensures { (now : Files) → Judges now now (accepted_plan chip.now app.now plan.now)
+    ensures judges { (now : Files) → Judges now now (accepted_plan chip.now app.now plan.now)
         (λ done. done) result }
+    ensures accepted { IfOk result (λ _. IsAccepted chip.now app.now groups.now plan.now) }
 {
     let verdict = check(alloc, chip, app, groups, plan)?;
     match verdict {

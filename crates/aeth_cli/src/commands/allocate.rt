@@ -2,13 +2,14 @@
 ghost use Rattle.aeth_alloc.specs.Allocation.{allocation};
 ghost use Rattle.aeth_alloc.specs.Prices.{prices_of};
 ghost use Rattle.aeth_app.specs.App.{IsAppOf};
+ghost use Rattle.aeth_cli.specs.Commands.{HasRanges};
 ghost use Rattle.aeth_cli.specs.Commands.Allocate.{allocate_command, allocate_task};
 ghost use Rattle.aeth_cli.specs.Commands.Allocate.{allocation_job, refusal_text, refusals_text};
 ghost use Rattle.aeth_cli.specs.Places.{files_of};
 ghost use Rattle.aeth_cli.specs.Stop.{IfAnswer};
 ghost use Rattle.aeth_cli.specs.Task.{IsAnswer};
 ghost use Rattle.aeth_group.specs.Members.{groups_of};
-ghost use Rattle.std.specs.Prelude.{◌≡◌, ◌++◌, IfOk, OnOk, map, string_bytes};
+ghost use Rattle.std.specs.Prelude.{◌≡◌, ◌++◌, IfOk, IfSome, OnOk, map, string_bytes};
 
 use crate::answer::{Answer, Stop};
 use crate::commands::Command;
@@ -27,7 +28,8 @@ use std::alloc::Global;
 
 /// The command of the words CHIP APP.
 pub fn command<'a>(words: &'a [String]) -> Option<Command<'a>>
-    ensures { result ≡ allocate_command (map string_bytes words.now) }
+    ensures command { result ≡ allocate_command (map string_bytes words.now) }
+    ensures ranges { IfSome result HasRanges }
 {
     let [chip, app] = words else {
         return None;

@@ -1,11 +1,12 @@
 // `app CHIP APP`: a summary of an application file, and what its connections need.
+ghost use Rattle.aeth_cli.specs.Commands.{HasRanges};
 ghost use Rattle.aeth_cli.specs.Commands.App.{app_command, app_task, app_text, need_text};
 ghost use Rattle.aeth_cli.specs.Commands.App.{summary_text};
 ghost use Rattle.aeth_cli.specs.Places.{files_of};
 ghost use Rattle.aeth_cli.specs.Stop.{IfAnswer};
 ghost use Rattle.aeth_cli.specs.Task.{IsAnswer};
 ghost use Rattle.aeth_group.specs.Members.{groups_of};
-ghost use Rattle.std.specs.Prelude.{◌≡◌, ◌<◌, ◌++◌, IfOk, OnOk, IfSome, flat_map, length};
+ghost use Rattle.std.specs.Prelude.{◌≡◌, ◌<◌, ◌++◌, IfOk, IfSome, OnOk, IfSome, flat_map, length};
 ghost use Rattle.std.specs.Prelude.{map, slice_get, string_bytes};
 
 use crate::answer::{Answer, Stop};
@@ -21,7 +22,8 @@ use std::alloc::Global;
 
 /// The command of the words CHIP APP.
 pub fn command<'a>(words: &'a [String]) -> Option<Command<'a>>
-    ensures { result ≡ app_command (map string_bytes words.now) }
+    ensures command { result ≡ app_command (map string_bytes words.now) }
+    ensures ranges { IfSome result HasRanges }
 {
     let [chip, app] = words else {
         return None;

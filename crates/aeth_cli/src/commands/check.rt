@@ -1,10 +1,11 @@
 // `check CHIP APP PLAN`: whether a plan is accepted, or the first rule that it breaks.
+ghost use Rattle.aeth_cli.specs.Commands.{HasRanges};
 ghost use Rattle.aeth_cli.specs.Commands.Check.{check_command, check_task, plan_task};
 ghost use Rattle.aeth_cli.specs.Job.{done};
 ghost use Rattle.aeth_cli.specs.Places.{files_of};
 ghost use Rattle.aeth_cli.specs.Stop.{IfAnswer};
 ghost use Rattle.aeth_cli.specs.Task.{IsAnswer};
-ghost use Rattle.std.specs.Prelude.{◌≡◌, IfOk, codes, map, string_bytes};
+ghost use Rattle.std.specs.Prelude.{◌≡◌, IfOk, IfSome, codes, map, string_bytes};
 
 use crate::answer::{Answer, Stop};
 use crate::commands::Command;
@@ -20,7 +21,8 @@ use std::alloc::Global;
 
 /// The command of the words CHIP APP PLAN.
 pub fn command<'a>(words: &'a [String]) -> Option<Command<'a>>
-    ensures { result ≡ check_command (map string_bytes words.now) }
+    ensures command { result ≡ check_command (map string_bytes words.now) }
+    ensures ranges { IfSome result HasRanges }
 {
     let [chip, app, plan] = words else {
         return None;

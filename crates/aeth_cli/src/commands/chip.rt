@@ -1,9 +1,10 @@
 // `chip CHIP`: a summary of a chip file.
+ghost use Rattle.aeth_cli.specs.Commands.{HasRanges};
 ghost use Rattle.aeth_cli.specs.Commands.Chip.{chip_command, chip_task, chip_text};
 ghost use Rattle.aeth_cli.specs.Places.{files_of};
 ghost use Rattle.aeth_cli.specs.Stop.{IfAnswer};
 ghost use Rattle.aeth_cli.specs.Task.{IsAnswer};
-ghost use Rattle.std.specs.Prelude.{◌≡◌, IfOk, map, string_bytes};
+ghost use Rattle.std.specs.Prelude.{◌≡◌, IfOk, IfSome, map, string_bytes};
 
 use crate::answer::{Answer, Stop};
 use crate::commands::Command;
@@ -17,7 +18,8 @@ use std::alloc::Global;
 
 /// The command of the word CHIP.
 pub fn command<'a>(words: &'a [String]) -> Option<Command<'a>>
-    ensures { result ≡ chip_command (map string_bytes words.now) }
+    ensures command { result ≡ chip_command (map string_bytes words.now) }
+    ensures ranges { IfSome result HasRanges }
 {
     let [chip] = words else {
         return None;

@@ -1,8 +1,9 @@
 // `server SIZE NEED LINKS SLOTS`: the rate that a need stands for, the least latency that the slots
 // guarantee at this rate, and the total over a path.
 ghost use Rattle.aeth_base.specs.Limits.{max_path_delay, max_slots};
+ghost use Rattle.aeth_cli.specs.Commands.{HasRanges};
 ghost use Rattle.aeth_cli.specs.Commands.Server.{latency_job, latency_text, server_command};
-ghost use Rattle.std.specs.Prelude.{◌≡◌, ◌≤◌, IfOk, length, map, string_bytes};
+ghost use Rattle.std.specs.Prelude.{◌≡◌, ◌≤◌, IfOk, IfSome, length, map, string_bytes};
 
 use crate::answer::Answer;
 use crate::commands::Command;
@@ -14,7 +15,8 @@ use std::alloc::Global;
 
 /// The command of the words SIZE NEED LINKS SLOTS.
 pub fn command<'a>(words: &'a [String]) -> Option<Command<'a>>
-    ensures { result ≡ server_command (map string_bytes words.now) }
+    ensures command { result ≡ server_command (map string_bytes words.now) }
+    ensures ranges { IfSome result HasRanges }
 {
     let [size, need, links, slots] = words else {
         return None;

@@ -1,6 +1,7 @@
 // `slots SIZE NEED GAP FREE`: the chosen set out of the free slots of a table.
+ghost use Rattle.aeth_cli.specs.Commands.{HasRanges};
 ghost use Rattle.aeth_cli.specs.Commands.Slots.{chosen_job, slots_command};
-ghost use Rattle.std.specs.Prelude.{◌≡◌, ◌≤◌, IfOk, map, string_bytes};
+ghost use Rattle.std.specs.Prelude.{◌≡◌, ◌≤◌, IfOk, IfSome, map, string_bytes};
 
 use crate::answer::Answer;
 use crate::commands::Command;
@@ -15,7 +16,8 @@ const MAX_GAP: u32 = 4096;
 
 /// The command of the words SIZE NEED GAP FREE.
 pub fn command<'a>(words: &'a [String]) -> Option<Command<'a>>
-    ensures { result ≡ slots_command (map string_bytes words.now) }
+    ensures command { result ≡ slots_command (map string_bytes words.now) }
+    ensures ranges { IfSome result HasRanges }
 {
     let [size, need, gap, free] = words else {
         return None;

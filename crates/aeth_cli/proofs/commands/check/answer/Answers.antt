@@ -1,4 +1,3 @@
-use Rattle.std.proofs.Common.{ℕ, List}
 use Rattle.aeth_app.specs.App.{AppData}
 use Rattle.aeth_chip.specs.Chip.{ChipData}
 use Rattle.aeth_cli.specs.Commands.Check.{plan_task}

@@ -54,7 +54,7 @@ returns-in_err-accept_plan g c =
     (plan_task chip app c.args.plan.now) (checked chip app plan) (Err stop)
     (c.in_ok-plan.ensures.judges (checked chip app))
     (IfAnswer-stopped now now (accepted_plan chip app plan) (λ (done : Unit {0}). done) (λ _. said)
-    stop (c.in_err-accept_plan.ensures now)))
+    stop (c.in_err-accept_plan.ensures.judges now)))
 
 -- Memory was wanting for the text.
 pub returns-in_err-accepted : goal.returns-in_err-accepted
@@ -68,5 +68,5 @@ returns g c =
     let now = files_of g.H.Shelf c.read_plan_file.new.shelf in
     let answer = c.in_ok-accepted.field-0 in
     c.in_ok-plan.ensures.judges (checked c.args.chip.now c.args.app.now) now answer
-    (c.in_ok-accept_plan.ensures now (λ _. said) now answer
+    (c.in_ok-accept_plan.ensures.judges now (λ _. said) now answer
     (IsAnswer-done now (codes "accepted\n") answer c.in_ok-accepted.ensures))
