@@ -12,3 +12,5 @@ pub mod Step
 pub mod Switching
 pub mod Whole
 pub mod Listed
+pub mod WirePlaces
+pub mod ChipWires

@@ -1,6 +1,7 @@
 pub mod Fabric
 pub mod Carried
 pub mod Accepted
+pub mod Wiring
 pub mod Components
 pub mod Switches
 pub mod Cycle
