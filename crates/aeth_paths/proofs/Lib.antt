@@ -11,5 +11,7 @@ mod OrderLemmas
 mod CostLemmas
 mod TryLemmas
 mod EndLemmas
+mod NearLemmas
+mod EnterLemmas
 pub mod CandidateLemmas
 pub mod UniqueLemmas

@@ -1,12 +1,14 @@
 // The search over all pairs of a sender and a receiver.
-ghost use Rattle.std.specs.Prelude.{◌≡◌, ◌+◌, ◌≤◌, ◌==◌, [], ℕ, Option, None, IfOk, MatchOption};
-ghost use Rattle.std.specs.Prelude.{sum_by};
+ghost use Rattle.std.specs.Prelude.{◌≡◌, ◌+◌, ◌<◌, ◌≤◌, ◌==◌, [], ◌∷◌, ℕ, List, Option, None};
+ghost use Rattle.std.specs.Prelude.{IfOk, MatchOption, false, length, sum_by};
 ghost use Rattle.std.specs.List.{list_any};
+ghost use Rattle.aeth_base.specs.declared.ids.LinkId.{LinkId};
 ghost use Rattle.aeth_base.specs.declared.ids.NiId.{NiId};
+ghost use Rattle.aeth_chip.specs.Paths.{IsPath};
 ghost use Rattle.aeth_chip.specs.declared.node.Node.{Node};
 ghost use Rattle.aeth_chip.specs.declared.node.Node.TheVariants.{Ni};
 ghost use Rattle.aeth_paths.specs.declared.request.Found.{Found};
-ghost use Rattle.aeth_paths.specs.Candidates.{IsCandidate, IsFirst};
+ghost use Rattle.aeth_paths.specs.Candidates.{IsCandidate, IsFirst, is_live};
 ghost use Rattle.aeth_paths.specs.Open.{AreLeast, all_steps, allowed_steps};
 ghost use Rattle.aeth_paths.specs.Pairs.{IsOffered, OfferedFrom, OfferedTo, Tries};
 ghost use Rattle.aeth_paths.specs.Walk.{IsPrefix, IsTask, costs_of, path_in, priced};
@@ -15,7 +17,7 @@ use crate::cost::Cost;
 use crate::ends::found;
 use crate::request::{Found, Request};
 use crate::search::{Goal, Prefix, Priced, Task, extend};
-use aeth_base::{MAX_PATH_LINKS, NiId, NoMemory, Path, Steps};
+use aeth_base::{LinkId, MAX_PATH_LINKS, NiId, NoMemory, Path, Steps};
 use aeth_book::Book;
 use aeth_chip::{Chip, Distances, Node};
 use std::marker::Brand;
@@ -46,6 +48,31 @@ fn start(task: &Task, ni: NiId) -> Prefix
     }
 }
 
+// The list of one link.
+fn alone(link: LinkId) -> Path
+    ensures { result ≡ link ∷ [] }
+{
+    let mut path = Path::empty();
+    path.push(link);
+    path
+}
+
+// Whether the link on which an interface receives leaves starts that are near enough to each other
+// for some path that ends there.
+fn may_enter(task: &Task, ni: NiId) -> bool
+    requires task { IsTask task.now }
+    requires ni { ni.0 < length task.now.chip.now.nis }
+    ensures { result ≡ false → (a : NiId) (path : List LinkId)
+        → IsPath task.now.book.now.links a ni path
+        → is_live task.now.book.now task.now.ask path ≡ false }
+{
+    let last = alone(task.chip.entering(ni));
+    let free = task.book.free(task.ask.unit, &last);
+
+    // A path's delay is at least 1, so no gap may be greater than the latency.
+    free.suitable(1, task.ask.latency)
+}
+
 // The first of what was best and the candidates between a pair, where it isn't one crowded
 // interface.
 fn try_pair<L: Ledger>(
@@ -71,6 +98,9 @@ fn try_pair<L: Ledger>(
     let Some(distance) = task.far.between(a, b) else {
         return best;
     };
+    if !may_enter(task, b) {
+        return best;
+    }
     let most = (distance as u64 + task.ask.detour as u64).min(MAX_PATH_LINKS as u64) as u32;
     let goal = Goal { ni: b, most };
     extend(task, &goal, &start(task, a), best, MAX_PATH_LINKS, steps)

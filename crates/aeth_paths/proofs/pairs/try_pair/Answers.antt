@@ -14,6 +14,7 @@ use Rattle.aeth_paths.specs.Pairs.{IsOffered, Tries}
 use Rattle.aeth_paths.specs.Search.{completions, first_from}
 use Rattle.aeth_paths.specs.Walk.{costs_of, field_of, path_in}
 use Rattle.aeth_paths.proofs.EndLemmas.{from-inside}
+use Rattle.aeth_paths.proofs.EnterLemmas.{to-inside}
 use Rattle.aeth_paths.proofs.HopelessLemmas.{no-direct}
 use Rattle.aeth_paths.proofs.StepLemmas.{path_in-priced}
 use Rattle.aeth_paths.proofs.TryLemmas.{tries-none, tries-pair}
@@ -40,6 +41,23 @@ returns-in_default-clause-tries g c =
     let far = subst (λ (ls : List Link). IsDistance ls c.args.a c.args.b None)
     (c.requires.task.far ∙ sym c.requires.task.book) c.in_default.ensures.distance in
     far path offered.admissible.is_path)
+
+-- The receiver is an interface of the chip.
+pub may_enter-requires-clause-ni : goal.may_enter-requires-clause-ni
+may_enter-requires-clause-ni g c =
+    let far = subst (λ (ls : List Link). IsDistance ls c.args.a c.args.b (Some c.in-Some.distance))
+    c.requires.task.far c.in-Some.ensures.distance in
+    to-inside c.args.task.now.chip.now c.args.a c.args.b far.path c.requires.task.is_chip far.has
+
+-- No path that ends there is live.
+pub returns-then-not-may_enter-clause-tries : goal.returns-then-not-may_enter-clause-tries
+returns-then-not-may_enter-clause-tries g c =
+    let task = c.args.task.now in
+    tries-none (costs_of task) (path_in c.args.best)
+    (IsOffered task.book.now task.ask c.args.crowded.now c.args.a c.args.b)
+    (λ path offered. both_ways _
+    (c.may_enter.ensures c.if-not-may_enter.true c.args.a path offered.admissible.is_path)
+    offered.live)
 
 -- The sender is an interface of the chip.
 pub extend-requires-clause-node : goal.extend-requires-clause-node
