@@ -117,7 +117,7 @@ def swapped_nearer(places, near, cells):
 
 
 def near_places(routers, near):
-    """Places on a grid that is about square, by some rounds of exchanges from three first orders: the shortest in all."""
+    """Places on a grid that is about square, the shortest in all of some rounds of exchanges from three orders."""
     columns = max(1, round(len(routers) ** 0.5))
     rows = -(-len(routers) // columns)
     cells = [(x, y) for y in range(rows) for x in range(columns)]

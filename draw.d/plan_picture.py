@@ -153,10 +153,11 @@ def reading(chip_map):
     strip = chip_map.strip
     rows = f"in rows of {strip.row} " if strip.rows > 1 else ""
     return (
-        f"Beside each link stands its table: slots 0 to {strip.slots - 1} {rows}from the left, and downwards where it is "
-        "upright. A cell is a slot, in the colour of its connection; it is full for a forward channel and half for a "
-        "back one. The more of a link is in use, the wider its line. The rate is in words in "
-        f"{svg.count(strip.slots, 'cycle')}, the latency in cycles from a word's offer to its landing, the buffer in words."
+        f"Beside each link stands its table: slots 0 to {strip.slots - 1} {rows}from the left, and downwards where "
+        "it is upright. A cell is a slot, in the colour of its connection; it is full for a forward channel and half "
+        "for a back one. The more of a link is in use, the wider its line. The rate is in words in "
+        f"{svg.count(strip.slots, 'cycle')}, the latency in cycles from a word's offer to its landing, the buffer "
+        "in words."
     )
 
 
