@@ -1,6 +1,6 @@
 -- A queue is handed on from stay to stay, and has one owner at a time.
-use Rattle.std.proofs.Common.{◌≡◌, ◌≤◌, ◌<◌, ◌⊎◌, ◌∙◌, ℕ, zero, suc, ◌+◌, List, [], ◌∷◌, Option, Some}
-use Rattle.std.proofs.Common.{None, get_or, slice_get, refl, sym, ap, subst, inl, inr, arith}
+use Rattle.std.proofs.Common.{◌≡◌, ◌≤◌, ◌<◌, ◌⊎◌, ◌∙◌, ℕ, zero, suc, ◌+◌, List, [], ◌∷◌, Option}
+use Rattle.std.proofs.Common.{Some, None, get_or, slice_get, refl, sym, ap, subst, inl, inr, arith}
 use Rattle.std.specs.Prelude.{IfSome}
 use Rattle.std.proofs.lemmas.Bool.{cases_order}
 use Rattle.std.proofs.lemmas.List.Elements.{All-tail}
@@ -9,7 +9,7 @@ use Rattle.aeth_base.specs.declared.ids.Channel.{Channel}
 use Rattle.aeth_group.specs.Members.{GroupsData}
 use Rattle.aeth_trace.specs.Spans.{SpanData}
 use Rattle.aeth_trace.specs.declared.switches.SwitchRow.{SwitchRow}
-use Rattle.aeth_report.specs.Sessions.{Stay, Switch, close_by, go_by, go_of, stays_of}
+use Rattle.aeth_report.specs.Sessions.{Stay, Switch, close_by, go_of, stays_of}
 use Rattle.aeth_report.proofs.SessionMeetings.{in_time}
 use Rattle.aeth_report.proofs.SessionOrder.{stays-after}
 use Rattle.aeth_report.proofs.Stays.{AreKnown, IsKnown}
@@ -18,7 +18,7 @@ use Rattle.aeth_reconf.specs.Rows.{RowOf}
 use Rattle.aeth_reconf.specs.Windows.{AreWritable, AreQueuesApart, IsHandedOn, IsOwned, IsStayAt}
 use Rattle.aeth_reconf.specs.Windows.{clears_from, set_of, since_of}
 use Rattle.aeth_reconf.proofs.OneWritten.{IsBetween, rising}
-use Rattle.aeth_reconf.proofs.StayTurns.{AreInTurn, IsBefore, opened_at, stays-turn}
+use Rattle.aeth_reconf.proofs.StayTurns.{AreInTurn, opened_at, stays-turn}
 
 module _ (groups : GroupsData) (row_of : RowOf) (spans : SpanData) where
   -- When a switch has finished what it closes.
@@ -125,7 +125,8 @@ module _ (groups : GroupsData) (row_of : RowOf) (spans : SpanData) where
                 let own = turns i handed.before s handed.stay before at_s handed.at in
                 let fin = late own.switch own.closing in
                 let early = own.early in
-                let began = began-ends c handed.before handed.stay handed.at handed.switch handed.closing in
+                let began = began-ends c handed.before handed.stay handed.at handed.switch
+                handed.closing in
                 absurd (omega arith)
             | inr behind ↦ absurd (omega arith)
           ]

@@ -1,6 +1,6 @@
 -- Windows: for how long what a switch writes stands in the tables of an interface. The numbers tell
--- after how many cycles' halts, finishes and writes something holds: 0 for what is done before cycle
--- 0, and e + 1 for what is done in cycle e.
+-- after how many cycles' halts, finishes and writes something holds: 0 for what is done before
+-- cycle 0, and e + 1 for what is done in cycle e.
 --
 --   ahead_of      how many writes come before those of a channel
 --   IsClosed, IsOpened      a channel that a switch closes, and one that it opens
@@ -30,7 +30,7 @@ use Rattle.aeth_trace.specs.Spans.{SpanData, span_of}
 use Rattle.aeth_trace.specs.Switches.{are_apart}
 use Rattle.aeth_trace.specs.declared.switches.SwitchRow.{SwitchRow}
 use Rattle.aeth_report.specs.Sessions.{Stay, Switch, close_by, closes, go_of, opens, stays_of}
-use Rattle.aeth_reconf.specs.Rows.{AreApart, RowOf, channels_that, rows_closing, rows_opening}
+use Rattle.aeth_reconf.specs.Rows.{AreApart, RowOf, channels_that, rows_closing, switch_program}
 
 -- How many writes the channels before this one have, in a group.
 abbrev pub ahead_of : RowOf → ℕ → List Channel → Channel → ℕ
@@ -42,8 +42,7 @@ ahead_of row_of group (one ∷ channels) channel =
 -- The spans have a cycle for each write of a switch.
 abbrev pub AreCounted : GroupsData → RowOf → SpanData → Type 0
 AreCounted groups row_of spans = (u v : ℕ) → v < length groups.uses
-    → sum_by write_count (rows_closing groups row_of u v)
-    + sum_by write_count (rows_opening groups row_of u v) ≤ (span_of spans u v).1
+    → length (switch_program groups row_of u v) ≤ (span_of spans u v).1
 
 -- No two channels of any use case have a queue or a slot of an interface in common.
 abbrev pub AreAllApart : GroupsData → RowOf → Type 0
@@ -97,8 +96,8 @@ module _ (spans : SpanData) where
   since_behind None = 0
   since_behind (Some stay) = unwrap_or (option_map clears_from stay.closing) 0
 
-  -- From when on the queue is its own of the stay at a place of a connection's stays: from the start,
-  -- or once the stay before it is finished.
+  -- From when on the queue is its own of the stay at a place of a connection's stays: from the
+  -- start, or once the stay before it is finished.
   abbrev pub since_of : List Stay → ℕ → ℕ
   since_of stays zero = 0
   since_of stays (suc place) = since_behind (slice_get stays place)
@@ -146,8 +145,8 @@ module _ (groups : GroupsData) (row_of : RowOf) (spans : SpanData) where
 
   -- ---- the writes of a switch
 
-  -- The k-th write of a switch is one of those that close a channel, in its cycle: that of the slot at
-  -- place i, or behind its slots that of its route.
+  -- The k-th write of a switch is one of those that close a channel, in its cycle: that of the slot
+  -- at place i, or behind its slots that of its route.
   pub record IsClosingWrite (switch : Switch) (k : ℕ) : Type 0 where
     pub channel : Channel
     pub closed : IsClosed groups switch channel
@@ -155,8 +154,8 @@ module _ (groups : GroupsData) (row_of : RowOf) (spans : SpanData) where
     pub inside : i < write_count (row_of (group_at groups switch.leaves) channel)
     pub time : clears_from spans switch + k ≡ cleared_of channel switch i
 
-  -- It is one of those that open a channel: that of its route where i is 0, or that of the slot at the
-  -- place before i.
+  -- It is one of those that open a channel: that of its route where i is 0, or that of the slot at
+  -- the place before i.
   pub record IsOpeningWrite (switch : Switch) (k : ℕ) : Type 0 where
     pub channel : Channel
     pub opened : IsOpened groups switch channel
@@ -166,8 +165,8 @@ module _ (groups : GroupsData) (row_of : RowOf) (spans : SpanData) where
 
   -- ---- what holds of a stay
 
-  -- The order of the windows of a channel's stay: the route is set before the session goes, this before
-  -- it stops accepting words, and the route is cleared once it has finished.
+  -- The order of the windows of a channel's stay: the route is set before the session goes, which is
+  -- before it stops accepting words, and the route is cleared once it has finished.
   pub record IsInOrder (channel : Channel) (stay : Stay) : Type 0 where
     pub first_set : set_of channel stay.opening ≤ go_of spans stay.opening
     pub then_until : IfSome stay.closing (λ switch.
@@ -198,8 +197,8 @@ module _ (groups : GroupsData) (row_of : RowOf) (spans : SpanData) where
 
   -- ---- rows of switches
 
-  -- Rows that can be written: there is a cycle for each write, each row enters a known use case, and
-  -- none begins before the one before it is done.
+  -- Rows that can be written: there is a cycle for each write, each row enters a known use case,
+  -- and none begins before the one before it is done.
   pub record AreWritable (rows : List SwitchRow) : Type 0 where
     pub counted : AreCounted groups row_of spans
     pub known : All (λ row. row.to.0 < length groups.uses) rows
