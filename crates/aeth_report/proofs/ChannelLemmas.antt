@@ -1,6 +1,6 @@
 -- The channels of an application's connections, and of a log that is regular for it.
 use Rattle.std.proofs.Common.{◌≡◌, ◌<◌, ℕ, List, [], ◌∷◌, Contains, map, sym, ap, inl}
-use Rattle.std.proofs.Common.{inr, arith, ◌&&◌, true, refl}
+use Rattle.std.proofs.Common.{inr, arith, true, refl}
 use Rattle.std.specs.Prelude.{◌==◌}
 use Rattle.std.proofs.lemmas.Bool.{and_from, and_parts, eq-eqb, eqb-true}
 use Rattle.std.specs.List.{All, range_with_len}

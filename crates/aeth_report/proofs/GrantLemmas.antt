@@ -5,8 +5,6 @@ use Rattle.std.proofs.lemmas.Bool.{cases_Bool, and_from, and_parts, eqb-true, eq
 use Rattle.std.specs.Prelude.{◌==◌, IfSome, find, unwrap_or}
 use Rattle.aeth_base.specs.declared.ids.Channel.{Channel}
 use Rattle.aeth_base.specs.declared.ids.LinkId.{LinkId}
-use Rattle.aeth_base.specs.declared.ids.Side.{Side}
-use Rattle.aeth_base.specs.declared.ids.Side.TheVariants.{Fwd, Back}
 use Rattle.aeth_base.proofs.Members.{Contains-here, Contains-there}
 use Rattle.aeth_chip.specs.Paths.{offset}
 use Rattle.aeth_group.specs.Members.{group_at, has_at}

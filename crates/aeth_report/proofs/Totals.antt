@@ -1,9 +1,8 @@
 -- The sums over the log of a run, and the order of its counts.
-use Rattle.std.proofs.Common.{◌≡◌, ◌≤◌, ◌∙◌, ℕ, ◌+◌, ◌*◌, true, cond, List, [], ◌∷◌, Contains}
+use Rattle.std.proofs.Common.{◌≡◌, ◌≤◌, ◌∙◌, ℕ, ◌+◌, ◌*◌, cond, List, [], ◌∷◌, Contains}
 use Rattle.std.proofs.Common.{filter, length, map, refl, sym, ap, subst, arith}
 use Rattle.std.specs.Prelude.{◌==◌, nat_lt, not, sum}
 use Rattle.std.specs.List.{All, count_by, range_with_len, sum_by}
-use Rattle.std.proofs.lemmas.Bool.{and_parts, eqb-true}
 use Rattle.std.proofs.lemmas.List.{length-map}
 use Rattle.std.proofs.lemmas.List.Elements.{All-contains_itself}
 use Rattle.std.proofs.lemmas.List.FromFn.{length-range_with_len}
@@ -14,7 +13,7 @@ use Rattle.aeth_base.proofs.Members.{filter-Contains, map-Contains}
 use Rattle.aeth_server.specs.PrivateServer.{PrivateServer, landed}
 use Rattle.aeth_server.specs.Shape.{HasPaths}
 use Rattle.aeth_server.proofs.PrivateServerLemmas.{has-grown, in-order}
-use Rattle.aeth_trace.specs.Channels.{is_channel, is_side}
+use Rattle.aeth_trace.specs.Channels.{is_channel}
 use Rattle.aeth_trace.specs.Words.{words_on}
 use Rattle.aeth_trace.specs.declared.words.WordRow.{WordRow}
 use Rattle.aeth_report.specs.Carries.{carries}
