@@ -14,3 +14,5 @@ pub mod Whole
 pub mod Listed
 pub mod WirePlaces
 pub mod ChipWires
+pub mod PathWires
+pub mod ChipPaths

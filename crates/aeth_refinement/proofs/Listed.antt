@@ -18,7 +18,7 @@ use Rattle.aeth_refinement.specs.Fabric.{Fabric, flow_at}
 use Rattle.aeth_refinement.proofs.Unique.{one_flit}
 
 -- A number of a range stands at its place.
-place-range : (a n i : ℕ) → i < n → slice_get (range_with_len a n) i ≡ Some (a + i)
+pub place-range : (a n i : ℕ) → i < n → slice_get (range_with_len a n) i ≡ Some (a + i)
 place-range a zero i within = absurd (omega arith)
 place-range a (suc n) zero within = let same : a ≡ a + 0 = omega arith in ap (λ k. Some k) same
 place-range a (suc n) (suc i) within =
