@@ -16,3 +16,4 @@ pub mod WirePlaces
 pub mod ChipWires
 pub mod PathWires
 pub mod ChipPaths
+pub mod LinksCarry

@@ -12,7 +12,7 @@ use Rattle.aeth_refinement.specs.Switches.{Switched}
 use Rattle.aeth_refinement.specs.Cycle.{Cycle}
 use Rattle.aeth_refinement.specs.Components.{Net, after, driven, queue_of, words_for}
 use Rattle.aeth_refinement.specs.Fabric.{Fabric, Owns, flow_at, server_at}
-use Rattle.aeth_refinement.specs.Runs.{Begins, Run}
+use Rattle.aeth_refinement.specs.Runs.{Begins, History}
 use Rattle.aeth_refinement.specs.Standing.{Stands}
 use Rattle.aeth_refinement.proofs.Counts.{returned-sent, room-next}
 use Rattle.aeth_refinement.proofs.Faces.{wires-exact}
@@ -130,7 +130,7 @@ module _ (fabric : Fabric) (ok : IsAccepted fabric) where
         held_none = λ is. begins.held;
       }
 
-  module _ (nets : ℕ → Net) (wires : ℕ → ℕ → Option Flit) (run : Run fabric nets wires) where
+  module _ (nets : ℕ → Net) (wires : ℕ → ℕ → Option Flit) (run : History fabric nets wires) where
     -- A cycle of the run.
     cycle-at : (t : ℕ) → Cycle fabric t (nets t) (wires t) (nets (suc t))
     cycle-at t =

@@ -27,6 +27,6 @@ module _ (fabric : Fabric) where
     pub handed : (c : ℕ) → c < fabric.count → net.handed c ≡ 0
 
   -- A whole run: the components before each cycle, and the wires of each cycle.
-  pub record Run (nets : ℕ → Net) (wires : ℕ → ℕ → Option Flit) : Type 0 where
+  pub record History (nets : ℕ → Net) (wires : ℕ → ℕ → Option Flit) : Type 0 where
     pub begins : Begins (nets 0)
     pub goes : (t : ℕ) → Cycle fabric t (nets t) (wires t) (nets (t + 1))

@@ -6,7 +6,7 @@
 --   start_of, end_of      where a wire starts and ends
 --   only_of      the number of a list that has one
 --   wires_along, links_passed      the wires of a path, and the links before a place of these
---   IsOnChip, IsAlong      a fabric has the wires of a chip, and a session goes along a path
+--   IsOnChip, IsAlong      a fabric has the wires of a chip, and a session goes along its path
 -- Wires behind one another on a link: this project's own.
 use Rattle.std.specs.Prelude.{◌≡◌, ◌≤◌, ◌<◌, ℕ, zero, suc, ◌+◌, ◌-◌, ◌==◌, nat_lt, if◌then◌else◌}
 use Rattle.std.specs.Prelude.{List, [], ◌∷◌, ◌++◌, Option, Some, None, length, map, slice_get}
@@ -117,14 +117,15 @@ links_passed links (link ∷ path) place =
     if nat_lt place (delay_of links link) then 0
     else suc (links_passed links path (place - delay_of links link))
 
--- A session goes along a path from interface to interface, with its route.
-pub record IsAlong (fabric : Fabric) (links : List Link) (c : ℕ) (path : List LinkId) : Type 0 where
+-- A session goes along the path of its flow, from interface to interface, with its route.
+pub record IsAlong (fabric : Fabric) (links : List Link) (c : ℕ) : Type 0 where
   pub from : NiId
   pub to : NiId
-  pub is_path : IsPath links from to path
-  pub fits : length path ≤ max_path_links
+  pub is_path : IsPath links from to (flow_at fabric c).path
+  pub fits : length (flow_at fabric c).path ≤ max_path_links
   pub ni : (fabric.passage c).ni ≡ from.0
   pub end_ni : (fabric.passage (fabric.opposite c)).ni ≡ to.0
-  pub wires : (fabric.passage c).wires ≡ wires_along links path
-  pub hops : (place : ℕ) → (fabric.passage c).hops place ≡ links_passed links path place
-  pub route : (flow_at fabric c).route ≡ route_along links path
+  pub wires : (fabric.passage c).wires ≡ wires_along links (flow_at fabric c).path
+  pub hops : (place : ℕ)
+      → (fabric.passage c).hops place ≡ links_passed links (flow_at fabric c).path place
+  pub route : (flow_at fabric c).route ≡ route_along links (flow_at fabric c).path
