@@ -1,6 +1,8 @@
 -- A session that goes along a path of a chip has a path in a network.
-use Rattle.std.proofs.Common.{◌≡◌, ◌≤◌, ◌<◌, ◌∙◌, ◌⊎◌, ℕ, zero, suc, ◌+◌, ◌-◌, ◌*◌, ◌/◌, ◌%◌, ◌^◌, List, []}
-use Rattle.std.proofs.Common.{◌∷◌, ◌++◌, All, get_or, length, map, drop, Option, Some, None, slice_get, refl, sym}
+use Rattle.std.proofs.Common.{◌≡◌, ◌<◌, ◌∙◌, ◌⊎◌, ℕ, zero, suc, ◌+◌, ◌-◌, ◌*◌, ◌/◌, ◌%◌, ◌^◌}
+use Rattle.std.proofs.Common.{List, []}
+use Rattle.std.proofs.Common.{◌∷◌, ◌++◌, All, get_or, length, map, drop, Option, Some, slice_get}
+use Rattle.std.proofs.Common.{refl, sym}
 use Rattle.std.proofs.Common.{ap, subst, arith, inl, inr}
 use Rattle.std.specs.Prelude.{IsTrue, option_map}
 use Rattle.std.proofs.lemmas.Bool.{cases_lt}
@@ -12,8 +14,7 @@ use Rattle.aeth_base.specs.declared.ids.NiId.{NiId}
 use Rattle.aeth_base.specs.declared.ids.RouterId.{RouterId}
 use Rattle.aeth_chip.specs.Chip.{ChipData, IsChip}
 use Rattle.aeth_chip.specs.Joined.{IsJoined}
-use Rattle.aeth_chip.specs.Limits.{max_ports}
-use Rattle.aeth_chip.specs.Paths.{BeginsAt, IsLinkFrom, IsPath, delay_in, delay_of, ends_of, offset}
+use Rattle.aeth_chip.specs.Paths.{BeginsAt, IsLinkFrom, IsPath, delay_of, offset}
 use Rattle.aeth_chip.specs.Paths.{path_delay, to_in, to_of}
 use Rattle.aeth_chip.specs.Wires.{wire_at}
 use Rattle.aeth_chip.specs.declared.node.Link.{Link}
@@ -29,10 +30,10 @@ use Rattle.aeth_report.specs.Routes.{port_of, route_along}
 use Rattle.aeth_report.proofs.SessionMeetings.{mapped_at}
 use Rattle.aeth_refinement.specs.Accepted.{HasPath, IsRouterPlace, IsStagePlace}
 use Rattle.aeth_refinement.specs.Carried.{IsOnWire, flit_of}
-use Rattle.aeth_refinement.specs.Fabric.{AtInterface, AtRouter, AtStage, Fabric, IsPlace, flow_at}
-use Rattle.aeth_refinement.specs.Wiring.{IsAlong, IsOnChip, IsWireOf, end_at, end_of, links_passed}
-use Rattle.aeth_refinement.specs.Wiring.{start_of, wires_along}
-use Rattle.aeth_refinement.proofs.ChipWires.{HasPort, delay-is, end-inner, end-last, has-port}
+use Rattle.aeth_refinement.specs.Fabric.{AtInterface, AtStage, Fabric, IsPlace, flow_at}
+use Rattle.aeth_refinement.specs.Wiring.{IsAlong, IsOnChip, IsWireOf, end_at, links_passed}
+use Rattle.aeth_refinement.specs.Wiring.{wires_along}
+use Rattle.aeth_refinement.proofs.ChipWires.{delay-is, end-inner, end-last, has-port}
 use Rattle.aeth_refinement.proofs.ChipWires.{one-place, start-first}
 use Rattle.aeth_refinement.proofs.PathWires.{length-along, place-of, there-at}
 use Rattle.aeth_refinement.proofs.WirePlaces.{start-of}
@@ -103,7 +104,8 @@ last-of [] b node (suc i) at last = absurd (omega arith)
 last-of (r ∷ routers) b node zero at last = absurd (omega arith)
 last-of (r ∷ routers) b node (suc i) at last = last-of routers b node i at (omega arith)
 
-module _ (links : List Link) (a b : NiId) (path : List LinkId) (is_path : IsPath links a b path) where
+module _ (links : List Link) (a b : NiId) (path : List LinkId)
+    (is_path : IsPath links a b path) where
   -- There is one link more than there are routers.
   path-length : length path ≡ suc (length is_path.routers)
   path-length =
@@ -126,7 +128,8 @@ module _ (links : List Link) (a b : NiId) (path : List LinkId) (is_path : IsPath
       → (r : RouterId) × (to_of links l ≡ Router r)
   inner-end i l at less =
       let size = path-length in
-      inner-of is_path.routers (Ni b) (to_of links l) i (end-node i l at) (omega (arith, size, less))
+      inner-of is_path.routers (Ni b) (to_of links l) i (end-node i l at)
+      (omega (arith, size, less))
 
   last-end : (i : ℕ) (l : LinkId) → slice_get path i ≡ Some l → suc i ≡ length path
       → to_of links l ≡ Ni b
@@ -190,7 +193,8 @@ module _ (chip : ChipData) (is_chip : IsChip chip) (a b : NiId) (path : List Lin
       slice_get-map (port_of chip.links) (drop 1 path) k
       ∙ ap (λ (o : Option LinkId). option_map (port_of chip.links) o) at in
       ap (λ n. n % 2 ^ port_bits)
-      (route_of-drop k ports ports-fit ∙ ap route_of (drop-slice_get ports k (port_of chip.links m) there))
+      (route_of-drop k ports ports-fit
+      ∙ ap route_of (drop-slice_get ports k (port_of chip.links m) there))
       ∙ route_of-mod (port_of chip.links m) (drop (k + 1) ports) (port-fits k m at)
 
 module _ (chip : ChipData) (is_chip : IsChip chip) (fabric : Fabric)
@@ -321,7 +325,8 @@ module _ (chip : ChipData) (is_chip : IsChip chip) (fabric : Fabric)
         starts = on.start m ∙ start-first chip is_chip m m first
             ∙ ap (λ (n : Node). end_at n) joins.from;
         hops = omega (arith, passed, then);
-        names = ap (λ n. n / 2 ^ (port_bits * (fabric.passage c).hops i) % 2 ^ port_bits) along.route
+        names = ap (λ n. n / 2 ^ (port_bits * (fabric.passage c).hops i) % 2 ^ port_bits)
+            along.route
             ∙ ap (λ n. route_along chip.links path / 2 ^ (port_bits * n) % 2 ^ port_bits) passed
             ∙ digit ∙ ap (λ n. port_of chip.links (record { 0 = n })) same ∙ sym (on.port m);
       }
@@ -408,7 +413,8 @@ module _ (chip : ChipData) (is_chip : IsChip chip) (fabric : Fabric)
   has-path =
       let size = path-length chip.links along.from along.to path along.is_path in
       let id = link-at 0 (omega (arith, size)) in
-      let begins = joined-first chip.links (Ni along.from) path id.0 along.is_path.joins.joined id.1 in
+      let begins =
+      joined-first chip.links (Ni along.from) path id.0 along.is_path.joins.joined id.1 in
       let zero_offset = offset-zero chip.links path in
       let start = standing 0 0 0 id.0 id.1 (delay-of 0 id.0 id.1) (omega (arith, zero_offset)) in
       let some = (have_delays chip is_chip id.0.0 begins.link begins.is).0 in

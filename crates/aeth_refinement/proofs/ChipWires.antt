@@ -1,16 +1,16 @@
 -- The wires of a chip are wired as a network's.
-use Rattle.std.proofs.Common.{◌≡◌, ◌≤◌, ◌<◌, ◌∙◌, ◌⊎◌, ℕ, zero, suc, ◌+◌, ◌-◌, Bool, true, false, cond, List}
-use Rattle.std.proofs.Common.{[], ◌∷◌, length, take, map, Option, Some, None, slice_get, refl, sym, ap, subst}
+use Rattle.std.proofs.Common.{◌≡◌, ◌<◌, ◌∙◌, ◌⊎◌, ℕ, zero, suc, ◌+◌, ◌-◌, Bool, true, false, cond}
+use Rattle.std.proofs.Common.{List}
+use Rattle.std.proofs.Common.{[], ◌∷◌, length, Option, Some, None, slice_get, refl, sym, ap, subst}
 use Rattle.std.proofs.Common.{arith, inl, inr}
 use Rattle.std.specs.Prelude.{◌==◌, option_and_then, option_map, position, unwrap_or}
 use Rattle.std.proofs.lemmas.Bool.{cases_eq, eq-eqb, ne_eqb}
 use Rattle.std.proofs.lemmas.Option.{same_Some, slice_get-map, slice_get_within}
-use Rattle.aeth_base.specs.declared.ids.LinkId.{LinkId}
 use Rattle.aeth_base.specs.declared.ids.NiId.{NiId}
 use Rattle.aeth_base.specs.declared.ids.RouterId.{RouterId}
 use Rattle.aeth_chip.specs.Chip.{ChipData, IsChip, IsNode}
 use Rattle.aeth_chip.specs.Limits.{max_ports}
-use Rattle.aeth_chip.specs.Nodes.{begins_at, ends_at, receives_on, same_node, sender_of, sends_on}
+use Rattle.aeth_chip.specs.Nodes.{begins_at, ends_at, receives_on, same_node, sends_on}
 use Rattle.aeth_chip.specs.Paths.{delay_in, delay_of}
 use Rattle.aeth_chip.specs.Wires.{wire_at}
 use Rattle.aeth_chip.specs.declared.node.Link.{Link}
@@ -19,16 +19,16 @@ use Rattle.aeth_chip.specs.declared.node.Node.TheVariants.{Ni, Router}
 use Rattle.aeth_chip.proofs.NodeLemmas.{length-numbers_from, numbers_from-at, receives_on-found}
 use Rattle.aeth_chip.proofs.NodeLemmas.{same_node-refl}
 use Rattle.aeth_chip.proofs.NodeLemmas.{numbers_from-once, same_node-true, sender_of-found}
-use Rattle.aeth_chip.proofs.WireLemmas.{HaveDelays, have_delays, wire_at-apart}
+use Rattle.aeth_chip.proofs.WireLemmas.{HaveDelays, have_delays}
 use Rattle.aeth_report.proofs.SessionMeetings.{mapped_at}
 use Rattle.aeth_report.specs.Routes.{port_of}
-use Rattle.aeth_router.specs.Router.{entering_wires, last_wire}
+use Rattle.aeth_router.specs.Router.{last_wire}
 use Rattle.aeth_router.proofs.LinkLemmas.{AreDistinctLinks-numbers_from, position-at}
 use Rattle.aeth_refinement.specs.Accepted.{IsWired}
 use Rattle.aeth_refinement.specs.Fabric.{AtInterface, AtRouter, AtStage, Fabric, WireEnd}
-use Rattle.aeth_refinement.specs.Wiring.{IsOnChip, IsWireOf, end_at, end_by, end_in, end_of, from_end}
-use Rattle.aeth_refinement.specs.Wiring.{only_of, start_by, start_in, start_of, to_end, wire_place}
-use Rattle.aeth_refinement.proofs.Routers.{not_both, not_end, not_stage}
+use Rattle.aeth_refinement.specs.Wiring.{IsOnChip, IsWireOf, end_at, end_in, end_of, from_end}
+use Rattle.aeth_refinement.specs.Wiring.{only_of, start_in, start_of, to_end, wire_place}
+use Rattle.aeth_refinement.proofs.Routers.{not_end, not_stage}
 use Rattle.aeth_refinement.proofs.WirePlaces.{end-of, place-wire, start-of, wire-place}
 
 -- ---- Nodes as ends
@@ -66,8 +66,8 @@ record Stands (numbers : List ℕ) (l : ℕ) : Type 0 where
   place : ℕ
   at : slice_get numbers place ≡ Some l
 
-stands-sends : (links : List Link) (l : ℕ) (link : Link) (node : Node) → slice_get links l ≡ Some link
-    → link.from ≡ node → Stands (sends_on node links) l
+stands-sends : (links : List Link) (l : ℕ) (link : Link) (node : Node)
+    → slice_get links l ≡ Some link → link.from ≡ node → Stands (sends_on node links) l
 stands-sends links l link node at is =
     let passes = ap (λ (n : Node). same_node n node) is ∙ same_node-refl node in
     let first : 0 + l ≡ l = omega arith in
@@ -151,15 +151,18 @@ module _ (chip : ChipData) (is_chip : IsChip chip) where
         is = ap (λ n. wire_at links l n) same;
       }
 
-  -- A wire that isn't the last one of its link ends at a stage, and the last one where the link does.
+  -- A wire that isn't the last one of its link ends at a stage, and the last one where the link
+  -- does.
   pub end-inner : (wire l place : ℕ) (of : IsWireOf chip.links wire l place)
       → suc place < of.link.delay → end_of chip.links wire ≡ AtStage wire
   end-inner wire l place of less =
       let delay = delay-is l of.link of.at in
       let differs : (place + 1 == delay_of links (record { 0 = l })) ≡ false =
-      ne_eqb (place + 1) (delay_of links (record { 0 = l })) (λ is. absurd (omega (arith, is, delay, less))) in
+      ne_eqb (place + 1) (delay_of links (record { 0 = l }))
+      (λ is. absurd (omega (arith, is, delay, less))) in
       end-of links delays wire l place of
-      ∙ ap (λ (b : Bool). cond b (to_end (slice_get links l)) (AtStage (wire_at links l place))) differs
+      ∙ ap (λ (b : Bool). cond b (to_end (slice_get links l)) (AtStage (wire_at links l place)))
+      differs
       ∙ ap (λ n. AtStage n) of.is
 
   pub end-last : (wire l place : ℕ) (of : IsWireOf chip.links wire l place)
@@ -169,7 +172,8 @@ module _ (chip : ChipData) (is_chip : IsChip chip) where
       let same : (place + 1 == delay_of links (record { 0 = l })) ≡ true =
       eq-eqb (place + 1) (delay_of links (record { 0 = l })) (omega (arith, delay, last)) in
       end-of links delays wire l place of
-      ∙ ap (λ (b : Bool). cond b (to_end (slice_get links l)) (AtStage (wire_at links l place))) same
+      ∙ ap (λ (b : Bool). cond b (to_end (slice_get links l)) (AtStage (wire_at links l place)))
+      same
       ∙ ap to_end of.at
 
   pub last-end : (l : ℕ) (link : Link) → slice_get chip.links l ≡ Some link
@@ -296,7 +300,10 @@ module _ (chip : ChipData) (is_chip : IsChip chip) where
       → IsRead m l ⊎ ((m ≡ l) × (wire_place chip.links m ≡ None))
   read m l start = elim (known m) [
     | inr none ↦
-        inr (same-stage m l (sym (ap (λ (o : Option (ℕ × ℕ)). start_in links m o) none) ∙ start), none)
+        inr (
+          same-stage m l (sym (ap (λ (o : Option (ℕ × ℕ)). start_in links m o) none) ∙ start),
+          none,
+        )
     | inl one ↦ inl (read-by m l one.l one.place one.of start)
   ]
 
@@ -384,8 +391,10 @@ module _ (chip : ChipData) (is_chip : IsChip chip) where
         (sym (on.start l) ∙ one) in
         let there = first m (AtRouter r) (λ k stage. not_stage r k (AtRouter r) refl stage)
         (sym (on.start m) ∙ two) in
-        let port = has-port l r here.of.link here.of.at (router-end here.of.link.from r here.from) in
-        let also = has-port m r there.of.link there.of.at (router-end there.of.link.from r there.from) in
+        let port =
+        has-port l r here.of.link here.of.at (router-end here.of.link.from r here.from) in
+        let also =
+        has-port m r there.of.link there.of.at (router-end there.of.link.from r there.from) in
         let equal = sym (on.port l) ∙ same ∙ on.port m in
         let sends = sends_on (Router (record { 0 = r })) links in
         same_Some l m (sym port.at ∙ ap (λ k. slice_get sends k) equal ∙ also.at)
@@ -398,11 +407,13 @@ module _ (chip : ChipData) (is_chip : IsChip chip) where
         let router : RouterId = record { 0 = r } in
         let to = router-end is.of.link.to r is.to in
         let there = stands-receives links is.l is.of.link (Router router) is.of.at to in
-        let receives = receives_on (Router router) links in
-        (there.place, ap (λ (ws : List ℕ). slice_get ws there.place) (on.incoming r)
-            ∙ slice_get-map (last_wire links) receives there.place
-            ∙ ap (λ (o : Option ℕ). option_map (last_wire links) o) there.at
-            ∙ ap (λ n. Some n) (last-is l is.l is.place is.of is.last))
+        let receives = receives_on (Router router) links in (
+          there.place,
+          ap (λ (ws : List ℕ). slice_get ws there.place) (on.incoming r)
+              ∙ slice_get-map (last_wire links) receives there.place
+              ∙ ap (λ (o : Option ℕ). option_map (last_wire links) o) there.at
+              ∙ ap (λ n. Some n) (last-is l is.l is.place is.of is.last),
+        )
 
     -- A wire of a router's list is the last one of a link that ends there.
     record IsListed (k l r : ℕ) : Type 0 where

@@ -1,7 +1,8 @@
 -- The wires along a path: what stands at each place.
-use Rattle.std.proofs.Common.{◌≡◌, ◌≤◌, ◌<◌, ◌∙◌, ℕ, zero, suc, ◌+◌, ◌-◌, Bool, cond, List, [], ◌∷◌, ◌++◌}
-use Rattle.std.proofs.Common.{length, map, take, Option, Some, slice_get, refl, sym, ap, arith, inl, inr}
-use Rattle.std.specs.Prelude.{option_map, sum_by}
+use Rattle.std.proofs.Common.{◌≡◌, ◌≤◌, ◌<◌, ◌∙◌, ℕ, zero, suc, ◌+◌, ◌-◌, Bool, cond, List, []}
+use Rattle.std.proofs.Common.{◌∷◌, ◌++◌}
+use Rattle.std.proofs.Common.{length, take, Option, Some, slice_get, refl, sym, ap, arith, inl, inr}
+use Rattle.std.specs.Prelude.{option_map}
 use Rattle.std.specs.List.{range_with_len}
 use Rattle.std.proofs.lemmas.Bool.{cases_lt, le-ltb, lt-ltb}
 use Rattle.std.proofs.lemmas.List.{length-append, length-map}
@@ -71,8 +72,8 @@ module _ (links : List Link) where
     pub offset_is : offset links path number + place ≡ k
     pub passed : links_passed links path k ≡ number
 
-  pub place-of : (path : List LinkId) (k wire : ℕ) → slice_get (wires_along links path) k ≡ Some wire
-      → IsPlaceOf path k wire
+  pub place-of : (path : List LinkId) (k wire : ℕ)
+      → slice_get (wires_along links path) k ≡ Some wire → IsPlaceOf path k wire
   place-of [] k wire at = absurd (cc at)
   place-of (link ∷ path) k wire at =
       let here = length-on link in
@@ -87,14 +88,16 @@ module _ (links : List Link) where
               (sym (get-first (wires_on links link) (wires_along links path) k (omega arith)
               ∙ get-on link k less) ∙ at);
           offset_is = omega arith;
-          passed = ap (λ (b : Bool). cond b 0 (suc (links_passed links path (k - delay_of links link))))
+          passed = ap
+              (λ (b : Bool). cond b 0 (suc (links_passed links path (k - delay_of links link))))
               (lt-ltb k (delay_of links link) less);
         }
         | inr more ↦
             let size : k - length (wires_on links link) ≡ k - delay_of links link = omega arith in
             let later = place-of path (k - delay_of links link) wire
             (ap (λ n. slice_get (wires_along links path) n) (sym size)
-            ∙ sym (get-second (wires_on links link) (wires_along links path) k (omega arith)) ∙ at) in
+            ∙ sym (get-second (wires_on links link) (wires_along links path) k (omega arith))
+            ∙ at) in
             let front = path-more link (take later.number path) in
             record {
               number = suc later.number;

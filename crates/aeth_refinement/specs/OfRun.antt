@@ -6,8 +6,8 @@ use Rattle.aeth_report.specs.Flows.{Flow, Run, flows_of}
 use Rattle.aeth_refinement.specs.Fabric.{Fabric, flow_at}
 use Rattle.aeth_refinement.specs.Wiring.{IsAlong, IsOnChip}
 
--- A fabric has the wires of the run's chip, each of its sessions goes along the path of a flow of the
--- run, and each flow that injects a flit is that of one of its sessions.
+-- A fabric has the wires of the run's chip, each of its sessions goes along the path of a flow of
+-- the run, and each flow that injects a flit is that of one of its sessions.
 pub record IsOfRun (fabric : Fabric) (run : Run) : Type 0 where
   pub chip : IsOnChip fabric run.design.chip.links
   pub along : (c : ℕ) → c < fabric.count → IsAlong fabric run.design.chip.links c

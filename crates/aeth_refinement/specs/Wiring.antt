@@ -60,7 +60,8 @@ abbrev pub to_end : Option Link → WireEnd
 to_end None = AtStage 0
 to_end (Some link) = end_at link.to
 
--- The wire at a place of a link starts where the link begins, or at the stage behind the wire before.
+-- The wire at a place of a link starts where the link begins, or at the stage behind the wire
+-- before.
 abbrev pub start_by : List Link → ℕ → ℕ → WireEnd
 start_by links l zero = from_end (slice_get links l)
 start_by links l (suc place) = AtStage (wire_at links l place)

@@ -108,8 +108,8 @@ pub fn no_flit_is_lost()
         → (arrival : Arrival) × (arrival_of (Some flit) ≡ Some arrival) }
 {}
 
-/// The wires of a chip are wired as a network's, and a session that goes along a path of the chip has a
-/// path over its wires, as many as the path's delay, with a route that fits a header.
+/// The wires of a chip are wired as a network's, and a session that goes along a path of the chip
+/// has a path over its wires, as many as the path's delay, with a route that fits a header.
 pub fn chips_are_wired()
     ensures wires { (chip : ChipData) → IsChip chip → (fabric : Fabric)
         → IsOnChip fabric chip.links → IsWired fabric }
@@ -123,8 +123,9 @@ pub fn chips_are_wired()
         → (flow_at fabric c).route < 2 ^ route_bits }
 {}
 
-/// In a network with the flows of a run the wire so many places behind a link has the one flit that the
-/// link carried as many cycles before, or none; and none where no cycle was so many before.
+/// In a network with the flows of a run the wire so many places behind a link has the one flit
+/// that the link carried as many cycles before, or none; and none where no cycle was so many
+/// before.
 pub fn wires_follow_links()
     ensures later { (run : Run) → IsSound run → IsChip run.design.chip → (fabric : Fabric)
         → IsOfRun fabric run → (t : ℕ) (wires : ℕ → Option Flit) → Exact fabric t wires
