@@ -4,8 +4,7 @@
 --   IsToldSession, IsToldChannel      a session and a channel
 --   AreTold      the channels of so many connections
 --   IsToldLog      a log of so many connections
-use Rattle.std.specs.Prelude.{◌≡◌, ◌≤◌, ℕ, List, All, length, map, sum, sum_by}
-use Rattle.aeth_base.specs.declared.ids.Channel.{Channel}
+use Rattle.std.specs.Prelude.{◌≡◌, ◌≤◌, ℕ, List, All, length, map, sum_by}
 use Rattle.aeth_base.specs.declared.ids.Side.{Side}
 use Rattle.aeth_app.specs.App.{AppData}
 use Rattle.aeth_report.specs.Channels.{channels_of}
