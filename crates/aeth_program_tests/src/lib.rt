@@ -20,4 +20,6 @@ mod rows;
 #[cfg(test)]
 mod runs;
 #[cfg(test)]
+mod tables_tests;
+#[cfg(test)]
 mod video;
