@@ -1,0 +1,156 @@
+-- Laws of what never changes of components.
+use Rattle.std.proofs.Common.{ℕ, ◌≡◌, refl, sym, ◌∙◌, ap, subst, length, map, Bool, arith}
+use Rattle.std.proofs.Common.{List, [], ◌∷◌, get_or, Option, Some, None}
+use Rattle.std.specs.List.{All}
+use Rattle.std.proofs.Common.{◌<◌, zero, suc, slice_get, true}
+use Rattle.std.proofs.lemmas.List.FromFn.{length-map-range_with_len}
+use Rattle.std.proofs.lemmas.Option.{same_Some}
+use Rattle.aeth_clocked.specs.Driven.{driven, is_output}
+use Rattle.aeth_clocked.proofs.DrivenLemmas.{is_output-at}
+use Rattle.aeth_router.specs.Part.{emit_of}
+use Rattle.std.specs.Option.{option_map}
+use Rattle.std.proofs.lemmas.List.{length-map, get_or-map}
+use Rattle.std.proofs.lemmas.Option.{slice_get-map}
+use Rattle.aeth_clocked.specs.Wires.{AreLinks, flit_on}
+use Rattle.aeth_ni.proofs.InterfaceLemmas.{length-with_queue}
+use Rattle.aeth_clocked.specs.Driven.{AreDisjoint}
+use Rattle.aeth_clocked.specs.declared.flit.Flit.{Flit}
+use Rattle.aeth_router.specs.declared.part.Part.{Part}
+use Rattle.aeth_router.specs.declared.part.Part.TheVariants.{Interface, Router, Stage}
+use Rattle.aeth_router.specs.Part.{absorb_of, after_of, inputs_of, outputs_of}
+use Rattle.aeth_components.specs.Components.{wires_driven}
+use Rattle.aeth_components.specs.Frames.{Frame, InterfaceFrame, IsWired, frame_of, receives_by}
+use Rattle.aeth_components.specs.Frames.{sends_by}
+use Rattle.aeth_ni.specs.Component.{Arrival, arrival_of, flit_sent_by, landed_at, queue_at_cycle}
+use Rattle.aeth_ni.specs.Interface.{InterfaceState, changed, with_queue}
+use Rattle.aeth_ni.specs.Queue.{QueueState, flit_landed}
+use Rattle.aeth_ni.specs.Sending.{flit_sent}
+
+-- What holds of all that a list is mapped to.
+All-from_map : {X Y : Type 0} (f : X → Y) (P : Y → Type 0) (xs : List X) → All P (map f xs) →
+    All (λ x. P (f x)) xs
+All-from_map f P xs all place default within =
+    subst P (get_or-map f xs place default (f default) within)
+    (all place (f default) (let size = length-map xs f in omega arith))
+
+-- The outputs of a component are those of its frame, and so are its inputs.
+outputs_of-frame : (part : Part) (link : ℕ) → outputs_of part link ≡ sends_by (frame_of part) link
+outputs_of-frame (Interface ni) link = refl
+outputs_of-frame (Router router) link = refl
+outputs_of-frame (Stage stage) link = refl
+
+inputs_of-frame : (part : Part) (link : ℕ) →
+    inputs_of part link ≡ receives_by (frame_of part) link
+inputs_of-frame (Interface ni) link = refl
+inputs_of-frame (Router router) link = refl
+inputs_of-frame (Stage stage) link = refl
+
+module _ (links : Part → ℕ → Bool) (kinds : Frame → ℕ → Bool)
+    (same : (part : Part) (link : ℕ) → links part link ≡ kinds (frame_of part) link) where
+  -- Where the links of all frames are links, so are those of the components.
+  AreLinks-frames : (parts : List Part) (count : ℕ) →
+      All (λ frame. AreLinks (kinds frame) count) (map frame_of parts) →
+      All (λ part. AreLinks (links part) count) parts
+  AreLinks-frames parts count all place default within link is =
+      All-from_map frame_of (λ frame. AreLinks (kinds frame) count) parts all place default within
+      link (sym (same (get_or parts place default) link) ∙ is)
+
+  -- Where frames have no link in common, the components have none.
+  AreDisjoint-frames : (parts : List Part) →
+      AreDisjoint kinds (map frame_of parts) → AreDisjoint links parts
+  AreDisjoint-frames parts disjoint i j link part other at there is is_too =
+      disjoint i j link (frame_of part) (frame_of other)
+      (slice_get-map frame_of parts i ∙ ap (option_map frame_of) at)
+      (slice_get-map frame_of parts j ∙ ap (option_map frame_of) there)
+      (sym (same part link) ∙ is) (sym (same other link) ∙ is_too)
+
+-- What the frames of a network keep of its components.
+module _ (parts : List Part) (count : ℕ) (wired : IsWired (map frame_of parts) count) where
+  pub AreLinks-outputs : All (λ part. AreLinks (outputs_of part) count) parts
+  AreLinks-outputs = AreLinks-frames outputs_of sends_by outputs_of-frame parts count wired.outputs
+
+  pub AreLinks-inputs : All (λ part. AreLinks (inputs_of part) count) parts
+  AreLinks-inputs = AreLinks-frames inputs_of receives_by inputs_of-frame parts count wired.inputs
+
+  pub AreDisjoint-parts : AreDisjoint outputs_of parts
+  AreDisjoint-parts =
+      AreDisjoint-frames outputs_of sends_by outputs_of-frame parts wired.disjoint
+
+-- How many wires are driven.
+pub length-wires_driven : (parts : List Part) (count cycle : ℕ)
+    → length (wires_driven parts count cycle) ≡ count
+length-wires_driven parts count cycle =
+    length-map-range_with_len (driven outputs_of emit_of parts cycle) 0 count
+
+-- An item of a mapped list is that of an item.
+pub from-map : {X Y : Type 0} (f : X → Y) (xs : List X) (i : ℕ) (y : Y)
+    → slice_get (map f xs) i ≡ Some y → (x : X) × (slice_get xs i ≡ Some x) × (y ≡ f x)
+from-map f [] i y at = absurd cc
+from-map f (x ∷ xs) zero y at = (x, refl, sym (same_Some (f x) y at))
+from-map f (x ∷ xs) (suc i) y at = from-map f xs i y at
+
+-- On each wire some component sends.
+pub is_output-parts : (parts : List Part) (count : ℕ) → IsWired (map frame_of parts) count
+    → (wire : ℕ) → wire < count → is_output outputs_of parts wire ≡ true
+is_output-parts parts count wired wire within =
+    let owner = wired.owned wire within in
+    let part = from-map frame_of parts owner.0 owner.1 owner.2 in
+    is_output-at outputs_of parts owner.0 wire part.0 part.1
+    (outputs_of-frame part.0 wire ∙ ap (λ (frame : Frame). sends_by frame wire) (sym part.2)
+    ∙ owner.3)
+
+-- An interface with other queues, and as many, has the same frame.
+frame_of-queues : (ni : InterfaceState) (queues : List QueueState) →
+    length queues ≡ length ni.queues →
+    frame_of (Interface (record ni { queues = queues })) ≡ frame_of (Interface ni)
+frame_of-queues ni queues same =
+    ap (InterfaceFrame ni.number ni.leaving ni.entering (length ni.entries)) same
+
+pub frame_of-changed : (queue : ℕ) (change : QueueState → QueueState) (ni : InterfaceState) →
+    frame_of (Interface (changed queue change ni)) ≡ frame_of (Interface ni)
+frame_of-changed queue change ni =
+    frame_of-queues ni (with_queue queue change ni.queues)
+    (length-with_queue queue change ni.queues)
+
+-- Emitting changes no frame, nor does latching.
+length-flit_sent_by : (entry : Option ℕ) (queues : List QueueState) →
+    length (flit_sent_by entry queues) ≡ length queues
+length-flit_sent_by None queues = refl
+length-flit_sent_by (Some queue) queues = length-with_queue queue flit_sent queues
+
+frame_of-after : (part : Part) (cycle : ℕ) → frame_of (after_of part cycle) ≡ frame_of part
+frame_of-after (Interface ni) cycle =
+    frame_of-queues ni (flit_sent_by (queue_at_cycle ni.entries cycle) ni.queues)
+    (length-flit_sent_by (queue_at_cycle ni.entries cycle) ni.queues)
+frame_of-after (Router router) cycle = refl
+frame_of-after (Stage stage) cycle = refl
+
+length-landed_at : (arrival : Option Arrival) (queues : List QueueState) →
+    length (landed_at arrival queues) ≡ length queues
+length-landed_at None queues = refl
+length-landed_at (Some arrival) queues =
+    length-with_queue arrival.header.queue (flit_landed arrival.header.credits arrival.words) queues
+
+frame_of-absorb : (part : Part) (wires : List (Option Flit)) →
+    frame_of (absorb_of part wires) ≡ frame_of part
+frame_of-absorb (Interface ni) wires =
+    let arrival = arrival_of (flit_on wires ni.entering.0) in
+    frame_of-queues ni (landed_at arrival ni.queues) (length-landed_at arrival ni.queues)
+frame_of-absorb (Router router) wires = refl
+frame_of-absorb (Stage stage) wires = refl
+
+-- A change of all components that keeps each frame keeps the frames.
+frames-map : (change : Part → Part) → ((part : Part) → frame_of (change part) ≡ frame_of part) →
+    (parts : List Part) → map frame_of (map change parts) ≡ map frame_of parts
+frames-map change kept [] = refl
+frames-map change kept (part ∷ parts) = rw (kept part, frames-map change kept parts) refl
+
+pub frames-after : (parts : List Part) (cycle : ℕ) →
+    map frame_of (map (λ part. after_of part cycle) parts) ≡ map frame_of parts
+frames-after parts cycle =
+    frames-map (λ part. after_of part cycle) (λ part. frame_of-after part cycle) parts
+
+pub frames-absorb : (parts : List Part) (wires : List (Option Flit)) →
+    map frame_of (map (λ part. absorb_of part wires) parts) ≡ map frame_of parts
+frames-absorb parts wires =
+    frames-map (λ part. absorb_of part wires) (λ part. frame_of-absorb part wires) parts

@@ -1,0 +1,11 @@
+use Rattle.std.proofs.Common.{◌≡◌, ◌++◌, drop, fold, map, take}
+use Rattle.aeth_components.proofs.counting.count.Given as goal
+use Rattle.aeth_components.specs.Counting.{counted, noted}
+
+-- The channels so far are counted.
+abbrev pub invariant-loop-number : goal.invariant-loop-number
+invariant-loop-number l = record {
+  lanes : l.lanes
+      ≡ map (counted l.cycle l.parts) (take l.number l.fn.lanes) ++ drop l.number l.fn.lanes;
+  landings : l.landings ≡ fold (noted l.cycle l.parts) l.fn.landings (take l.number l.fn.lanes);
+}

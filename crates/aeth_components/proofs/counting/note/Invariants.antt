@@ -1,0 +1,7 @@
+use Rattle.std.proofs.Common.{◌≡◌}
+use Rattle.aeth_components.proofs.counting.note.Given as goal
+use Rattle.aeth_components.specs.Counting.{written_over}
+
+-- The places so far are written.
+abbrev pub invariant-loop-place : goal.invariant-loop-place
+invariant-loop-place l = l.landings ≡ written_over l.place l.from l.cycle l.fn.landings

@@ -1,0 +1,6 @@
+use Rattle.aeth_components.proofs.laws.queues_in_numbers.Goals as goal
+use Rattle.aeth_components.proofs.QueueLemmas.{drawn-is}
+
+-- What is there, at most.
+pub returns : goal.returns
+returns c = λ times queue within. drawn-is times queue within

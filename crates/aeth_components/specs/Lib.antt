@@ -1,0 +1,13 @@
+pub mod Alone
+pub mod Changes
+pub mod Components
+pub mod Counting
+pub mod Events
+pub mod Frames
+pub mod Lanes
+pub mod Laws
+pub mod Making
+pub mod Phases
+pub mod Queues
+pub mod Switching
+pub mod View

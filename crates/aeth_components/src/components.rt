@@ -1,0 +1,209 @@
+// The components of a network and the channels' sessions.
+
+ghost use Rattle.std.specs.Prelude.{◌≡◌, ◌≤◌, ◌<◌, ◌*◌, ◌+◌, All, IfOk, IfSome, None, length, map};
+ghost use Rattle.std.specs.Prelude.{replicate, slice_get, slice_set};
+ghost use Rattle.aeth_base.specs.Limits.{max_cycles};
+ghost use Rattle.aeth_ni.specs.Limits.{queues_of_interface};
+ghost use Rattle.aeth_components.specs.Changes.{switched};
+ghost use Rattle.aeth_components.specs.Components.{Cycle, IsComponents, components_of, first_components};
+ghost use Rattle.aeth_components.specs.Components.{Runs, frames_of, part_count};
+ghost use Rattle.aeth_components.specs.Events.{IsDoable};
+ghost use Rattle.aeth_components.specs.Frames.{IsWired, frame_of};
+ghost use Rattle.aeth_components.specs.Lanes.{IsLane, with_lane};
+
+use crate::counting::{count, tally};
+use crate::cycle::{drive, latch};
+use crate::event::Event;
+use crate::lane::Lane;
+use crate::making::parts_of;
+use crate::phases::{refill, switch, take};
+use aeth_base::NoMemory;
+use aeth_chip::Chip;
+use aeth_clocked::{Order, Wires};
+use aeth_router::Part;
+use std::alloc::Global;
+use std::marker::Model;
+
+/// The components of a network, its wires, the session of each channel, and what a log is made of:
+/// the cycle in which each word landed, and the flits on each link. It knows nothing of what should
+/// come out.
+#[derive(Debug, Drop)]
+pub struct Components {
+    parts: Vec<Part>,
+    wires: Wires,
+    lanes: Vec<Lane>,
+    words: Vec<u32>,
+    landings: Vec<u32>,
+    flits: Vec<u32>,
+}
+
+impl Model for Components {
+    ghost use Rattle.aeth_components.specs.Components.{ComponentsState, IsComponents, components_of};
+
+    ghost Value = { ComponentsState };
+
+    ghost view = { λ all. components_of all.parts.items all.wires all.lanes.items all.words.items
+        all.landings.items all.flits.items };
+
+    ghost invariant = { λ all. IsComponents (components_of all.parts.items all.wires
+        all.lanes.items all.words.items all.landings.items all.flits.items) };
+}
+
+impl Components {
+    /// The components of a chip, none of which holds anything, with empty wires. `rooms` has for
+    /// each of the 32 queues of each interface the words that its receive queue has room for.
+    /// `lanes` has for each channel its first session, and `words` the words of all sessions of the
+    /// run.
+    ///
+    /// Later calls take no memory.
+    pub fn new(
+        alloc: Global,
+        chip: &Chip,
+        rooms: &[u32],
+        lanes: Vec<Lane>,
+        words: Vec<u32>,
+    ) -> Result<Components, NoMemory>
+        requires rooms { length rooms.now ≡ queues_of_interface * length chip.now.nis }
+        requires lanes { All (IsLane (length words.items) (part_count chip.now)) lanes.items }
+        ensures { IfOk result (λ made. made
+            ≡ first_components chip.now rooms.now lanes.items words.items) }
+    {
+        let _ = chip.slots();
+        let parts = parts_of(alloc, chip, rooms)?;
+        let wires = Wires::new(alloc, chip.wires())?;
+        let landings = vec![in alloc; 0; words.len()]?;
+        let flits = vec![in alloc; 0; chip.links() as usize]?;
+        Ok(Components {
+            parts,
+            wires,
+            lanes,
+            words,
+            landings,
+            flits,
+        })
+    }
+
+    /// The number of components: those that take a turn.
+    pub fn len(&self) -> usize
+        ensures { result ≡ length self.now.parts }
+    {
+        self.parts.len()
+    }
+
+    /// The wires, as the last cycle drove them.
+    pub fn wires(&self) -> &Wires
+        ensures { result.now ≡ self.now.wires }
+    {
+        &self.wires
+    }
+
+    /// The channels, each with its session of the time.
+    pub fn lanes(&self) -> &[Lane]
+        ensures { result.now ≡ self.now.lanes }
+    {
+        &self.lanes
+    }
+
+    /// For each word that has landed the cycle in which it did, and 0 for each other.
+    pub fn landings(&self) -> &[u32]
+        ensures { result.now ≡ self.now.landings }
+    {
+        &self.landings
+    }
+
+    /// For each link the number of cycles in which its first wire carried a flit.
+    pub fn flits(&self) -> &[u32]
+        ensures { result.now ≡ self.now.flits }
+    {
+        &self.flits
+    }
+
+    /// A channel has another session from now on.
+    pub fn load(&mut self, channel: usize, lane: Lane)
+        requires channel { channel < length self.old.lanes }
+        requires lane { IsLane (length self.old.words) (length self.old.parts) lane }
+        ensures { self.new ≡ record self.old { lanes = slice_set self.old.lanes channel lane } }
+    {
+        self.lanes[channel] = lane;
+    }
+
+    /// So many words of a channel's session are accepted.
+    pub fn accept(&mut self, channel: usize, accepted: u32)
+        requires channel { channel < length self.old.lanes }
+        requires handed { IfSome (slice_get self.old.lanes channel)
+            (λ now. (now.handed ≤ accepted) × (now.first + accepted ≤ length self.old.words)) }
+        ensures { self.new ≡ record self.old {
+          lanes = with_lane channel (λ now. record now { accepted = accepted }) self.old.lanes;
+        } }
+    {
+        let mut lane = self.lanes[channel];
+        lane.accepted = accepted;
+        self.load(channel, lane);
+    }
+
+    /// A channel's receiver takes so many words in a cycle, at most.
+    pub fn set_pull(&mut self, channel: usize, pull: u32)
+        requires { channel < length self.old.lanes }
+        ensures { self.new ≡ record self.old {
+          lanes = with_lane channel (λ now. record now { pull = pull }) self.old.lanes;
+        } }
+    {
+        let mut lane = self.lanes[channel];
+        lane.pull = pull;
+        self.load(channel, lane);
+    }
+
+    /// Events before the first cycle.
+    pub fn prepare(&mut self, events: &[Event])
+        requires { All (IsDoable (frames_of self.old)) events.now }
+        ensures { self.new ≡ record self.old { parts = switched events.now self.old.parts } }
+    {
+        switch(&mut self.parts, events);
+    }
+
+    /// One cycle. It takes no memory and can't fail, and every order gives the same.
+    pub fn step(&mut self, order: &Order, cycle: u32, events: &[Event])
+        requires order { length order.now ≡ length self.old.parts }
+        requires cycle { cycle < max_cycles }
+        requires events { All (IsDoable (frames_of self.old)) events.now }
+        ensures { Cycle events.now cycle self.old self.new }
+    {
+        run(
+            &mut self.parts,
+            &mut self.wires,
+            &mut self.lanes,
+            &self.words,
+            order,
+            cycle,
+            events,
+        );
+        count(&self.parts, &mut self.lanes, &mut self.landings, cycle);
+        tally(&mut self.flits, &self.wires);
+    }
+}
+
+// One cycle of components, wires and channels, but for what is counted.
+fn run(
+    parts: &mut [Part],
+    wires: &mut Wires,
+    lanes: &mut [Lane],
+    words: &[u32],
+    order: &Order,
+    cycle: u32,
+    events: &[Event],
+)
+    requires wired { IsWired (map frame_of parts.old) (length wires.old) }
+    requires lanes { All (IsLane (length words.now) (length parts.old)) lanes.old }
+    requires order { length order.now ≡ length parts.old }
+    requires events { All (IsDoable (map frame_of parts.old)) events.now }
+    ensures runs { Runs words.now events.now cycle wires.old wires.new
+        (record { parts = parts.old; lanes = lanes.old })
+        (record { parts = parts.new; lanes = lanes.new }) }
+    ensures lanes { All (IsLane (length words.now) (length parts.new)) lanes.new }
+{
+    switch(parts, events);
+    refill(parts, lanes, words, cycle);
+    drive(parts, order, cycle, wires);
+    take(parts, lanes, words, cycle);
+    latch(parts, order, wires);
+}

@@ -1,0 +1,62 @@
+// What is counted behind a cycle: the words that have landed, and the flits on links.
+
+ghost use Rattle.std.specs.Prelude.{◌≡◌, ◌<◌, ◌≤◌, ◌+◌, ◌^◌, All, fold, length, map};
+ghost use Rattle.aeth_components.specs.Counting.{counted, flits_counted, noted, written_over};
+ghost use Rattle.aeth_components.specs.Lanes.{IsLane};
+
+use crate::lane::Lane;
+use crate::parts::brought;
+use aeth_base::LinkId;
+use aeth_clocked::Wires;
+use aeth_router::Part;
+
+// Counts what has landed, and notes the cycle.
+pub(crate) fn count(parts: &[Part], lanes: &mut [Lane], landings: &mut [u32], cycle: u32)
+    requires cycle { cycle + 1 < 2 ^ 32 }
+    requires lanes { All (IsLane (length landings.old) (length parts.now)) lanes.old }
+    ensures lanes { lanes.new ≡ map (counted cycle parts.now) lanes.old }
+    ensures landings { landings.new ≡ fold (noted cycle parts.now) landings.old lanes.old }
+{
+    for number in 0..lanes.len() {
+        count_one(parts, &mut lanes[number], landings, cycle);
+    }
+}
+
+// Counts what has landed of one channel.
+fn count_one(parts: &[Part], lane: &mut Lane, landings: &mut [u32], cycle: u32)
+    requires cycle { cycle + 1 < 2 ^ 32 }
+    requires lane { IsLane (length landings.old) (length parts.now) lane.old }
+    ensures lane { lane.new ≡ counted cycle parts.now lane.old }
+    ensures landings { landings.new ≡ noted cycle parts.now landings.old lane.old }
+{
+    if lane.landed < lane.handed && lane.is_open(cycle) {
+        let part = &parts[lane.receiver.ni.0 as usize];
+        let words = brought(part, lane.receiver.queue).min(lane.handed - lane.landed);
+        let from = lane.first as usize + lane.landed as usize;
+        note(landings, from, words, cycle + 1);
+        lane.landed += words;
+    }
+}
+
+// Notes a cycle at so many places.
+fn note(landings: &mut [u32], from: usize, count: u32, cycle: u32)
+    requires { from + count ≤ length landings.old }
+    ensures { landings.new ≡ written_over count from cycle landings.old }
+{
+    for place in 0..count as usize {
+        landings[from + place] = cycle;
+    }
+}
+
+// Counts one flit more of each link whose first wire carries one.
+pub(crate) fn tally(flits: &mut [u32], wires: &Wires)
+    requires wires { length flits.old ≤ length wires.now }
+    requires few { length flits.old < 2 ^ 32 }
+    ensures { flits.new ≡ flits_counted wires.now flits.old }
+{
+    for link in 0..flits.len() {
+        if wires.get(LinkId(link as u32)).is_some() {
+            flits[link] = flits[link].saturating_add(1);
+        }
+    }
+}

@@ -1,0 +1,40 @@
+// What the phases do to a channel and its queue by itself.
+
+ghost use Rattle.std.specs.Prelude.{◌≡◌, ◌≤◌, ◌+◌, ℕ, List, drop, length, min};
+ghost use Rattle.aeth_ni.specs.Limits.{max_count};
+ghost use Rattle.aeth_ni.specs.Queue.{QueueState, capped};
+ghost use Rattle.aeth_router.specs.declared.part.Part.{Part};
+ghost use Rattle.aeth_components.specs.Laws.{NotesAlone, RefillsAlone, TakesAlone};
+ghost use Rattle.aeth_components.specs.Phases.{Moment};
+ghost use Rattle.aeth_components.specs.Queues.{drawn};
+ghost use Rattle.aeth_components.specs.Switching.{SwitchesAlone, WritesAlone};
+ghost use Rattle.aeth_components.specs.declared.event.Event.{Event};
+ghost use Rattle.aeth_components.specs.declared.lane.Lane.{Lane};
+
+/// In its turn a channel hands words on, and takes them, as it would alone.
+pub fn turns_are_taken_alone()
+    ensures refilling { (words : List ℕ) (cycle : ℕ) (moment : Moment)
+        → RefillsAlone words cycle moment }
+    ensures taking { (cycle : ℕ) (moment : Moment) → TakesAlone cycle moment }
+{}
+
+/// An event changes its own queue alone, or writes its own slot alone.
+pub fn events_change_their_own()
+    ensures queues { (events : List Event) (parts : List Part) → SwitchesAlone events parts }
+    ensures slots { (events : List Event) (parts : List Part) → WritesAlone events parts }
+{}
+
+/// What is taken from a receive queue, in numbers.
+pub fn queues_in_numbers()
+    ensures { (times : ℕ) (queue : QueueState) → queue.owed ≤ max_count
+        → drawn times queue ≡ record queue {
+          received = drop times queue.received;
+          owed = capped (queue.owed + min times (length queue.received));
+        } }
+{}
+
+/// The cycles in which a channel's words land are noted at the places of its own words alone.
+pub fn landings_are_noted_alone()
+    ensures { (cycle : ℕ) (parts : List Part) (lanes : List Lane) (landings : List ℕ)
+        → NotesAlone cycle parts lanes landings }
+{}

@@ -1,0 +1,62 @@
+// What is done at one queue of a component, where this is an interface.
+
+ghost use Rattle.std.specs.Prelude.{◌≡◌, ◌<◌, ◌≤◌, ◌^◌, length};
+ghost use Rattle.aeth_ni.specs.Interface.{changed};
+ghost use Rattle.aeth_ni.specs.Limits.{queues_of_interface};
+ghost use Rattle.aeth_components.specs.Changes.{event_done, on_interface, told_by};
+ghost use Rattle.aeth_components.specs.Events.{Suits};
+ghost use Rattle.aeth_components.specs.Frames.{frame_of};
+ghost use Rattle.aeth_components.specs.Queues.{brought_by, draws, drawn, filled, fits};
+
+use crate::event::Event;
+use crate::queues;
+use aeth_router::Part;
+
+// Does an event; a router or a stage has none to do.
+pub(crate) fn meet(part: &mut Part, event: &Event)
+    requires { Suits event.now (frame_of part.old) }
+    ensures { part.new ≡ on_interface (event_done event.now) part.old }
+{
+    match part {
+        Part::Interface(ni) => queues::meet(ni, event),
+        _ => {}
+    }
+}
+
+// Hands words to a source queue, and gives how many; a router or a stage takes none.
+pub(crate) fn hand(part: &mut Part, queue: u8, words: &[u32]) -> u32
+    requires queue { queue < queues_of_interface }
+    requires few { length words.now < 2 ^ 32 }
+    ensures count { result ≡ told_by queue (fits words.now) part.old }
+    ensures within { result ≤ length words.now }
+    ensures part { part.new ≡ on_interface (changed queue (filled words.now)) part.old }
+{
+    match part {
+        Part::Interface(ni) => queues::hand(ni, queue, words),
+        _ => 0,
+    }
+}
+
+// Takes words out of a receive queue, at most so many, and gives how many; a router or a stage has
+// none.
+pub(crate) fn draw(part: &mut Part, queue: u8, pull: u32) -> u32
+    requires { queue < queues_of_interface }
+    ensures count { result ≡ told_by queue (draws pull) part.old }
+    ensures within { result ≤ pull }
+    ensures part { part.new ≡ on_interface (changed queue (drawn pull)) part.old }
+{
+    match part {
+        Part::Interface(ni) => queues::draw(ni, queue, pull),
+        _ => 0,
+    }
+}
+
+// How many words the last flit brought to a queue; none to a router's or a stage's.
+pub(crate) fn brought(part: &Part, queue: u8) -> u32
+    ensures { result ≡ brought_by queue part.now }
+{
+    match part {
+        Part::Interface(ni) => queues::brought(ni, queue),
+        _ => 0,
+    }
+}

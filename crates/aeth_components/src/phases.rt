@@ -1,0 +1,74 @@
+// The phases of a cycle that change single components: switching, refilling, and taking.
+
+ghost use Rattle.std.specs.Prelude.{◌≡◌, ◌<◌, ◌^◌, All, length, map};
+ghost use Rattle.aeth_components.specs.Changes.{switched};
+ghost use Rattle.aeth_components.specs.Events.{IsDoable};
+ghost use Rattle.aeth_components.specs.Frames.{frame_of};
+ghost use Rattle.aeth_components.specs.Lanes.{IsLane};
+ghost use Rattle.aeth_components.specs.Phases.{in_turn, pulled, refilled};
+
+use crate::event::Event;
+use crate::lane::Lane;
+use crate::parts::{draw, hand, meet};
+use aeth_router::Part;
+
+// Does the events of a cycle, one after the other.
+pub(crate) fn switch(parts: &mut [Part], events: &[Event])
+    requires { All (IsDoable (map frame_of parts.old)) events.now }
+    ensures { parts.new ≡ switched events.now parts.old }
+{
+    for event in events {
+        let part = &mut parts[event.part() as usize];
+        meet(part, event);
+    }
+}
+
+// Each channel in its turn hands its accepted words to its source queue.
+pub(crate) fn refill(parts: &mut [Part], lanes: &mut [Lane], words: &[u32], cycle: u32)
+    requires { All (IsLane (length words.now) (length parts.old)) lanes.old }
+    ensures { record { parts = parts.new; lanes = lanes.new }
+        ≡ in_turn (refilled words.now cycle)
+        (record { parts = parts.old; lanes = lanes.old }) }
+{
+    for number in 0..lanes.len() {
+        refill_one(parts, &mut lanes[number], words, cycle);
+    }
+}
+
+// One channel hands its accepted words on.
+fn refill_one(parts: &mut [Part], lane: &mut Lane, words: &[u32], cycle: u32)
+    requires { IsLane (length words.now) (length parts.old) lane.old }
+    ensures { (parts.new, lane.new) ≡ refilled words.now cycle parts.old lane.old }
+{
+    if lane.handed < lane.accepted && lane.is_open(cycle) {
+        let first = lane.first as usize;
+        let from = first + lane.handed as usize;
+        let left = &words[from..first + lane.accepted as usize];
+        let part = &mut parts[lane.sender.ni.0 as usize];
+        lane.handed += hand(part, lane.sender.queue, left);
+    }
+}
+
+// Each receiver in its turn takes.
+pub(crate) fn take(parts: &mut [Part], lanes: &mut [Lane], words: &[u32], cycle: u32)
+    requires { All (IsLane (length words.now) (length parts.old)) lanes.old }
+    ensures { record { parts = parts.new; lanes = lanes.new }
+        ≡ in_turn (pulled cycle)
+        (record { parts = parts.old; lanes = lanes.old }) }
+{
+    for number in 0..lanes.len() {
+        take_one(parts, &mut lanes[number], words, cycle);
+    }
+}
+
+// One receiver takes.
+fn take_one(parts: &mut [Part], lane: &mut Lane, words: &[u32], cycle: u32)
+    requires { IsLane (length words.now) (length parts.old) lane.old }
+    ensures { (parts.new, lane.new) ≡ pulled cycle parts.old lane.old }
+{
+    if lane.taken < lane.landed && lane.is_open(cycle) {
+        let pull = lane.pull.min(lane.landed - lane.taken);
+        let part = &mut parts[lane.receiver.ni.0 as usize];
+        lane.taken += draw(part, lane.receiver.queue, pull);
+    }
+}
