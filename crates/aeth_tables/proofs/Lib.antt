@@ -1,14 +1,14 @@
-mod ListLaws
+pub mod ListLaws
 mod FindLaws
 mod FoundGrants
 pub mod SentLinks
 pub mod PortLaws
 mod CreditNeeds
 pub mod ShapeRanges
-mod ReservedLaws
+pub mod ReservedLaws
 mod PlaceLaws
 pub mod UseLaws
-mod ApartLaws
+pub mod ApartLaws
 mod SlotLaws
 pub mod PromiseLaws
 pub mod DesignLaws

@@ -1,7 +1,7 @@
 -- The connections of a use case, each with the seats of its cores and the grants of its two sides.
 --
 --   line_of, unit_in, is_in, grant_of, AreFound      the seats of cores, and the grants of units
---   granted_of, granted_in      a connection with seats and grants, and those of a use case
+--   Granted, granted_of, granted_in      a connection with seats and grants, and those of a use case
 --   other_side, sending_seat, receiving_seat, grant_on      the two sides of such a connection
 --   channels_with, channels_of      the channels of a use case
 -- Connections with a channel each way: after Æthereal (2005). Seats: this project's own.
@@ -44,7 +44,11 @@ abbrev pub AreFound : ℕ → Side → List Grant → List (Option Grant) → Ty
 AreFound group side grants found = (conn : ℕ) → conn < length found
     → slice_get found conn ≡ Some (grant_of grants side (unit_in group conn))
 
--- A connection with its seats and grants, where it has all of them.
+-- A connection with its seats and grants.
+abbrev pub Granted : Type 0
+Granted = GrantedConnection
+
+-- It, where the connection has all of them.
 abbrev pub granted_with : ℕ → Connection → Option SeatLine → Option SeatLine → Option Grant
     → Option Grant → Option GrantedConnection
 granted_with conn connection (Some from) (Some to) (Some fwd) (Some back) = Some (record {
