@@ -1,0 +1,4 @@
+pub mod PathPlaces
+pub mod GivenGrants
+pub mod SoundRuns
+pub mod TableFlows

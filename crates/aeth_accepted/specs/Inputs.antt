@@ -1,0 +1,94 @@
+-- The inputs of a run as they are accepted: a plan for a chip and an application, and traces that were
+-- read for them.
+--
+--   Inputs, AreAccepted      the inputs, and what holds of accepted ones
+--   design_of, run_of      the design of a plan, and the run of inputs
+--   row_at      the row of a channel in a group
+--   IsTabled      a flow has what a row says
+-- This project's own.
+use Rattle.std.specs.Prelude.{◌≡◌, ◌≤◌, ℕ, List}
+use Rattle.aeth_base.specs.Limits.{max_cycles}
+use Rattle.aeth_base.specs.declared.ids.Channel.{Channel}
+use Rattle.aeth_server.specs.Shape.{buffer_of}
+use Rattle.aeth_chip.specs.Chip.{ChipData}
+use Rattle.aeth_app.specs.App.{AppData, IsAppOf}
+use Rattle.aeth_group.specs.Members.{groups_of}
+use Rattle.aeth_plan.specs.Plan.{PlanData}
+use Rattle.aeth_ni.specs.declared.row.ChannelRow.{ChannelRow}
+use Rattle.aeth_trace.specs.Receivers.{AreReceiversOf}
+use Rattle.aeth_trace.specs.Switches.{AreSwitchesOf}
+use Rattle.aeth_trace.specs.Words.{AreWordsOf}
+use Rattle.aeth_trace.specs.declared.receivers.PullRow.{PullRow}
+use Rattle.aeth_trace.specs.declared.switches.SwitchRow.{SwitchRow}
+use Rattle.aeth_trace.specs.declared.words.WordRow.{WordRow}
+use Rattle.aeth_report.specs.Channels.{sender}
+use Rattle.aeth_report.specs.Design.{Design, connection_at, grant_at, queue_at, remote_at, seat_at}
+use Rattle.aeth_report.specs.Design.{shape_at}
+use Rattle.aeth_report.specs.Flows.{Flow, Run}
+use Rattle.aeth_report.specs.Routes.{route_along}
+use Rattle.aeth_tables.specs.Reserved.{IsDesign}
+use Rattle.aeth_tables.specs.Switching.{spans_of}
+
+-- A chip, an application and a plan, the rows of the three traces, and the number of cycles.
+pub record Inputs : Type 0 where
+  pub chip : ChipData
+  pub app : AppData
+  pub plan : PlanData
+  pub words : List WordRow
+  pub pulls : List PullRow
+  pub switches : List SwitchRow
+  pub cycles : ℕ
+
+-- The design of a plan: with its seats and its grants.
+abbrev pub design_of : Inputs → Design
+design_of inputs = record {
+  chip = inputs.chip;
+  app = inputs.app;
+  groups = groups_of inputs.app;
+  seats = inputs.plan.seats;
+  grants = inputs.plan.grants;
+}
+
+-- The run of inputs: by the plan's design, with switches that take what the plan says.
+abbrev pub run_of : Inputs → Run
+run_of inputs = record {
+  design = design_of inputs;
+  spans = spans_of inputs.chip inputs.app (groups_of inputs.app) inputs.plan;
+  words = inputs.words;
+  pulls = inputs.pulls;
+  switches = inputs.switches;
+  cycles = inputs.cycles;
+}
+
+-- Accepted inputs: the plan is accepted for the chip and the application, each trace was read for the
+-- application, the switches with the plan's spans, and the run isn't too long.
+pub record AreAccepted (inputs : Inputs) : Type 0 where
+  pub design : IsDesign inputs.chip inputs.app inputs.plan
+  pub of_chip : IsAppOf inputs.chip inputs.app
+  pub words : AreWordsOf inputs.app inputs.words
+  pub pulls : AreReceiversOf inputs.app inputs.pulls
+  pub switches : AreSwitchesOf inputs.app (run_of inputs).spans inputs.switches
+  pub cycles : inputs.cycles ≤ max_cycles
+
+-- The row of a channel in a group, by which it is in the tables of its interface.
+abbrev pub row_at : Design → ℕ → Channel → ChannelRow
+row_at design group channel =
+    let core = sender (connection_at design channel.conn) channel.side in
+    let grant = grant_at design channel group in
+    record {
+      channel = channel;
+      ni = (seat_at design core).ni;
+      queue = queue_at design core channel.conn;
+      slots = grant.slots;
+      route = route_along design.chip.links grant.path;
+      remote = remote_at design channel;
+      credits = buffer_of (shape_at design channel group);
+    }
+
+-- A flow is what a row of the tables says: it has the row's route, lands in the row's remote queue, and
+-- is served in the row's slots with the row's credits as its buffer.
+pub record IsTabled (row : ChannelRow) (flow : Flow) : Type 0 where
+  pub route : flow.route ≡ row.route
+  pub remote : flow.remote ≡ row.remote
+  pub slots : flow.server.shape.slots ≡ row.slots.slots
+  pub buffer : flow.server.buffer ≡ row.credits

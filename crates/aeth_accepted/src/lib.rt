@@ -1,0 +1,4 @@
+//! What accepted inputs give: a run that is sound, whose channels keep what the tables print.
+#![tactic(auto)]
+
+pub mod laws;
