@@ -1,7 +1,7 @@
 -- Routes that stand written at one time are of connections that are together, and where their rows
 -- meet they are of one stay; so are slots.
-use Rattle.std.proofs.Common.{◌≡◌, ◌≤◌, ◌<◌, ℕ, ◌+◌, List, [], ◌∷◌, Option, Some, None, length, sym}
-use Rattle.std.proofs.Common.{subst, inr, arith}
+use Rattle.std.proofs.Common.{◌≡◌, ◌≤◌, ◌<◌, ℕ, ◌+◌, List, [], ◌∷◌, Option, Some, None, length, sym, subst}
+use Rattle.std.proofs.Common.{inr, arith}
 use Rattle.std.specs.Prelude.{IfSome}
 use Rattle.std.proofs.lemmas.List.Elements.{All-head, All-tail}
 use Rattle.std.proofs.lemmas.Option.{slice_get_within}
@@ -15,36 +15,36 @@ use Rattle.aeth_report.proofs.StayMeetings.{AreRising, Covers, Meet, stays_meet}
 use Rattle.aeth_report.proofs.Stays.{AreKnown, IsClosedBy, IsKnown, stays_of-is, switch_of}
 use Rattle.aeth_report.proofs.StaysAlone.{at-Contains, stays_alone}
 use Rattle.aeth_reconf.specs.Rows.{Meets, RowOf}
-use Rattle.aeth_reconf.specs.Windows.{AreAllApart, AreBothWritten, AreCounted, AreWritable}
-use Rattle.aeth_reconf.specs.Windows.{IsSlotWritten, IsStayAt, IsWritten, cleared_of, clears_from, freed_of}
+use Rattle.aeth_reconf.specs.Windows.{AreAllApart, AreBothWritten, AreCounted, AreWritable, IsStayAt}
+use Rattle.aeth_reconf.specs.Windows.{IsSlotWritten, IsWritten, cleared_of, clears_from, freed_of}
 use Rattle.aeth_reconf.specs.Windows.{set_of, sets_from}
 use Rattle.aeth_reconf.proofs.WindowLemmas.{closing-within, slots_in_order}
-use Rattle.aeth_reconf.proofs.WriteCounts.{counted-all}
 
 module _ (groups : GroupsData) (spans : SpanData) where
   -- ---- what is read of switches rises
 
-  -- It is between the finish of what a switch closes and the go of what it opens, each a cycle
-  -- later.
+  -- It is between the finish of what a switch closes and the go of what it opens, each a cycle later.
   pub record IsBetween (bound : Switch → ℕ) : Type 0 where
     pub finished : (switch : Switch) → clears_from spans switch ≤ bound switch
-    pub going : (switch : Switch) → switch.row.to.0 < length groups.uses
+    pub going : (switch : Switch) → switch.leaves < length groups.uses
+        → switch.row.to.0 < length groups.uses
         → bound switch ≤ go_by spans switch + 1
 
   -- So it rises over rows in time.
   pub rising : (bound : Switch → ℕ) → IsBetween bound → (u low before : ℕ) (rows : List SwitchRow)
-      → AreKnown groups rows → before ≤ low + 1 → AreInTime spans u low rows
+      → u < length groups.uses → AreKnown groups rows → before ≤ low + 1 → AreInTime spans u low rows
       → AreRising groups bound u before rows
-  rising bound between u low before [] known le times = tt
-  rising bound between u low before (row ∷ rows) known le times =
+  rising bound between u low before [] inside known le times = tt
+  rising bound between u low before (row ∷ rows) inside known le times =
       let first = times.0 in
       let switch = switch_of u row in
       let finished = between.finished switch in
-      let going = between.going switch (All-head (IsKnown groups) row rows known) in
+      let next : row.to.0 < length groups.uses = All-head (IsKnown groups) row rows known in
+      let going = between.going switch inside next in
       let later : AreKnown groups rows = All-tail (IsKnown groups) row rows known in (
         omega arith,
-        rising bound between row.to.0 (go_by spans switch) (bound switch) rows later (omega arith)
-            times.1,
+        rising bound between row.to.0 (go_by spans switch) (bound switch) rows next later
+            (omega arith) times.1,
       )
 
 module _ (groups : GroupsData) (row_of : RowOf) (spans : SpanData) where
@@ -57,9 +57,8 @@ module _ (groups : GroupsData) (row_of : RowOf) (spans : SpanData) where
   begins-between : AreCounted groups row_of spans → IsBetween groups spans begins
   begins-between counted = record {
     finished = λ switch. omega arith;
-    going = λ switch known.
-        let room = counted-all groups row_of spans counted switch.leaves switch.row.to.0 known in
-        omega arith;
+    going = λ switch left known.
+        let room = counted switch.leaves switch.row.to.0 left known in omega arith;
   }
 
   -- A stay whose route stands written covers the time, by what switches set.
@@ -80,8 +79,7 @@ module _ (groups : GroupsData) (row_of : RowOf) (spans : SpanData) where
       → IfSome o (λ switch. t < begins switch) = elim [
         | None ↦ λ none free. tt
         | Some switch ↦ λ closer free.
-            let within =
-            closing-within groups row_of spans channel s.group switch is.known closer in
+            let within = closing-within groups row_of spans channel s.group switch is.known closer in
             omega arith
       ] in
       record {
@@ -99,8 +97,9 @@ module _ (groups : GroupsData) (row_of : RowOf) (spans : SpanData) where
       let all = first ∷ rows in
       let later : AreKnown groups rows = All-tail (IsKnown groups) first rows may.known in
       stays_meet groups begins rows first.to.0 0 one.conn.0 other.conn.0 None None t
-      (rising groups spans begins (begins-between may.counted) first.to.0 0 0 rows later
-      (omega arith) (in_time spans first.to.0 0 2 rows may.apart)) s e
+      (rising groups spans begins (begins-between may.counted) first.to.0 0 0 rows
+      (All-head (IsKnown groups) first rows may.known) later (omega arith)
+      (in_time spans first.to.0 0 2 rows may.apart)) s e
       (at-Contains (stays_of groups one.conn.0 all) i s both.first.at)
       (at-Contains (stays_of groups other.conn.0 all) j e both.second.at)
       (written-covers all may.known one i s both.first t both.written)
@@ -115,8 +114,9 @@ module _ (groups : GroupsData) (row_of : RowOf) (spans : SpanData) where
       let all = first ∷ rows in
       let later : AreKnown groups rows = All-tail (IsKnown groups) first rows may.known in
       stays_alone groups begins channel.conn.0 rows None first.to.0 0 t
-      (rising groups spans begins (begins-between may.counted) first.to.0 0 0 rows later
-      (omega arith) (in_time spans first.to.0 0 2 rows may.apart)) i j s e both.first.at both.second.at
+      (rising groups spans begins (begins-between may.counted) first.to.0 0 0 rows
+      (All-head (IsKnown groups) first rows may.known) later (omega arith)
+      (in_time spans first.to.0 0 2 rows may.apart)) i j s e both.first.at both.second.at
       (written-covers all may.known channel i s both.first t both.written)
       (written-covers all may.known channel j e both.second t both.written_too)
 
@@ -135,8 +135,7 @@ module _ (groups : GroupsData) (row_of : RowOf) (spans : SpanData) where
       (subst (λ (g : ℕ). Meets (row_of g one) (row_of g other)) (sym group) there) in (
         same,
         written_alone rows may other i j s e t
-            (subst (λ (ch : Channel). AreBothWritten groups row_of spans rows ch other i j s e t)
-            same
+            (subst (λ (ch : Channel). AreBothWritten groups row_of spans rows ch other i j s e t) same
             both),
       )
 

@@ -1,24 +1,24 @@
 -- A queue is handed on from stay to stay, and has one owner at a time.
-use Rattle.std.proofs.Common.{◌≡◌, ◌≤◌, ◌<◌, ◌⊎◌, ◌∙◌, ℕ, zero, suc, ◌+◌, List, [], ◌∷◌, Option}
-use Rattle.std.proofs.Common.{Some, None, get_or, slice_get, refl, sym, ap, subst, inl, inr, arith}
+use Rattle.std.proofs.Common.{◌≡◌, ◌≤◌, ◌<◌, ◌⊎◌, ◌∙◌, ℕ, zero, suc, ◌+◌, List, [], ◌∷◌, Option, Some}
+use Rattle.std.proofs.Common.{None, get_or, slice_get, refl, sym, ap, subst, inl, inr, arith}
 use Rattle.std.specs.Prelude.{IfSome}
 use Rattle.std.proofs.lemmas.Bool.{cases_order}
-use Rattle.std.proofs.lemmas.List.Elements.{All-tail}
+use Rattle.std.proofs.lemmas.List.Elements.{All-head, All-tail}
 use Rattle.std.proofs.lemmas.Option.{same_Some, slice_get-get_or, slice_get_within}
 use Rattle.aeth_base.specs.declared.ids.Channel.{Channel}
 use Rattle.aeth_group.specs.Members.{GroupsData}
 use Rattle.aeth_trace.specs.Spans.{SpanData}
 use Rattle.aeth_trace.specs.declared.switches.SwitchRow.{SwitchRow}
-use Rattle.aeth_report.specs.Sessions.{Stay, Switch, close_by, go_of, stays_of}
+use Rattle.aeth_report.specs.Sessions.{Stay, Switch, close_by, go_by, go_of, stays_of}
 use Rattle.aeth_report.proofs.SessionMeetings.{in_time}
 use Rattle.aeth_report.proofs.SessionOrder.{stays-after}
-use Rattle.aeth_report.proofs.Stays.{AreKnown, IsKnown}
+use Rattle.aeth_report.proofs.Stays.{AreKnown, IsKnown, stays_of-is}
 use Rattle.aeth_report.proofs.StaysAlone.{at-Contains}
 use Rattle.aeth_reconf.specs.Rows.{RowOf}
 use Rattle.aeth_reconf.specs.Windows.{AreWritable, AreQueuesApart, IsHandedOn, IsOwned, IsStayAt}
 use Rattle.aeth_reconf.specs.Windows.{clears_from, set_of, since_of}
 use Rattle.aeth_reconf.proofs.OneWritten.{IsBetween, rising}
-use Rattle.aeth_reconf.proofs.StayTurns.{AreInTurn, opened_at, stays-turn}
+use Rattle.aeth_reconf.proofs.StayTurns.{AreInTurn, IsBefore, opened_at, stays-turn}
 
 module _ (groups : GroupsData) (row_of : RowOf) (spans : SpanData) where
   -- When a switch has finished what it closes.
@@ -28,7 +28,7 @@ module _ (groups : GroupsData) (row_of : RowOf) (spans : SpanData) where
   ends-between : IsBetween groups spans ends
   ends-between = record {
     finished = λ switch. omega arith;
-    going = λ switch known. omega arith;
+    going = λ switch left known. omega arith;
   }
 
   -- When the switch that opens a stay has finished what it closes.
@@ -42,7 +42,8 @@ module _ (groups : GroupsData) (row_of : RowOf) (spans : SpanData) where
   in_turn (first ∷ rows) may c =
       let later : AreKnown groups rows = All-tail (IsKnown groups) first rows may.known in
       stays-turn groups ends c first rows 0
-      (rising groups spans ends ends-between first.to.0 0 0 rows later (omega arith)
+      (rising groups spans ends ends-between first.to.0 0 0 rows
+      (All-head (IsKnown groups) first rows may.known) later (omega arith)
       (in_time spans first.to.0 0 2 rows may.apart))
 
   -- The queue is handed on to a later stay, whose switch has finished by then too.
@@ -125,22 +126,27 @@ module _ (groups : GroupsData) (row_of : RowOf) (spans : SpanData) where
                 let own = turns i handed.before s handed.stay before at_s handed.at in
                 let fin = late own.switch own.closing in
                 let early = own.early in
-                let began = began-ends c handed.before handed.stay handed.at handed.switch
-                handed.closing in
+                let began = began-ends c handed.before handed.stay handed.at handed.switch handed.closing in
                 absurd (omega arith)
             | inr behind ↦ absurd (omega arith)
           ]
         ]
 
     -- So one stay alone has the queue at a time, where it is one channel's.
-    pub owned_one : AreQueuesApart row_of → (one other : Channel) (i j : ℕ) (s e : Stay)
+    pub owned_one : AreQueuesApart groups row_of → (one other : Channel) (i j : ℕ) (s e : Stay)
         → IsStayAt groups rows one i s → IsStayAt groups rows other j e → (t : ℕ)
         → IsOwned spans (stays_of groups one.conn.0 rows) i s t
         → IsOwned spans (stays_of groups other.conn.0 rows) j e t
         → (row_of s.group one).ni ≡ (row_of e.group other).ni
         → (row_of s.group one).queue ≡ (row_of e.group other).queue → (one ≡ other) × (i ≡ j)
     owned_one own one other i j s e is_s is_e t owned_s owned_e ni queue =
-        let same = own s.group e.group one other ni queue in
+        let is_one = stays_of-is groups one.conn.0 rows s may.known
+        (at-Contains (stays_of groups one.conn.0 rows) i s is_s.at) in
+        let is_other = stays_of-is groups other.conn.0 rows e may.known
+        (at-Contains (stays_of groups other.conn.0 rows) j e is_e.at) in
+        let same = own is_one.use_case is_other.use_case one other is_one.has is_other.has
+        (rw (is_one.in_group, is_other.in_group) ni)
+        (rw (is_one.in_group, is_other.in_group) queue) in
         let stays = λ (ch : Channel). stays_of groups ch.conn.0 rows in
         let c = other.conn.0 in
         let at_s : slice_get (stays other) i ≡ Some s =

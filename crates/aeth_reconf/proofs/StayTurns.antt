@@ -1,6 +1,6 @@
 -- The stays of a connection come one after the other, whatever is read of a switch.
-use Rattle.std.proofs.Common.{◌≡◌, ◌≤◌, ◌<◌, ◌∙◌, ℕ, Bool, cond, List, [], ◌∷◌, Contains, Option}
-use Rattle.std.proofs.Common.{Some, None, slice_get, ap, subst, inl, inr, arith}
+use Rattle.std.proofs.Common.{◌≡◌, ◌≤◌, ◌<◌, ◌∙◌, ℕ, Bool, cond, List, [], ◌∷◌, Contains, Option, Some}
+use Rattle.std.proofs.Common.{None, slice_get, ap, subst, inl, inr, arith}
 use Rattle.std.specs.Prelude.{not}
 use Rattle.std.proofs.lemmas.Bool.{and_right, both_ways, cases_Bool, not_from_true}
 use Rattle.aeth_base.proofs.Members.{Contains-nil}

@@ -1,6 +1,6 @@
 -- The windows of stays: their order.
-use Rattle.std.proofs.Common.{◌≡◌, ◌≤◌, ◌<◌, ◌+◌, ℕ, Bool, true, List, [], ◌∷◌, Contains}
-use Rattle.std.proofs.Common.{Option, Some, None, filter, length, refl, ap, subst, inl, inr, arith}
+use Rattle.std.proofs.Common.{◌≡◌, ◌≤◌, ◌<◌, ◌∙◌, ◌+◌, ℕ, Bool, true, List, [], ◌∷◌, Contains, Option}
+use Rattle.std.proofs.Common.{Some, None, filter, length, refl, ap, subst, inl, inr, arith}
 use Rattle.std.specs.Prelude.{IfSome, IsTrue, sum_by}
 use Rattle.std.specs.List.{range_with_len}
 use Rattle.std.proofs.lemmas.List.Elements.{All-head, All-tail}
@@ -8,8 +8,8 @@ use Rattle.aeth_base.specs.declared.ids.Channel.{Channel}
 use Rattle.aeth_base.specs.declared.ids.ConnId.{ConnId}
 use Rattle.aeth_base.specs.declared.ids.Side.{Side}
 use Rattle.aeth_base.specs.declared.ids.Side.TheVariants.{Back, Fwd}
-use Rattle.aeth_base.proofs.Members.{Contains-filter, Contains-flat_map, Contains-here}
-use Rattle.aeth_base.proofs.Members.{Contains-nil, Contains-there}
+use Rattle.aeth_base.proofs.Members.{Contains-filter, Contains-flat_map, Contains-here, Contains-nil}
+use Rattle.aeth_base.proofs.Members.{Contains-there}
 use Rattle.aeth_base.proofs.Ranges.{Contains-range}
 use Rattle.aeth_group.specs.Members.{GroupsData, group_at, has_at}
 use Rattle.aeth_ni.specs.Program.{write_count}
@@ -24,7 +24,7 @@ use Rattle.aeth_report.proofs.StaysAlone.{at-Contains}
 use Rattle.aeth_reconf.specs.Rows.{RowOf, channels_that, rows_closing, rows_opening}
 use Rattle.aeth_reconf.specs.Windows.{AreWritable, IsInOrder, IsSlotInOrder, IsStayAt, cleared_of}
 use Rattle.aeth_reconf.specs.Windows.{closing_ahead, freed_of, opening_ahead, set_of, slot_set_of}
-use Rattle.aeth_reconf.proofs.WriteCounts.{ahead_of-within, counted-all}
+use Rattle.aeth_reconf.proofs.WriteCounts.{ahead_of-within}
 
 -- A channel is one of its connection's.
 channels_with-has : (conn : ConnId) (side : Side)
@@ -48,29 +48,32 @@ module _ (groups : GroupsData) where
       (Contains-filter test range channel.conn.0 inside passes)
       (channels_with-has channel.conn channel.side)
 
-  -- What opens a stay of a group: a switch to a known use case of that group that opens the
-  -- connection.
+  -- What opens a stay of a group: a switch from a known use case to one of that group that opens
+  -- the connection.
   pub record IsOpenedBy (c group : ℕ) (switch : Switch) : Type 0 where
+    pub left : switch.leaves < length groups.uses
     pub known : switch.row.to.0 < length groups.uses
     pub is_opened : IsTrue (opens groups switch.leaves switch.row.to.0 c)
     pub in_group : group_at groups switch.row.to.0 ≡ group
 
   -- So each stay is opened that rows open.
-  behind-opened : (c : ℕ) (rows : List SwitchRow) (u : ℕ) (s : Stay) → AreKnown groups rows
+  behind-opened : (c : ℕ) (rows : List SwitchRow) (u : ℕ) (s : Stay)
+      → u < length groups.uses → AreKnown groups rows
       → Contains (stays_behind groups c u rows) s → IfSome s.opening (IsOpenedBy c s.group)
-  behind-opened c [] u s known has = Contains-nil has
-  behind-opened c (row ∷ rows) u s known has =
+  behind-opened c [] u s inside known has = Contains-nil has
+  behind-opened c (row ∷ rows) u s inside known has =
       let v = row.to.0 in
       let opening = Some (switch_of u row) in
       let behind = stays_behind groups c v rows in
       let later : AreKnown groups rows = All-tail (IsKnown groups) row rows known in
       elim (stay_with-cases groups c (opens groups u v c) opening v rows behind s has) [
         | inl here ↦ subst (λ (x : Stay). IfSome x.opening (IsOpenedBy c x.group)) here.1 (record {
+          left = inside;
           known = All-head (IsKnown groups) row rows known;
           is_opened = here.0;
           in_group = refl;
         })
-        | inr there ↦ behind-opened c rows v s later there
+        | inr there ↦ behind-opened c rows v s (All-head (IsKnown groups) row rows known) later there
       ]
 
   -- And so each of a list of switches that isn't loaded before cycle 0.
@@ -83,7 +86,7 @@ module _ (groups : GroupsData) where
       let later : AreKnown groups rows = All-tail (IsKnown groups) first rows known in
       elim (stay_with-cases groups c (has_at groups u c) None u rows behind s has) [
         | inl here ↦ subst (λ (x : Stay). IfSome x.opening (IsOpenedBy c x.group)) here.1 tt
-        | inr there ↦ behind-opened c rows u s later there
+        | inr there ↦ behind-opened c rows u s (All-head (IsKnown groups) first rows known) later there
       ]
 
   module _ (row_of : RowOf) (spans : SpanData) where
@@ -101,8 +104,7 @@ module _ (groups : GroupsData) where
     closing-within channel group switch known closed =
         let test = closes groups switch.leaves switch.row.to.0 in
         let within = ahead_of-within row_of (group_at groups switch.leaves)
-        (channels_that groups test) channel
-        (channels_that-has test channel known closed.is_closed) in
+        (channels_that groups test) channel (channels_that-has test channel known closed.is_closed) in
         let same : writes_in (group_at groups switch.leaves) channel ≡ writes_in group channel =
         ap (λ (g : ℕ). writes_in g channel) closed.in_group in
         omega arith
@@ -122,8 +124,8 @@ module _ (groups : GroupsData) where
 
     -- ---- the order of a stay's windows
 
-    module _ (rows : List SwitchRow) (may : AreWritable groups row_of spans rows)
-        (channel : Channel) (place : ℕ) (s : Stay) (is : IsStayAt groups rows channel place s) where
+    module _ (rows : List SwitchRow) (may : AreWritable groups row_of spans rows) (channel : Channel)
+        (place : ℕ) (s : Stay) (is : IsStayAt groups rows channel place s) where
       -- What opens and closes the stay.
       opened_by : IfSome s.opening (IsOpenedBy channel.conn.0 s.group)
       opened_by =
@@ -139,13 +141,12 @@ module _ (groups : GroupsData) where
             | None ↦ λ none. omega arith
             | Some switch ↦ λ opener.
                 let within = opening-within channel s.group switch is.known opener in
-                let room = counted-all groups row_of spans may.counted switch.leaves switch.row.to.0
+                let room = may.counted switch.leaves switch.row.to.0 opener.left
                 opener.known in
                 omega arith
           ] in
           let frees : (o : Option Switch) → IfSome o (λ switch.
-          (close_by spans switch).fin
-          < freed_of groups row_of spans s.group channel switch) = elim [
+          (close_by spans switch).fin < freed_of groups row_of spans s.group channel switch) = elim [
             | None ↦ tt
             | Some switch ↦ omega arith
           ] in
@@ -169,7 +170,7 @@ module _ (groups : GroupsData) where
             | None ↦ λ none. omega arith
             | Some switch ↦ λ opener.
                 let within = opening-within channel s.group switch is.known opener in
-                let room = counted-all groups row_of spans may.counted switch.leaves switch.row.to.0
+                let room = may.counted switch.leaves switch.row.to.0 opener.left
                 opener.known in
                 omega arith
           ] in

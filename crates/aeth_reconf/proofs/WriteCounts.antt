@@ -1,28 +1,27 @@
 -- How many writes come before those of a channel, and which they are.
-use Rattle.std.proofs.Common.{◌≡◌, ◌≤◌, ◌<◌, ◌∙◌, ◌++◌, ◌+◌, ℕ, zero, suc, List}
-use Rattle.std.proofs.Common.{[], ◌∷◌, Contains, length, map, slice_get, refl, sym, ap, inl, inr, arith}
-use Rattle.std.specs.Prelude.{sum_by}
+use Rattle.std.proofs.Common.{◌≡◌, ◌≤◌, ◌<◌, ◌∙◌, ◌++◌, ◌+◌, ℕ, zero, suc, Bool, true, cond, List, []}
+use Rattle.std.proofs.Common.{◌∷◌, Contains, length, map, slice_get, refl, sym, ap, inl, inr, arith}
+use Rattle.std.specs.Prelude.{◌==◌, ◌&&◌, sum_by}
 use Rattle.std.specs.List.{flat_map}
-use Rattle.std.proofs.lemmas.Bool.{both_ways, cases_Bool}
+use Rattle.std.proofs.lemmas.Bool.{and_from, and_parts, both_ways, cases_Bool, eq-eqb, eqb-true}
 use Rattle.std.proofs.lemmas.List.{length-append, length-map}
 use Rattle.std.proofs.lemmas.List.Concat.{flat_map-cons}
 use Rattle.std.proofs.lemmas.List.Sums.{sum_by-cons}
 use Rattle.aeth_base.specs.declared.ids.Channel.{Channel}
+use Rattle.aeth_base.specs.declared.ids.Side.{Side}
+use Rattle.aeth_base.specs.declared.ids.Side.TheVariants.{Back, Fwd}
 use Rattle.aeth_base.proofs.Members.{Contains-cases, Contains-nil}
 use Rattle.aeth_ni.specs.Program.{closing_writes, opening_writes, write_count}
 use Rattle.aeth_ni.specs.declared.row.ChannelRow.{ChannelRow}
 use Rattle.aeth_ni.specs.declared.write.Write.{Write}
 use Rattle.aeth_ni.specs.declared.write.Write.TheVariants.{ClearRoute, ClearSlot, SetSlot}
-use Rattle.aeth_trace.specs.Channels.{is_channel}
-use Rattle.aeth_group.specs.Members.{GroupsData, group_at}
-use Rattle.aeth_trace.specs.Spans.{SpanData, span_of}
-use Rattle.aeth_reconf.specs.Rows.{RowOf, rows_closing, rows_opening}
-use Rattle.aeth_reconf.specs.Windows.{AreCounted, ahead_of}
+use Rattle.aeth_trace.specs.Channels.{is_channel, is_side}
+use Rattle.aeth_reconf.specs.Rows.{RowOf}
+use Rattle.aeth_reconf.specs.Windows.{ahead_of}
 use Rattle.aeth_report.proofs.ChannelLemmas.{is_channel-itself, same_channel}
 
 -- What comes at a place of one list behind another.
-pub behind : {X : Type 0} (xs ys : List X) (i : ℕ)
-    → slice_get (xs ++ ys) (length xs + i) ≡ slice_get ys i
+pub behind : {X : Type 0} (xs ys : List X) (i : ℕ) → slice_get (xs ++ ys) (length xs + i) ≡ slice_get ys i
 behind [] ys i = let none : 0 + i ≡ i = omega arith in ap (slice_get ys) none
 behind (x ∷ xs) ys i =
     let more : length (x ∷ xs) + i ≡ suc (length xs + i) = omega arith in
@@ -106,8 +105,7 @@ module _ (row_of : RowOf) (group : ℕ) where
           ]
         ]
 
--- The writes that close a row are one for each slot, and one for its route; so are those that open
--- it.
+-- The writes that close a row are one for each slot, and one for its route; so are those that open it.
 pub closing-counted : (row : ChannelRow) → length (closing_writes row) ≡ write_count row
 closing-counted row =
     let clears = map (λ slot. ClearSlot row.ni slot) row.slots.slots in
@@ -118,17 +116,3 @@ closing-counted row =
 pub opening-counted : (row : ChannelRow) → length (opening_writes row) ≡ write_count row
 opening-counted row =
     let slots = length-map row.slots.slots (λ slot. SetSlot row.ni slot row.queue) in omega arith
-
--- So a switch has as many writes as its channels have, and a cycle for each.
-pub counted-all : (groups : GroupsData) (row_of : RowOf) (spans : SpanData)
-    → AreCounted groups row_of spans → (u v : ℕ) → v < length groups.uses
-    → sum_by write_count (rows_closing groups row_of u v)
-    + sum_by write_count (rows_opening groups row_of u v) ≤ (span_of spans u v).1
-counted-all groups row_of spans counted u v known =
-    let shut = rows_closing groups row_of u v in
-    let entered = rows_opening groups row_of u v in
-    let fits = counted u v known in
-    let both = length-append (flat_map closing_writes shut) (flat_map opening_writes entered) in
-    let closed = length-writes row_of (group_at groups u) closing_writes closing-counted shut in
-    let opened = length-writes row_of (group_at groups v) opening_writes opening-counted entered in
-    omega arith

@@ -1,7 +1,7 @@
 -- Each write of a switch is one of those of a channel.
-use Rattle.std.proofs.Common.{◌≡◌, ◌≤◌, ◌<◌, ◌⊎◌, ◌∙◌, ◌+◌, ◌-◌, ◌++◌, ℕ, zero, suc, Bool, true}
-use Rattle.std.proofs.Common.{false, List, [], ◌∷◌, Contains, filter, length, map, refl, sym, ap}
-use Rattle.std.proofs.Common.{subst, inl, inr, arith}
+use Rattle.std.proofs.Common.{◌≡◌, ◌≤◌, ◌<◌, ◌⊎◌, ◌∙◌, ◌+◌, ◌-◌, ◌++◌, ℕ, zero, suc, Bool, true, false, List}
+use Rattle.std.proofs.Common.{[], ◌∷◌, Contains, filter, length, map, refl, sym, ap, subst, inl, inr}
+use Rattle.std.proofs.Common.{arith}
 use Rattle.std.specs.Prelude.{sum_by, ⊤}
 use Rattle.std.specs.List.{flat_map, range_with_len}
 use Rattle.std.proofs.lemmas.Bool.{cases_Bool, cases_lt}
@@ -99,8 +99,7 @@ module _ (test : ℕ → Bool) where
 module _ (row_of : RowOf) (group : ℕ) where
   -- ---- the channel of a write
 
-  -- A write's place among those of some channels: one channel's, behind those of the channels
-  -- before.
+  -- A write's place among those of some channels: one channel's, behind those of the channels before.
   record IsPlaceOf (channels : List Channel) (k : ℕ) : Type 0 where
     channel : Channel
     has : Contains channels channel
@@ -166,8 +165,7 @@ module _ (groups : GroupsData) where
         let opening = flat_map opening_writes open_rows in
         let both = length-append closing opening in
         let closed = length-writes row_of (group_at groups u) closing_writes closing-counted shut in
-        let opened = length-writes row_of (group_at groups v) opening_writes opening-counted
-        open_rows in
+        let opened = length-writes row_of (group_at groups v) opening_writes opening-counted open_rows in
         elim (cases_lt k (sum_by write_count shut)) [
           | inl early ↦
               let test = closes groups u v in

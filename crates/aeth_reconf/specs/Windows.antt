@@ -1,6 +1,6 @@
 -- Windows: for how long what a switch writes stands in the tables of an interface. The numbers tell
--- after how many cycles' halts, finishes and writes something holds: 0 for what is done before
--- cycle 0, and e + 1 for what is done in cycle e.
+-- after how many cycles' halts, finishes and writes something holds: 0 for what is done before cycle
+-- 0, and e + 1 for what is done in cycle e.
 --
 --   ahead_of      how many writes come before those of a channel
 --   IsClosed, IsOpened      a channel that a switch closes, and one that it opens
@@ -20,7 +20,7 @@ use Rattle.std.specs.Prelude.{◌≡◌, ◌≤◌, ◌<◌, ℕ, zero, suc, ◌
 use Rattle.std.specs.Prelude.{IfSome, IsTrue, Option, Some, None, All, Ok, length, option_map}
 use Rattle.std.specs.Prelude.{slice_get, sum_by, unwrap_or}
 use Rattle.aeth_base.specs.declared.ids.Channel.{Channel}
-use Rattle.aeth_group.specs.Members.{GroupsData, group_at}
+use Rattle.aeth_group.specs.Members.{GroupsData, group_at, has_at}
 use Rattle.aeth_ni.specs.Program.{write_count}
 use Rattle.aeth_ni.specs.declared.row.ChannelRow.{ChannelRow}
 use Rattle.aeth_ni.specs.declared.write.Write.{Write}
@@ -30,7 +30,7 @@ use Rattle.aeth_trace.specs.Spans.{SpanData, span_of}
 use Rattle.aeth_trace.specs.Switches.{are_apart}
 use Rattle.aeth_trace.specs.declared.switches.SwitchRow.{SwitchRow}
 use Rattle.aeth_report.specs.Sessions.{Stay, Switch, close_by, closes, go_of, opens, stays_of}
-use Rattle.aeth_reconf.specs.Rows.{AreApart, RowOf, channels_that, rows_closing, switch_program}
+use Rattle.aeth_reconf.specs.Rows.{AreApart, RowOf, channels_that, rows_closing, rows_opening}
 
 -- How many writes the channels before this one have, in a group.
 abbrev pub ahead_of : RowOf → ℕ → List Channel → Channel → ℕ
@@ -39,19 +39,23 @@ ahead_of row_of group (one ∷ channels) channel =
     if is_channel one channel then 0
     else write_count (row_of group one) + ahead_of row_of group channels channel
 
--- The spans have a cycle for each write of a switch.
+-- The spans have a cycle for each write of a switch between known use cases.
 abbrev pub AreCounted : GroupsData → RowOf → SpanData → Type 0
-AreCounted groups row_of spans = (u v : ℕ) → v < length groups.uses
-    → length (switch_program groups row_of u v) ≤ (span_of spans u v).1
+AreCounted groups row_of spans = (u v : ℕ) → u < length groups.uses → v < length groups.uses
+    → sum_by write_count (rows_closing groups row_of u v)
+    + sum_by write_count (rows_opening groups row_of u v) ≤ (span_of spans u v).1
 
 -- No two channels of any use case have a queue or a slot of an interface in common.
 abbrev pub AreAllApart : GroupsData → RowOf → Type 0
 AreAllApart groups row_of = (u : ℕ) → AreApart groups row_of u
 
--- A queue is one channel's in all groups.
-abbrev pub AreQueuesApart : RowOf → Type 0
-AreQueuesApart row_of = (g h : ℕ) (one other : Channel) → (row_of g one).ni ≡ (row_of h other).ni
-    → (row_of g one).queue ≡ (row_of h other).queue → one ≡ other
+-- A queue is one channel's in all use cases.
+abbrev pub AreQueuesApart : GroupsData → RowOf → Type 0
+AreQueuesApart groups row_of = (u v : ℕ) (one other : Channel)
+    → IsTrue (has_at groups u one.conn.0) → IsTrue (has_at groups v other.conn.0)
+    → (row_of (group_at groups u) one).ni ≡ (row_of (group_at groups v) other).ni
+    → (row_of (group_at groups u) one).queue ≡ (row_of (group_at groups v) other).queue
+    → one ≡ other
 
 -- The write that sets the route of a row.
 abbrev pub set_route : ChannelRow → Write
@@ -96,8 +100,8 @@ module _ (spans : SpanData) where
   since_behind None = 0
   since_behind (Some stay) = unwrap_or (option_map clears_from stay.closing) 0
 
-  -- From when on the queue is its own of the stay at a place of a connection's stays: from the
-  -- start, or once the stay before it is finished.
+  -- From when on the queue is its own of the stay at a place of a connection's stays: from the start,
+  -- or once the stay before it is finished.
   abbrev pub since_of : List Stay → ℕ → ℕ
   since_of stays zero = 0
   since_of stays (suc place) = since_behind (slice_get stays place)
@@ -145,8 +149,8 @@ module _ (groups : GroupsData) (row_of : RowOf) (spans : SpanData) where
 
   -- ---- the writes of a switch
 
-  -- The k-th write of a switch is one of those that close a channel, in its cycle: that of the slot
-  -- at place i, or behind its slots that of its route.
+  -- The k-th write of a switch is one of those that close a channel, in its cycle: that of the slot at
+  -- place i, or behind its slots that of its route.
   pub record IsClosingWrite (switch : Switch) (k : ℕ) : Type 0 where
     pub channel : Channel
     pub closed : IsClosed groups switch channel
@@ -154,8 +158,8 @@ module _ (groups : GroupsData) (row_of : RowOf) (spans : SpanData) where
     pub inside : i < write_count (row_of (group_at groups switch.leaves) channel)
     pub time : clears_from spans switch + k ≡ cleared_of channel switch i
 
-  -- It is one of those that open a channel: that of its route where i is 0, or that of the slot at
-  -- the place before i.
+  -- It is one of those that open a channel: that of its route where i is 0, or that of the slot at the
+  -- place before i.
   pub record IsOpeningWrite (switch : Switch) (k : ℕ) : Type 0 where
     pub channel : Channel
     pub opened : IsOpened groups switch channel
@@ -165,8 +169,8 @@ module _ (groups : GroupsData) (row_of : RowOf) (spans : SpanData) where
 
   -- ---- what holds of a stay
 
-  -- The order of the windows of a channel's stay: the route is set before the session goes, which is
-  -- before it stops accepting words, and the route is cleared once it has finished.
+  -- The order of the windows of a channel's stay: the route is set before the session goes, this before
+  -- it stops accepting words, and the route is cleared once it has finished.
   pub record IsInOrder (channel : Channel) (stay : Stay) : Type 0 where
     pub first_set : set_of channel stay.opening ≤ go_of spans stay.opening
     pub then_until : IfSome stay.closing (λ switch.
@@ -197,8 +201,8 @@ module _ (groups : GroupsData) (row_of : RowOf) (spans : SpanData) where
 
   -- ---- rows of switches
 
-  -- Rows that can be written: there is a cycle for each write, each row enters a known use case,
-  -- and none begins before the one before it is done.
+  -- Rows that can be written: there is a cycle for each write, each row enters a known use case, and
+  -- none begins before the one before it is done.
   pub record AreWritable (rows : List SwitchRow) : Type 0 where
     pub counted : AreCounted groups row_of spans
     pub known : All (λ row. row.to.0 < length groups.uses) rows

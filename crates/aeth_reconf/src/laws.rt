@@ -108,11 +108,12 @@ pub fn writes_stand_alone()
         → (row_of s.group one).ni ≡ (row_of e.group other).ni → (one ≡ other) × (i ≡ j) }
 {}
 
-/// A queue is one stay's own at a time, where it is one channel's in all groups: the first stay has it
+/// A queue is one stay's own at a time, where it is one channel's in all use cases: the first stay has it
 /// from the start on, and each later one from the finish of the stay before it.
 pub fn queues_have_one_owner()
     ensures one { (groups : GroupsData) (row_of : RowOf) (spans : SpanData)
-        (rows : List SwitchRow) → AreWritable groups row_of spans rows → AreQueuesApart row_of
+        (rows : List SwitchRow) → AreWritable groups row_of spans rows
+        → AreQueuesApart groups row_of
         → (one other : Channel) (i j : ℕ) (s e : Stay) → IsStayAt groups rows one i s
         → IsStayAt groups rows other j e → (t : ℕ)
         → IsOwned spans (stays_of groups one.conn.0 rows) i s t

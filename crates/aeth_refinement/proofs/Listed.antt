@@ -26,7 +26,7 @@ place-range a (suc n) (suc i) within =
     place-range (a + 1) n i (omega arith) ∙ ap (λ k. Some k) same
 
 -- A place of a range is below its length.
-range-within : (a n i x : ℕ) → slice_get (range_with_len a n) i ≡ Some x → i < n
+pub range-within : (a n i x : ℕ) → slice_get (range_with_len a n) i ≡ Some x → i < n
 range-within a zero i x at = absurd cc
 range-within a (suc n) zero x at = omega arith
 range-within a (suc n) (suc i) x at =

@@ -47,7 +47,7 @@ module _ (fabric : Fabric) (ok : IsAccepted fabric) where
   owns-running c t h run =
       let order = ok.ordered c h in
       let since = order.set_since in
-      let drained = order.drained in
+      let drained = (ok.given c h).drained in
       let set = run.set in
       let stop = run.stop in
       record { since = omega arith; finish = omega arith }

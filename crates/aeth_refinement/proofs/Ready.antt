@@ -88,7 +88,7 @@ module _ (fabric : Fabric) (ok : IsAccepted fabric) (t : ℕ) where
         → IsReady c
     early-ready c h own early =
         let server = server_at fabric c in
-        let same = fill.rested c h (λ going. let goes = going.goes in omega arith) in
+        let same = fill.rested c h early in
         let none = idle-before server (paths-of fabric ok c h) (suc t) early in
         let nothing = none.arrived in
         let low = at.handed_low c h own in
@@ -115,7 +115,7 @@ module _ (fabric : Fabric) (ok : IsAccepted fabric) (t : ℕ) where
     unhanded c h soon =
         let set = (ok.ordered c h).set_since in
         let go = (ok.ordered c h).set_go in
-        fill.rested c h (λ going. let goes = going.goes in omega arith) ∙ at.unhanded c h soon
+        fill.rested c h (omega (arith, set, go, soon)) ∙ at.unhanded c h soon
 
     pub enough : Enough new
     enough c x h own = (ready-of c h own).enough x

@@ -18,13 +18,14 @@ use Rattle.aeth_refinement.specs.Components.{Net, after, credits_for, queue_of, 
 use Rattle.aeth_refinement.specs.Fabric.{Fabric, IsGoing, Owns, flow_at, server_at}
 use Rattle.aeth_refinement.specs.Standing.{HasCounter, Stands}
 use Rattle.aeth_refinement.proofs.Counts.{owed-most, returned-sent, room-next}
-use Rattle.aeth_refinement.proofs.Faces.{leaves}
+use Rattle.aeth_refinement.proofs.Leaving.{leaves}
 use Rattle.aeth_refinement.proofs.Landing.{lands}
 use Rattle.aeth_refinement.proofs.Owning.{early-alone, exact-same, going-or-early, landed-most}
 use Rattle.aeth_refinement.proofs.Owning.{owns-back}
 use Rattle.aeth_refinement.proofs.Owning.{received-length}
 use Rattle.aeth_refinement.proofs.Queues.{brought_by-counter, brought_by-kept, brought_by-received}
-use Rattle.aeth_refinement.proofs.Queues.{sent_from-kept, words_taken-is}
+use Rattle.aeth_refinement.proofs.Queues.{sent_from-kept}
+use Rattle.aeth_refinement.proofs.Takes.{words_taken-is}
 use Rattle.aeth_refinement.proofs.Ready.{Enough}
 use Rattle.aeth_refinement.proofs.Unique.{known-back, paths-of, returns-step, sends-step}
 use Rattle.aeth_refinement.proofs.Words.{drop-words_from, length-words_from, words_from-append}
@@ -37,10 +38,12 @@ owed-fits owed left more count gives gave given was now buffer same rest some st
     take least fits =
     omega arith
 
-module _ (fabric : Fabric) (ok : IsAccepted fabric) (t : ℕ) (net drained new : Net)
+module _ (fabric : Fabric) (ok : IsAccepted fabric) (t : ℕ) (net pulled new : Net)
     (wires : ℕ → Option Flit) (at : Stands fabric (suc t) t net) (enough : Enough fabric ok t net)
-    (took : Took fabric t (after fabric net t) drained) (exact : Exact fabric t wires)
-    (latched : Latched fabric wires drained new) where
+    (took : Took fabric t (after fabric net t) pulled) (exact : Exact fabric t wires)
+    (latched : Latched fabric wires pulled new)
+    (handed : (c : ℕ) → c < fabric.count → t < (server_at fabric c).finish
+    → new.handed c ≡ net.handed c) where
   -- A session's queue before the drive, behind it, behind the takes, and behind the latch; and
   -- what comes.
   abbrev first : ℕ → QueueState
@@ -50,7 +53,7 @@ module _ (fabric : Fabric) (ok : IsAccepted fabric) (t : ℕ) (net drained new :
   second c = queue_of fabric (after fabric net t) c
 
   abbrev third : ℕ → QueueState
-  third c = queue_of fabric drained c
+  third c = queue_of fabric pulled c
 
   abbrev last : ℕ → QueueState
   last c = queue_of fabric new c
@@ -95,9 +98,6 @@ module _ (fabric : Fabric) (ok : IsAccepted fabric) (t : ℕ) (net drained new :
   third-room c h =
       ap (λ (q : QueueState). q.room) (took.kept c h)
       ∙ ap (λ (q : QueueState). q.room) (drive-keeps c)
-
-  handed-stays : (c : ℕ) → c < fabric.count → new.handed c ≡ net.handed c
-  handed-stays c h = latched.handed c h ∙ took.handed c h
 
   entry-stays : (n x : ℕ) → new.entry n x ≡ net.entry n x
   entry-stays n x = latched.entry n x ∙ took.entry n x
@@ -305,7 +305,7 @@ module _ (fabric : Fabric) (ok : IsAccepted fabric) (t : ℕ) (net drained new :
       let low = at.handed_low c h own in
       let step = sends-step fabric ok c t in
       let grows = sent-more (server_at fabric c) (paths-of fabric ok c h) t (suc t) (omega arith) in
-      omega (arith, gone.words, low, step, grows, handed-stays c h)
+      omega (arith, gone.words, low, step, grows, handed c h own.finish)
 
   waiting-next : (c : ℕ) → c < fabric.count → Owns fabric c (suc t)
       → (last c).waiting ≡ words_from (flow_at fabric c).values (sent (server_at fabric c) (suc t))
@@ -316,7 +316,7 @@ module _ (fabric : Fabric) (ok : IsAccepted fabric) (t : ℕ) (net drained new :
       let step = sends-step fabric ok c t in
       let grows = sent-more server (paths-of fabric ok c h) t (suc t) (omega arith) in
       let low = at.handed_low c h own in
-      let same = handed-stays c h in
+      let same = handed c h own.finish in
       let few = sends (flow_at fabric c) t in
       ap (λ (q : QueueState). q.waiting) (latch-keeps c h)
       ∙ ap (λ (q : QueueState). q.waiting) (took.kept c h)
@@ -334,18 +334,22 @@ module _ (fabric : Fabric) (ok : IsAccepted fabric) (t : ℕ) (net drained new :
     route = λ c h run. route-stays c h ∙ at.route c h run;
     running = λ c h run. halted-stays c h ∙ at.running c h run;
     halted = λ c h stop freed. halted-stays c h ∙ at.halted c h stop freed;
-    unhanded = λ c h soon. handed-stays c h ∙ at.unhanded c h soon;
+    unhanded = λ c h soon.
+        let order = ok.ordered c h in
+        let drained = (ok.given c h).drained in
+        handed c h (omega (arith, order.set_since, order.set_stop, drained, soon))
+        ∙ at.unhanded c h soon;
     handed_low = handed-low;
     handed_high = λ c h own.
         let high = at.handed_high c h own in
         let grows =
         sent-more (server_at fabric c) (paths-of fabric ok c h) t (suc t) (omega arith) in
-        omega (arith, high, grows, handed-stays c h);
+        omega (arith, high, grows, handed c h own.finish);
     handed_arrived = λ c h own.
         let few = at.handed_arrived c h own in
         let grows = has-grown (server_at fabric c) (paths-of fabric ok c h) (suc t) (suc (suc t))
         (omega arith) in
-        omega (arith, few, grows.arrived, handed-stays c h);
+        omega (arith, few, grows.arrived, handed c h own.finish);
     waiting = waiting-next;
     received = λ c h own. (receives c h own).is;
     counter = counter-next;

@@ -185,7 +185,7 @@ module _ (fabric : Fabric) (ok : IsAccepted fabric) where
       let goes = slot.go in
       let stops = slot.stop in
       let within = slice_get_within (fabric.passage c).wires i l on.place in
-      let drained = (ok.ordered c on.known).drained in
+      let drained = (ok.given c on.known).drained in
       let time = on.time in
       record { goes = omega arith; unfinished = omega arith }
 

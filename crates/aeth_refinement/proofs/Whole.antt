@@ -15,7 +15,7 @@ use Rattle.aeth_refinement.specs.Fabric.{Fabric, Owns, flow_at, server_at}
 use Rattle.aeth_refinement.specs.Runs.{Begins, History}
 use Rattle.aeth_refinement.specs.Standing.{Stands}
 use Rattle.aeth_refinement.proofs.Counts.{returned-sent, room-next}
-use Rattle.aeth_refinement.proofs.Faces.{wires-exact}
+use Rattle.aeth_refinement.proofs.Interfaces.{wires-exact}
 use Rattle.aeth_refinement.proofs.Owning.{exact-same, received-length}
 use Rattle.aeth_refinement.proofs.Ready.{enough, ready}
 use Rattle.aeth_refinement.proofs.Step.{received-whole, stands-next, taken-same}
@@ -31,7 +31,7 @@ module _ (fabric : Fabric) (ok : IsAccepted fabric) where
     pub exact : Exact fabric t wires
     pub stands : Stands fabric (suc t) (suc t) new
     pub whole : (c : ℕ) → c < fabric.count → Owns fabric c (suc t)
-        → (queue_of fabric new c).received ≡ (queue_of fabric cycle.drained c).received
+        → (queue_of fabric new c).received ≡ (queue_of fabric cycle.pulled c).received
         ++ words_for (fabric.passage c).queue
         (arrival_of (wires (fabric.entering (fabric.passage c).ni)))
     pub takes : (c : ℕ) → c < fabric.count → Owns fabric c (suc t)
@@ -53,12 +53,12 @@ module _ (fabric : Fabric) (ok : IsAccepted fabric) where
       (wires-exact fabric ok t cycle.ready stands some) in
       record {
         exact = exact;
-        stands = stands-next fabric ok t cycle.ready cycle.drained new wires stands some cycle.took
-            exact cycle.latched;
-        whole = received-whole fabric ok t cycle.ready cycle.drained new wires stands some
-            cycle.took exact cycle.latched;
-        takes = taken-same fabric ok t cycle.ready cycle.drained new wires stands some cycle.took
-            exact cycle.latched;
+        stands = stands-next fabric ok t cycle.ready cycle.pulled new wires stands some cycle.took
+            exact cycle.latched cycle.handed;
+        whole = received-whole fabric ok t cycle.ready cycle.pulled new wires stands some
+            cycle.took exact cycle.latched cycle.handed;
+        takes = taken-same fabric ok t cycle.ready cycle.pulled new wires stands some cycle.took
+            exact cycle.latched cycle.handed;
       }
 
   -- Nothing has landed by the end of cycle 0, and nothing has returned.

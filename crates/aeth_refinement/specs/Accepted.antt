@@ -63,14 +63,16 @@ module _ (fabric : Fabric) where
     pub finish : (server_at fabric (fabric.opposite c)).finish ≡ (server_at fabric c).finish
 
   -- A session's flits fit their headers, its slots are of the chip's table, its path delay is the
-  -- number of its wires, there is a value for each word that it accepts, and its buffer is a
-  -- count of credits.
+  -- number of its wires, there is a value for each word that it accepts, its buffer is a count of
+  -- credits, and what it has sent has landed when it finishes.
   pub record IsGiven (c : ℕ) : Type 0 where
     pub sendable : IsSendable (flow_at fabric c)
     pub size : (server_at fabric c).shape.size ≡ fabric.size
     pub delay : (server_at fabric c).shape.path_delay ≡ length (fabric.passage c).wires
     pub values : length (accepted (server_at fabric c)) ≡ length (flow_at fabric c).values
     pub buffer : (server_at fabric c).buffer ≤ max_count
+    pub drained : (server_at fabric c).stop + length (fabric.passage c).wires
+        ≤ (server_at fabric c).finish
 
   -- The order of a session's cycles. Its queue is free from the start, or from the finish of
   -- another session on.
@@ -78,8 +80,6 @@ module _ (fabric : Fabric) where
     pub set_since : (fabric.passage c).since ≤ (fabric.passage c).set
     pub set_go : (fabric.passage c).set ≤ (server_at fabric c).go
     pub set_stop : (fabric.passage c).set ≤ (server_at fabric c).stop
-    pub drained : (server_at fabric c).stop + length (fabric.passage c).wires
-        ≤ (server_at fabric c).finish
     pub stop_freed : (server_at fabric c).stop < (fabric.passage c).freed
     pub slot_after : (x : ℕ) → has_slot fabric c x ≡ true
         → (fabric.passage c).set ≤ (fabric.passage c).slot_set x

@@ -33,7 +33,7 @@ module _ (fabric : Fabric) where
     pub rests : (c : ℕ) → c < fabric.count
         → ((d : ℕ) → d < fabric.count → IsGoing fabric d t → IsSameQueue fabric d c → ⊥)
         → (queue_of fabric new c).waiting ≡ (queue_of fabric old c).waiting
-    pub rested : (c : ℕ) → c < fabric.count → (IsGoing fabric c t → ⊥)
+    pub rested : (c : ℕ) → c < fabric.count → t < (server_at fabric c).go
         → new.handed c ≡ old.handed c
     pub kept : (c : ℕ) → c < fabric.count → queue_of fabric new c
         ≡ record (queue_of fabric old c) { waiting = (queue_of fabric new c).waiting }
@@ -54,7 +54,6 @@ module _ (fabric : Fabric) where
           owed = (queue_of fabric new c).owed;
         }
     pub entry : (n x : ℕ) → new.entry n x ≡ old.entry n x
-    pub handed : (c : ℕ) → c < fabric.count → new.handed c ≡ old.handed c
 
   -- All components have latched these wires.
   pub record Latched (wires : ℕ → Option Flit) (old new : Net) : Type 0 where
@@ -62,16 +61,17 @@ module _ (fabric : Fabric) where
         ≡ brought (wires (fabric.entering (fabric.passage c).ni)) (fabric.passage c).queue
         (queue_of fabric old c)
     pub entry : (n x : ℕ) → new.entry n x ≡ old.entry n x
-    pub handed : (c : ℕ) → c < fabric.count → new.handed c ≡ old.handed c
     pub held : (l : ℕ) → new.held l ≡ wires l
 
   -- One cycle: halts, finishes and writes, refilling, driving, taking, latching.
   pub record Cycle (t : ℕ) (old : Net) (wires : ℕ → Option Flit) (new : Net) : Type 0 where
     pub tables : Net
     pub ready : Net
-    pub drained : Net
+    pub pulled : Net
     pub switched : Switched fabric (t + 1) old tables
     pub refilled : Refilled t tables ready
     pub drives : (l : ℕ) → wires l ≡ driven fabric ready t l
-    pub took : Took t (after fabric ready t) drained
-    pub latched : Latched wires drained new
+    pub took : Took t (after fabric ready t) pulled
+    pub latched : Latched wires pulled new
+    pub handed : (c : ℕ) → c < fabric.count → t < (server_at fabric c).finish
+        → new.handed c ≡ ready.handed c

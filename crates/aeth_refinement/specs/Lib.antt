@@ -1,8 +1,6 @@
 pub mod Fabric
 pub mod Carried
 pub mod Accepted
-pub mod Wiring
-pub mod OfRun
 pub mod Components
 pub mod Switches
 pub mod Cycle

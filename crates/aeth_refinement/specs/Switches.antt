@@ -6,7 +6,7 @@
 --   Switched      what changes in a cycle, and that all else stays
 -- Slot tables that are written while the network runs: after Æthereal (2005). This form of it: this
 -- project's own.
-use Rattle.std.specs.Prelude.{◌≡◌, ◌<◌, ◌⊎◌, ℕ, suc, true, false, Some, []}
+use Rattle.std.specs.Prelude.{◌≡◌, ◌≤◌, ◌<◌, ◌⊎◌, ℕ, suc, true, false, Some, []}
 use Rattle.aeth_ni.specs.declared.queue.Route.{Route}
 use Rattle.aeth_report.specs.Flows.{Flow}
 use Rattle.aeth_refinement.specs.Fabric.{Fabric, IsSameQueue, flow_at, has_slot, server_at}
@@ -94,5 +94,6 @@ module _ (fabric : Fabric) where
         → IsSetNow t n x queue
         ⊎ ((old.entry n x ≡ Some queue)
         × ((c : ℕ) → IsEntryAt n x c → (fabric.passage c).slot_freed x ≡ t → ⊥))
-    pub handed : (c : ℕ) → c < fabric.count → new.handed c ≡ old.handed c
+    pub handed : (c : ℕ) → c < fabric.count → t ≤ (server_at fabric c).finish
+        → new.handed c ≡ old.handed c
     pub held : (l : ℕ) → new.held l ≡ old.held l

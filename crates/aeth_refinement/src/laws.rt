@@ -1,29 +1,19 @@
 //! What holds of every network whose sessions are those of an accepted plan, over the definitions
 //! alone.
-ghost use Rattle.std.specs.Prelude.{◌≡◌, ◌≤◌, ◌<◌, ◌+◌, ◌-◌, ◌^◌, ◌++◌, ℕ, min, length, slice_get};
-ghost use Rattle.std.specs.Prelude.{Option, None, Some};
+ghost use Rattle.std.specs.Prelude.{◌≡◌, ◌≤◌, ◌<◌, ◌+◌, ◌-◌, ◌++◌, ℕ, min, length};
+ghost use Rattle.std.specs.Prelude.{Option, Some};
 ghost use Rattle.std.specs.Option.{option_to_list};
-ghost use Rattle.aeth_chip.specs.Chip.{ChipData, IsChip};
-ghost use Rattle.aeth_chip.specs.Paths.{path_delay};
-ghost use Rattle.aeth_chip.specs.Wires.{wire_at};
-ghost use Rattle.aeth_chip.specs.declared.node.Link.{Link};
 ghost use Rattle.aeth_clocked.specs.declared.flit.Flit.{Flit};
-ghost use Rattle.aeth_header.specs.Layout.{route_bits};
 ghost use Rattle.aeth_ni.specs.Component.{Arrival, arrival_of};
-ghost use Rattle.aeth_report.specs.Carries.{carries as carries_on_link};
-ghost use Rattle.aeth_report.specs.Flows.{Run};
-ghost use Rattle.aeth_report.specs.Sound.{IsSound};
 ghost use Rattle.aeth_server.specs.PrivateServer.{landed, pull_at, taken};
-ghost use Rattle.aeth_refinement.specs.Accepted.{HasPath, IsAccepted, IsWired};
+ghost use Rattle.aeth_refinement.specs.Accepted.{IsAccepted};
 ghost use Rattle.aeth_refinement.specs.Carried.{Exact, IsPassed, words_from};
 ghost use Rattle.aeth_refinement.specs.Carries.{carries};
 ghost use Rattle.aeth_refinement.specs.Cycle.{Cycle};
 ghost use Rattle.aeth_refinement.specs.Components.{Net, after, queue_of, words_for};
 ghost use Rattle.aeth_refinement.specs.Fabric.{AtRouter, Fabric, Owns, flow_at, server_at};
-ghost use Rattle.aeth_refinement.specs.OfRun.{IsOfRun};
 ghost use Rattle.aeth_refinement.specs.Runs.{Begins, History};
 ghost use Rattle.aeth_refinement.specs.Standing.{Stands};
-ghost use Rattle.aeth_refinement.specs.Wiring.{IsAlong, IsOnChip};
 
 /// Before the first cycle the components stand as the private servers say, whose counts are 0.
 pub fn runs_begin_standing()
@@ -69,7 +59,7 @@ pub fn queues_fit()
     ensures whole { (fabric : Fabric) → IsAccepted fabric → (t : ℕ) (old new : Net)
         (wires : ℕ → Option Flit) → Stands fabric t t old → (cycle : Cycle fabric t old wires new)
         → (c : ℕ) → c < fabric.count → Owns fabric c (t + 1)
-        → (queue_of fabric new c).received ≡ (queue_of fabric cycle.drained c).received
+        → (queue_of fabric new c).received ≡ (queue_of fabric cycle.pulled c).received
         ++ words_for (fabric.passage c).queue
         (arrival_of (wires (fabric.entering (fabric.passage c).ni))) }
 {}
@@ -106,35 +96,4 @@ pub fn no_flit_is_lost()
     ensures read { (fabric : Fabric) → IsAccepted fabric → (t : ℕ) (wires : ℕ → Option Flit)
         → Exact fabric t wires → (l : ℕ) (flit : Flit) → wires l ≡ Some flit
         → (arrival : Arrival) × (arrival_of (Some flit) ≡ Some arrival) }
-{}
-
-/// The wires of a chip are wired as a network's, and a session that goes along a path of the chip
-/// has a path over its wires, as many as the path's delay, with a route that fits a header.
-pub fn chips_are_wired()
-    ensures wires { (chip : ChipData) → IsChip chip → (fabric : Fabric)
-        → IsOnChip fabric chip.links → IsWired fabric }
-    ensures path { (chip : ChipData) → IsChip chip → (fabric : Fabric)
-        → IsOnChip fabric chip.links → (c : ℕ) → IsAlong fabric chip.links c → HasPath fabric c }
-    ensures delay { (chip : ChipData) → IsChip chip → (fabric : Fabric)
-        → IsOnChip fabric chip.links → (c : ℕ) → IsAlong fabric chip.links c
-        → length (fabric.passage c).wires ≡ path_delay chip.links (flow_at fabric c).path }
-    ensures route { (chip : ChipData) → IsChip chip → (fabric : Fabric)
-        → IsOnChip fabric chip.links → (c : ℕ) → IsAlong fabric chip.links c
-        → (flow_at fabric c).route < 2 ^ route_bits }
-{}
-
-/// In a network with the flows of a run the wire so many places behind a link has the one flit
-/// that the link carried as many cycles before, or none; and none where no cycle was so many
-/// before.
-pub fn wires_follow_links()
-    ensures later { (run : Run) → IsSound run → IsChip run.design.chip → (fabric : Fabric)
-        → IsOfRun fabric run → (t : ℕ) (wires : ℕ → Option Flit) → Exact fabric t wires
-        → (l j : ℕ) (link : Link) → slice_get run.design.chip.links l ≡ Some link → j < link.delay
-        → j ≤ t
-        → carries_on_link run l (t - j)
-        ≡ option_to_list (wires (wire_at run.design.chip.links l j)) }
-    ensures before { (run : Run) → IsSound run → IsChip run.design.chip → (fabric : Fabric)
-        → IsOfRun fabric run → (t : ℕ) (wires : ℕ → Option Flit) → Exact fabric t wires
-        → (l j : ℕ) (link : Link) → slice_get run.design.chip.links l ≡ Some link → j < link.delay
-        → t < j → wires (wire_at run.design.chip.links l j) ≡ None }
 {}

@@ -1,0 +1,43 @@
+-- Each session has the opposite channel's beside it.
+use Rattle.std.proofs.Common.{◌≡◌, ◌<◌, ◌∙◌, ℕ, length, filter, sym, ap}
+use Rattle.std.proofs.lemmas.List.{length-map}
+use Rattle.aeth_server.specs.PrivateServer.{accepted}
+use Rattle.aeth_trace.specs.Words.{words_on}
+use Rattle.aeth_trace.specs.declared.words.WordRow.{WordRow}
+use Rattle.aeth_report.specs.Flows.{Run, is_within}
+use Rattle.aeth_report.proofs.AlikeLemmas.{filter-map}
+use Rattle.aeth_refinement.specs.Accepted.{IsAnswered}
+use Rattle.aeth_fabric.specs.Fabric.{Placed, fabric_over, flow_in, passage_of}
+use Rattle.aeth_fabric.specs.Fabric.{placed_of, row_in}
+use Rattle.aeth_fabric.proofs.Numbers.{opposite-back, opposite-is}
+use Rattle.std.specs.Prelude.{◌&&◌, nat_le, nat_lt}
+
+module _ (run : Run) where
+  pub answered : (c : ℕ) → c < length (placed_of run) → IsAnswered (fabric_over run) c
+  answered c within =
+      let other = opposite-is run c within in
+      let is = other.is in
+      record {
+        known = other.known;
+        back = opposite-back run c within;
+        remote = sym (ap (λ (p : Placed). (row_in run p).queue) is);
+        server = sym (ap (λ (p : Placed). (flow_in run p).server) is);
+        slots = sym (ap (λ (p : Placed). (flow_in run p).server.shape.slots) is);
+        delay = sym (ap (λ (p : Placed). (flow_in run p).server.shape.path_delay) is);
+        since = ap (λ (p : Placed). (passage_of run p).since) is;
+        go = ap (λ (p : Placed). (flow_in run p).server.go) is;
+        stop = ap (λ (p : Placed). (flow_in run p).server.stop) is;
+        finish = ap (λ (p : Placed). (flow_in run p).server.finish) is;
+      }
+
+  -- There is a value for each word that it accepts.
+  pub values-accepted : (placed : Placed)
+      → length (accepted (flow_in run placed).server) ≡ length (flow_in run placed).values
+  values-accepted placed =
+      let server = (flow_in run placed).server in
+      let words = words_on run.words placed.channel in
+      let kept = filter (is_within server.go server.until) words in
+      ap length (filter-map (λ (a : ℕ). nat_le server.go a && nat_lt a server.until)
+      (λ (row : WordRow). row.cycle) words)
+      ∙ length-map kept (λ (row : WordRow). row.cycle)
+      ∙ sym (length-map kept (λ (row : WordRow). row.value))

@@ -1,0 +1,185 @@
+-- Two sessions that are in use in one cycle enter no wire in one slot.
+use Rattle.std.proofs.Common.{◌≡◌, ◌≤◌, ◌<◌, ◌+◌, ◌%◌, ◌∙◌, ℕ, suc, true, List, [], ◌∷◌}
+use Rattle.std.proofs.Common.{Option, Some, None, length, slice_get, refl, sym, ap, subst, inl, inr}
+use Rattle.std.proofs.Common.{arith, eqb}
+use Rattle.std.specs.Prelude.{IfSome, max, option_map, unwrap_or}
+use Rattle.std.specs.List.{list_any, position_or_len}
+use Rattle.std.proofs.lemmas.Bool.{cases_Bool, cases_lt, eqb-true}
+use Rattle.std.proofs.lemmas.Option.{slice_get-map, slice_get_past}
+use Rattle.aeth_base.specs.Limits.{max_path_delay}
+use Rattle.aeth_base.specs.declared.ids.Channel.{Channel}
+use Rattle.aeth_base.specs.declared.ids.LinkId.{LinkId}
+use Rattle.aeth_chip.specs.Chip.{IsChip}
+use Rattle.aeth_chip.specs.Paths.{delay_in, delay_of, offset}
+use Rattle.aeth_chip.specs.declared.node.Link.{Link}
+use Rattle.aeth_chip.proofs.WireLemmas.{wire_at-apart}
+use Rattle.aeth_report.specs.declared.session.Close.{Close}
+use Rattle.aeth_report.specs.Design.{grant_at}
+use Rattle.aeth_report.specs.Flows.{Run, sessions_in}
+use Rattle.aeth_report.specs.Sessions.{IsInUse, Switch, close_by, go_of, session_of}
+use Rattle.aeth_report.specs.Sound.{IsSound}
+use Rattle.aeth_report.proofs.GrantLemmas.{EntersIn, entered_once}
+use Rattle.aeth_report.proofs.SessionMeetings.{sessions_alone, sessions_meet}
+use Rattle.aeth_report.proofs.StaysAlone.{at-Contains}
+use Rattle.aeth_tables.proofs.ListLaws.{has_place}
+use Rattle.aeth_refinement.specs.Fabric.{IsGoing, IsPlace, has_slot}
+use Rattle.aeth_fabric.specs.Fabric.{Placed, fabric_over, flow_in, placed_at, placed_of, stays_in}
+use Rattle.aeth_fabric.specs.Paths.{wires_along}
+use Rattle.aeth_fabric.proofs.Flattened.{mod-behind}
+use Rattle.aeth_fabric.proofs.Numbers.{IsPlacedAt, one_number, placed-there}
+use Rattle.aeth_fabric.proofs.PathWires.{IsWireOf, wires-place}
+
+-- A slot that is among some stands at its place.
+pub slot_place : (xs : List ℕ) (x : ℕ) → list_any (λ own. eqb x own) xs ≡ true
+    → slice_get xs (position_or_len (λ own. eqb x own) xs) ≡ Some x
+slot_place [] x is = absurd (cc is)
+slot_place (y ∷ ys) x is = elim (cases_Bool (eqb x y)) [
+  | inl here ↦
+      let same = eqb-true x y here in
+      let first : position_or_len (λ own. eqb x own) (y ∷ ys) ≡ 0 = rw here refl in
+      ap (slice_get (y ∷ ys)) first ∙ ap (λ (n : ℕ). Some n) (sym same)
+  | inr other ↦
+      let later : list_any (λ own. eqb x own) ys ≡ true = rw other at is in
+      let step : position_or_len (λ own. eqb x own) (y ∷ ys)
+      ≡ suc (position_or_len (λ own. eqb x own) ys) = rw other (omega arith) in
+      ap (slice_get (y ∷ ys)) step ∙ slot_place ys x later
+]
+
+-- A link that delays is there.
+pub link_known : (links : List Link) (l : LinkId) (p : ℕ) → p < delay_of links l → l.0 < length links
+link_known links l p short = elim (cases_lt l.0 (length links)) [
+  | inl less ↦ less
+  | inr past ↦
+      let none : delay_of links l ≡ 0 = ap delay_in (slice_get_past links l.0 past) in
+      absurd (omega (arith, short, none))
+]
+
+module _ (run : Run) where
+  -- How a stay closes with the run.
+  abbrev pub past : Placed → Close
+  past placed = record {
+    until = run.cycles;
+    stop = max run.cycles (go_of run.spans placed.stay.opening);
+    fin = max run.cycles (go_of run.spans placed.stay.opening) + max_path_delay;
+  }
+
+  -- A session that is going is in use.
+  pub used : (placed : Placed) (t : ℕ) → (flow_in run placed).server.go ≤ t
+      → t < (flow_in run placed).server.finish → IsInUse (session_of run.spans placed.stay) t
+  used placed t goes unfinished =
+      let cases : (o : Option Switch)
+      → t < (unwrap_or (option_map (close_by run.spans) o) (past placed)).fin
+      → IfSome (option_map (close_by run.spans) o) (λ close. t < close.fin) = elim [
+        | None ↦ λ below. tt
+        | Some switch ↦ λ below. below
+      ] in
+      record { goes = goes; unfinished = cases placed.stay.closing unfinished }
+
+  -- It is one of its connection's.
+  pub session_at : (c : ℕ) (placed : Placed) → IsPlacedAt run c placed
+      → slice_get (sessions_in run placed.channel.conn.0) placed.place
+      ≡ Some (session_of run.spans placed.stay)
+  session_at c placed is =
+      slice_get-map (session_of run.spans) (stays_in run placed.channel.conn.0) placed.place
+      ∙ ap (option_map (session_of run.spans)) is.stay_at
+
+  module _ (is_chip : IsChip run.design.chip) (sound : IsSound run) where
+    -- A session that is in use is on a wire in a slot.
+    pub record IsAt (placed : Placed) (i l x t : ℕ) : Type 0 where
+      pub used_in : IsInUse (session_of run.spans placed.stay) t
+      pub place : slice_get (wires_along run.design.chip.links (flow_in run placed).path) i ≡ Some l
+      pub slot : list_any (λ own. eqb x own) (flow_in run placed).server.shape.slots ≡ true
+
+    -- It enters the link of the wire in its slot.
+    enters : (placed : Placed) (i l x t s : ℕ) → (at : IsAt placed i l x t)
+        → (of : IsWireOf run.design.chip.links (flow_in run placed).path i l)
+        → (x + offset run.design.chip.links (flow_in run placed).path of.place)
+        % run.design.chip.slots ≡ s
+        → EntersIn run.design sound.granted placed.channel placed.stay.group of.link.0 of.place s
+    enters placed i l x t s at of slot =
+        let slots = (flow_in run placed).server.shape.slots in
+        record {
+          start = x;
+          place = of.at;
+          starts = has_place slots (position_or_len (λ own. eqb x own) slots) x
+              (slot_place slots x at.slot);
+          slot = slot;
+        }
+
+    pub wires_apart : (c d i j l x y t : ℕ) → c < length (placed_of run)
+        → d < length (placed_of run) → IsAt (placed_at run c) i l x t
+        → IsAt (placed_at run d) j l y t
+        → (x + i) % run.design.chip.slots ≡ (y + j) % run.design.chip.slots
+        → (c ≡ d) × (i ≡ j)
+    wires_apart c d i j l x y t known_c known_d one two same =
+        let p = placed_at run c in
+        let q = placed_at run d in
+        let is_p = placed-there run c known_c in
+        let is_q = placed-there run d known_d in
+        let links = run.design.chip.links in
+        let size = run.design.chip.slots in
+        let path_p = (flow_in run p).path in
+        let path_q = (flow_in run q).path in
+        let of_p = wires-place links path_p i l one.place in
+        let of_q = wires-place links path_q j l two.place in
+        let wire = wire_at-apart links of_p.link of_q.link of_p.inner of_q.inner
+        (link_known links of_p.link of_p.inner of_p.short)
+        (link_known links of_q.link of_q.inner of_q.short) of_p.short of_q.short
+        (of_p.is ∙ sym of_q.is) in
+        let s = session_of run.spans p.stay in
+        let e = session_of run.spans q.stay in
+        let at_s = session_at c p is_p in
+        let at_e = session_at d q is_q in
+        let meet = sessions_meet run.design.groups run.spans run.switches p.channel.conn.0
+        q.channel.conn.0 t sound.apart s e
+        (at-Contains (sessions_in run p.channel.conn.0) p.place s at_s)
+        (at-Contains (sessions_in run q.channel.conn.0) q.place e at_e) one.used_in two.used_in in
+        let index_p = of_p.index in
+        let index_q = of_q.index in
+        let inner = wire.1 in
+        let off_p = offset links path_p of_p.place in
+        let off_q = offset links path_q of_q.place in
+        let ahead_p : x + i ≡ (x + off_p) + of_p.inner = omega (arith, index_p) in
+        let ahead_q : y + j ≡ (y + off_q) + of_p.inner = omega (arith, index_q, inner) in
+        let slot : (y + off_q) % size ≡ (x + off_p) % size =
+        mod-behind size (y + off_q) (x + off_p) of_p.inner is_chip.some_slots
+        (rw (ahead_p, ahead_q) at (sym same)) in
+        let enters_p = enters p i l x t ((x + off_p) % size) one of_p refl in
+        let enters_q = enters q j l y t ((x + off_p) % size) two of_q slot in
+        let moved : EntersIn run.design sound.granted q.channel p.stay.group of_p.link.0 of_q.place
+        ((x + off_p) % size) =
+        subst (λ (g : ℕ). EntersIn run.design sound.granted q.channel g of_p.link.0 of_q.place
+        ((x + off_p) % size)) (sym meet.group)
+        (subst (λ (k : ℕ). EntersIn run.design sound.granted q.channel q.stay.group k of_q.place
+        ((x + off_p) % size)) (sym wire.0) enters_q) in
+        let once = entered_once run.design sound.granted p.channel q.channel p.stay.group
+        of_p.link.0 of_p.place of_q.place ((x + off_p) % size) meet.together enters_p moved in
+        let there : slice_get (sessions_in run p.channel.conn.0) q.place ≡ Some e =
+        subst (λ (ch : Channel). slice_get (sessions_in run ch.conn.0) q.place ≡ Some e)
+        (sym once.0) at_e in
+        let places = sessions_alone run.design.groups run.spans run.switches p.channel.conn.0 t
+        sound.apart p.place q.place s e at_s there one.used_in two.used_in in
+        let offsets : off_p ≡ off_q = λ k. offset links
+        (grant_at run.design (once.0 k) (meet.group k)).path (once.1 k) in (
+          one_number run c d p q is_p is_q once.0 places,
+          omega (arith, index_p, index_q, inner, offsets),
+        )
+
+-- So it is of the sessions of the run's fabric.
+pub shares_none : (run : Run) → IsChip run.design.chip → IsSound run → (c d : ℕ)
+    → c < length (placed_of run) → d < length (placed_of run) → (i j l x y t : ℕ)
+    → IsGoing (fabric_over run) c t → IsGoing (fabric_over run) d t
+    → IsPlace (fabric_over run) c i l → IsPlace (fabric_over run) d j l
+    → has_slot (fabric_over run) c x ≡ true → has_slot (fabric_over run) d y ≡ true
+    → (x + i) % run.design.chip.slots ≡ (y + j) % run.design.chip.slots → (c ≡ d) × (i ≡ j)
+shares_none run is_chip sound c d known_c known_d i j l x y t going_c going_d place_c place_d slot_c
+    slot_d same =
+    wires_apart run is_chip sound c d i j l x y t known_c known_d (record {
+      used_in = used run (placed_at run c) t going_c.goes going_c.unfinished;
+      place = place_c;
+      slot = slot_c;
+    }) (record {
+      used_in = used run (placed_at run d) t going_d.goes going_d.unfinished;
+      place = place_d;
+      slot = slot_d;
+    }) same

@@ -1,0 +1,216 @@
+-- What the wires of the fabric carry is what the links of the run do.
+use Rattle.std.proofs.Common.{◌≡◌, ◌⊎◌, ◌<◌, ◌+◌, ◌∙◌, ℕ, suc, false, List, [], ◌∷◌, ◌++◌}
+use Rattle.std.proofs.Common.{Option, Some, None, get_or, length, map, slice_get, refl, sym, ap, inl}
+use Rattle.std.proofs.Common.{inr, arith}
+use Rattle.std.specs.Prelude.{max, option_map, unwrap_or}
+use Rattle.std.specs.List.{enumerate_from, flat_map, range_with_len}
+use Rattle.std.proofs.lemmas.Bool.{cases_lt}
+use Rattle.std.proofs.lemmas.List.Concat.{flat_map-cons}
+use Rattle.std.proofs.lemmas.List.Folds.{flat_map-map}
+use Rattle.std.proofs.lemmas.List.FromFn.{get_or-map-range_with_len, length-map-range_with_len}
+use Rattle.std.proofs.lemmas.List.{map-append}
+use Rattle.std.proofs.lemmas.Option.{slice_get-get_or, slice_get_past}
+use Rattle.aeth_base.specs.Limits.{max_path_delay}
+use Rattle.aeth_base.specs.declared.ids.Channel.{Channel}
+use Rattle.aeth_base.specs.declared.ids.LinkId.{LinkId}
+use Rattle.aeth_base.proofs.Lists.{same_list}
+use Rattle.aeth_chip.specs.Chip.{IsChip}
+use Rattle.aeth_chip.specs.Paths.{delay_of}
+use Rattle.aeth_chip.specs.Wires.{wire_at}
+use Rattle.aeth_chip.proofs.OffsetLemmas.{delay_of-range}
+use Rattle.aeth_report.specs.Carries.{carries as carries_in, flits_on, injects}
+use Rattle.aeth_report.specs.Channels.{channels_of}
+use Rattle.aeth_report.specs.Design.{grant_at}
+use Rattle.aeth_report.specs.Flows.{Flow, Run, flow_of, flows_of, flows_on}
+use Rattle.aeth_report.specs.Sessions.{Stay, Switch, close_by, go_of, session_of}
+use Rattle.aeth_report.specs.Sound.{IsSound}
+use Rattle.aeth_report.specs.declared.session.Close.{Close}
+use Rattle.aeth_report.proofs.Places.{flat_map-none}
+use Rattle.aeth_report.proofs.GrantLemmas.{grant_at-is}
+use Rattle.aeth_refinement.specs.Carries.{carries}
+use Rattle.aeth_fabric.specs.Fabric.{Placed, fabric_over, flow_in, no_placed, placed_of}
+use Rattle.aeth_fabric.specs.Fabric.{placed_on, placed_with, stays_in}
+use Rattle.aeth_fabric.proofs.ApartWires.{past}
+use Rattle.aeth_fabric.proofs.CarriedFlits.{all_on_wire, idle, none-early, none-idle, none-idle_on}
+use Rattle.aeth_fabric.proofs.CarriedFlits.{same_flits}
+
+-- ---- lists
+
+-- The items of a list by their numbers.
+items-numbered : {X : Type 0} (xs : List X) (d : X)
+    → map (λ c. get_or xs c d) (range_with_len 0 (length xs)) ≡ xs
+items-numbered {X} xs d =
+    let f : ℕ → X = λ c. get_or xs c d in
+    let all = map f (range_with_len 0 (length xs)) in
+    let count = length-map-range_with_len f 0 (length xs) in
+    same_list all xs (λ i. elim (cases_lt i (length xs)) [
+      | inl less ↦ slice_get-get_or all i d (omega (arith, less, count))
+          ∙ ap (λ (x : X). Some x)
+          (get_or-map-range_with_len f 0 (length xs) i i d less (omega arith))
+          ∙ sym (slice_get-get_or xs i d less)
+      | inr past ↦ slice_get_past all i (omega (arith, past, count))
+          ∙ sym (slice_get_past xs i past)
+    ])
+
+module _ {X A : Type 0} where
+  -- What is the same for each item is so for all.
+  pub flat_map-same : (f g : X → List A) (xs : List X)
+      → ((i : ℕ) (x : X) → slice_get xs i ≡ Some x → f x ≡ g x) → flat_map f xs ≡ flat_map g xs
+  flat_map-same f g [] same = refl
+  flat_map-same f g (x ∷ xs) same =
+      flat_map-cons f x xs
+      ∙ (λ q. same 0 x refl q ++ flat_map-same f g xs (λ i y at. same (suc i) y at) q)
+      ∙ sym (flat_map-cons g x xs)
+
+-- What is made of all that items give is made of what each gives.
+pub map-flat_map : {X A B : Type 0} (h : A → B) (f : X → List A) (xs : List X)
+    → map h (flat_map f xs) ≡ flat_map (λ x. map h (f x)) xs
+map-flat_map h f [] = refl
+map-flat_map {X} {A} {B} h f (x ∷ xs) =
+    ap (map h) (flat_map-cons f x xs)
+    ∙ map-append h (f x) (flat_map f xs)
+    ∙ ap (λ (ys : List B). map h (f x) ++ ys) (map-flat_map h f xs)
+    ∙ sym (flat_map-cons (λ y. map h (f y)) x xs)
+
+-- Numbers in front of items are left out again.
+map-numbered : {X B : Type 0} (k : X → B) (n : ℕ) (xs : List X)
+    → map (λ (at : ℕ × X). k at.1) (enumerate_from n xs) ≡ map k xs
+map-numbered k n [] = refl
+map-numbered {X} {B} k n (x ∷ xs) =
+    ap (λ (ys : List B). k x ∷ ys) (map-numbered k (n + 1) xs)
+
+map-twice : {X Y Z : Type 0} (g : Y → Z) (f : X → Y) (xs : List X)
+    → map g (map f xs) ≡ map (λ x. g (f x)) xs
+map-twice g f [] = refl
+map-twice {X} {Y} {Z} g f (x ∷ xs) = ap (λ (zs : List Z). g (f x) ∷ zs) (map-twice g f xs)
+
+module _ (run : Run) where
+  -- The flow of a session in the run.
+  abbrev flow_there : Placed → Flow
+  flow_there p = flow_of run p.channel (session_of run.spans p.stay)
+
+  -- The flows of a run are those of its sessions.
+  flows-are : flows_of run ≡ map flow_there (placed_of run)
+  flows-are =
+      let on : (ch : Channel) → flows_on run ch ≡ map flow_there (placed_on run ch) =
+      λ ch. map-twice (flow_of run ch) (session_of run.spans) (stays_in run ch.conn.0)
+      ∙ sym (map-numbered (λ (s : Stay). flow_of run ch (session_of run.spans s)) 0
+      (stays_in run ch.conn.0))
+      ∙ sym (map-twice flow_there (placed_with ch) (enumerate_from 0 (stays_in run ch.conn.0))) in
+      ap (λ (f : Channel → List Flow). flat_map f (channels_of run.design.groups.connections))
+      (λ i ch. on ch i)
+      ∙ sym (map-flat_map flow_there (placed_on run)
+      (channels_of run.design.groups.connections))
+
+  -- ---- what closing with the run changes
+
+  abbrev flow_by : Placed → Close → Flow
+  flow_by p close = flow_of run p.channel (record {
+    go = go_of run.spans p.stay.opening;
+    group = record { 0 = p.stay.group };
+    close = Some close;
+  })
+
+  -- How a stay closes in the run.
+  abbrev end_of_run : Close
+  end_of_run =
+      record { until = run.cycles; stop = run.cycles; fin = run.cycles + max_path_delay }
+
+  -- Nothing, or the flow injects nothing either way.
+  Alike : Flow → Flow → Type 0
+  Alike flow other = (flow ≡ other)
+      ⊎ (((u : ℕ) → injects flow u ≡ false) × ((u : ℕ) → injects other u ≡ false))
+
+  alike_by : (p : Placed) (o : Option Switch)
+      → Alike (flow_by p (unwrap_or (option_map (close_by run.spans) o) (past run p)))
+      (flow_by p (unwrap_or (option_map (close_by run.spans) o) end_of_run))
+  unfolding Alike
+  alike_by p (Some switch) = inl refl
+  alike_by p None =
+      let go = go_of run.spans p.stay.opening in
+      elim (cases_lt run.cycles go) [
+        | inl late ↦
+            let most : max run.cycles go ≡ go = omega (arith, late) in
+            inr (
+              idle (flow_by p (past run p)) (omega (arith, most)),
+              idle (flow_by p end_of_run) (omega (arith, late)),
+            )
+        | inr early ↦
+            let most : max run.cycles go ≡ run.cycles = omega (arith, early) in
+            inl (λ q. flow_by p (record {
+              until = run.cycles;
+              stop = most q;
+              fin = most q + max_path_delay;
+            }))
+      ]
+
+  alike : (p : Placed) → Alike (flow_in run p) (flow_there p)
+  alike p = alike_by p p.stay.closing
+
+  -- ---- the flits of all
+
+  module _ (is_chip : IsChip run.design.chip) (sound : IsSound run) (l : LinkId) (k : ℕ)
+      (short : k < delay_of run.design.chip.links l) where
+    -- A path has the link once.
+    once : (p : Placed) (i j : ℕ) → slice_get (flow_in run p).path i ≡ Some l
+        → slice_get (flow_in run p).path j ≡ Some l → i ≡ j
+    once p i j one two =
+        let grant = grant_at run.design p.channel p.stay.group in
+        let is = grant_at-is run.design p.channel p.stay.group i l one in
+        sound.granted.once grant i j l is.has one two
+
+    same_by : (p : Placed) (t : ℕ) → Alike (flow_in run p) (flow_there p)
+        → all_on_wire run.design.chip.links (flow_in run p)
+        (wire_at run.design.chip.links l.0 k) (t + k)
+        ≡ flits_on run.design.chip.links l.0 t (flow_there p)
+    unfolding Alike
+    same_by p t (inl same) =
+        same_flits run.design.chip.links (flow_in run p) l k short (once p) t
+        ∙ ap (flits_on run.design.chip.links l.0 t) same
+    same_by p t (inr never) =
+        none-idle run.design.chip.links (flow_in run p) never.0
+        (wire_at run.design.chip.links l.0 k) (t + k)
+        ∙ sym (none-idle_on run.design.chip.links (flow_there p) never.1 l.0 t)
+
+    -- By the sessions in place of their numbers.
+    listed : (wire t : ℕ) → carries (fabric_over run) wire t
+        ≡ flat_map (λ (p : Placed). all_on_wire run.design.chip.links (flow_in run p) wire t)
+        (placed_of run)
+    listed wire t =
+        let all = placed_of run in
+        let on = λ (p : Placed). all_on_wire run.design.chip.links (flow_in run p) wire t in
+        let numbers = range_with_len 0 (length all) in
+        sym (flat_map-map on (λ (c : ℕ). get_or all c no_placed) numbers)
+        ∙ ap (flat_map on) (items-numbered all no_placed)
+
+    pub carried_behind : (t : ℕ)
+        → carries (fabric_over run) (wire_at run.design.chip.links l.0 k) (t + k)
+        ≡ carries_in run l.0 t
+    carried_behind t =
+        let wire = wire_at run.design.chip.links l.0 k in
+        listed wire (t + k)
+        ∙ flat_map-same
+        (λ (p : Placed). all_on_wire run.design.chip.links (flow_in run p) wire (t + k))
+        (λ (p : Placed). flits_on run.design.chip.links l.0 t (flow_there p)) (placed_of run)
+        (λ i p at. same_by p t (alike p))
+        ∙ sym (flat_map-map (flits_on run.design.chip.links l.0 t) flow_there (placed_of run))
+        ∙ ap (flat_map (flits_on run.design.chip.links l.0 t)) (sym flows-are)
+
+    pub carried_early : (t : ℕ) → t < k
+        → carries (fabric_over run) (wire_at run.design.chip.links l.0 k) t ≡ []
+    carried_early t early =
+        let wire = wire_at run.design.chip.links l.0 k in
+        listed wire t
+        ∙ flat_map-none
+        (λ (p : Placed). all_on_wire run.design.chip.links (flow_in run p) wire t) (placed_of run)
+        (λ i p at. none-early run.design.chip.links (flow_in run p) l k short t early)
+
+  -- So it is on the first wire of each link.
+  pub carried_first : IsChip run.design.chip → IsSound run → (l t : ℕ)
+      → l < length run.design.chip.links → carries (fabric_over run) l t ≡ carries_in run l t
+  carried_first is_chip sound l t known =
+      let link : LinkId = record { 0 = l } in
+      let delay = (delay_of-range run.design.chip link is_chip known).0 in
+      let same : t + 0 ≡ t = omega arith in
+      ap (carries (fabric_over run) l) (sym same)
+      ∙ carried_behind is_chip sound link 0 (omega (arith, delay)) t

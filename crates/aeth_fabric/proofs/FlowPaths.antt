@@ -1,0 +1,79 @@
+-- Each session has its path over the wires of its chip.
+use Rattle.std.proofs.Common.{◌≡◌, ◌⊎◌, ◌<◌, ◌∙◌, ℕ, suc, List, Some, length, slice_get, sym, subst, inl}
+use Rattle.std.proofs.Common.{inr, arith}
+use Rattle.std.proofs.lemmas.Option.{same_Some, slice_get_within}
+use Rattle.aeth_chip.specs.Chip.{IsChip}
+use Rattle.aeth_chip.specs.Paths.{IsPath}
+use Rattle.aeth_report.specs.Flows.{Run}
+use Rattle.aeth_refinement.specs.Accepted.{HasPath, IsRouterPlace, IsStagePlace}
+use Rattle.aeth_refinement.specs.Fabric.{AtInterface}
+use Rattle.aeth_fabric.specs.Fabric.{Placed, fabric_over, flow_in, opposite_in, placed_at, placed_of}
+use Rattle.aeth_fabric.specs.Fabric.{row_in}
+use Rattle.aeth_fabric.specs.Paths.{wires_along}
+use Rattle.aeth_fabric.specs.Wiring.{end_of}
+use Rattle.aeth_fabric.proofs.PathHops.{GoesOn, Landed, Routed, Staged, begins, goes_on}
+
+module _ (run : Run) (is_chip : IsChip run.design.chip) (c : ℕ) (known : c < length (placed_of run))
+  where
+    abbrev one : Placed
+    one = placed_at run c
+
+    abbrev wires : List ℕ
+    wires = wires_along run.design.chip.links (flow_in run one).path
+
+    -- The path leads from its interface to that of the opposite session.
+    abbrev pub LeadsBack : Type 0
+    LeadsBack = IsPath run.design.chip.links (row_in run (placed_at run c)).ni
+        (row_in run (placed_at run (opposite_in run c))).ni (flow_in run (placed_at run c)).path
+
+    module _ (is_path : LeadsBack) where
+      abbrev Goes : ℕ → ℕ → Type 0
+      Goes = GoesOn run.design.chip is_chip (row_in run one).ni (row_in run (placed_at run (opposite_in run c))).ni
+          (flow_in run one).path is_path
+
+      -- Where a wire isn't the last, the next one is that of the path.
+      inner-in : (i l m : ℕ) → slice_get wires (suc i) ≡ Some m → Goes i l
+          → IsRouterPlace (fabric_over run) c i l m ⊎ IsStagePlace (fabric_over run) c i l m
+      inner-in i l m next (Routed n at through) =
+          let same : n ≡ m = same_Some n m (sym at ∙ next) in
+          inl (subst (λ (k : ℕ). IsRouterPlace (fabric_over run) c i l k) same (record {
+            router = through.router;
+            ends = through.ends;
+            starts = through.starts;
+            hops = through.hops;
+            names = through.names;
+          }))
+      inner-in i l m next (Staged n at through) =
+          let same : n ≡ m = same_Some n m (sym at ∙ next) in
+          inr (subst (λ (k : ℕ). IsStagePlace (fabric_over run) c i l k) same (record {
+            ends = through.ends;
+            starts = through.starts;
+            hops = through.hops;
+          }))
+      inner-in i l m next (Landed arrives) =
+          let within = slice_get_within wires (suc i) m next in
+          let last = arrives.last in
+          absurd (omega (arith, within, last))
+
+      last-in : (i l : ℕ) → suc i ≡ length wires → Goes i l
+          → end_of run.design.chip.links l ≡ AtInterface (row_in run (placed_at run (opposite_in run c))).ni.0
+      last-in i l all (Routed n at through) =
+          let within = slice_get_within wires (suc i) n at in absurd (omega (arith, within, all))
+      last-in i l all (Staged n at through) =
+          let within = slice_get_within wires (suc i) n at in absurd (omega (arith, within, all))
+      last-in i l all (Landed arrives) = arrives.ends
+
+      pub has_path : HasPath (fabric_over run) c
+      has_path =
+          let go = goes_on run.design.chip is_chip (row_in run one).ni (row_in run (placed_at run (opposite_in run c))).ni
+          (flow_in run one).path is_path in
+          let first = begins run.design.chip is_chip (row_in run one).ni
+          (row_in run (placed_at run (opposite_in run c))).ni (flow_in run one).path is_path in
+          record {
+            first = first.first;
+            at = first.at;
+            starts = first.starts;
+            none_passed = first.none_passed;
+            inner = λ i l m here next. inner-in i l m next (go i l here);
+            last = λ i l here all. last-in i l all (go i l here);
+          }

@@ -1,0 +1,17 @@
+pub mod WirePlaces
+pub mod WireEnds
+pub mod WiredLemmas
+pub mod Flattened
+pub mod PathWires
+pub mod PathHops
+pub mod Numbers
+pub mod Answering
+pub mod ApartWires
+pub mod Windows
+pub mod FlowPaths
+pub mod CarriedFlits
+pub mod Carrying
+pub mod SessionRows
+pub mod ApartTables
+pub mod WritableRuns
+pub mod RunFabrics

@@ -1,0 +1,122 @@
+-- The fabric of accepted inputs is accepted.
+use Rattle.std.proofs.Common.{◌≤◌, ◌<◌, ◌^◌, ℕ, length, refl, sym, subst, arith}
+use Rattle.aeth_base.specs.Limits.{max_queue_words}
+use Rattle.aeth_chip.specs.Paths.{IsAdmissible}
+use Rattle.aeth_group.specs.Members.{groups_of}
+use Rattle.aeth_header.specs.Layout.{queue_bits}
+use Rattle.aeth_report.specs.Channels.{opposite}
+use Rattle.aeth_report.specs.Design.{grant_at, shape_at}
+use Rattle.aeth_report.specs.Sessions.{session_of}
+use Rattle.aeth_report.specs.Sound.{IsSound}
+use Rattle.aeth_report.proofs.OneFlit.{session-paths}
+use Rattle.aeth_report.proofs.Stays.{IsStayOf, stays_of-is}
+use Rattle.aeth_report.proofs.StaysAlone.{at-Contains}
+use Rattle.aeth_report.specs.Flows.{sessions_in}
+use Rattle.aeth_server.specs.Shape.{buffer_of}
+use Rattle.aeth_refinement.specs.Accepted.{AreApart, HasPath, IsAccepted, IsGiven}
+use Rattle.aeth_accepted.specs.Inputs.{AreAccepted, Inputs, design_of, row_at, run_of}
+use Rattle.aeth_accepted.proofs.SoundRuns.{AreSpans, is_sound}
+use Rattle.aeth_fabric.specs.Fabric.{Placed, fabric_of, flow_in, opposite_in, passage_of, placed_at}
+use Rattle.aeth_fabric.specs.Fabric.{placed_of, row_in, stays_in}
+use Rattle.aeth_fabric.proofs.Answering.{answered, values-accepted}
+use Rattle.aeth_fabric.proofs.ApartTables.{all_apart, queues_apart}
+use Rattle.aeth_fabric.proofs.ApartWires.{session_at, shares_none}
+use Rattle.aeth_fabric.proofs.FlowPaths.{has_path}
+use Rattle.aeth_fabric.proofs.Numbers.{IsPlacedAt, opposite-is, placed-there}
+use Rattle.aeth_fabric.proofs.PathHops.{route_fits}
+use Rattle.aeth_fabric.proofs.PathWires.{length-wires_along}
+use Rattle.aeth_fabric.proofs.SessionRows.{few_words, fits_remote, leads}
+use Rattle.aeth_fabric.proofs.Windows.{drained, one_entry, one_queue, one_route, ordered}
+use Rattle.aeth_fabric.proofs.WiredLemmas.{is_wired}
+use Rattle.aeth_fabric.proofs.WritableRuns.{writable}
+
+module _ (inputs : Inputs) (accepted : AreAccepted inputs) (spans : AreSpans inputs accepted) where
+  sound : IsSound (run_of inputs)
+  sound = is_sound inputs accepted spans
+
+  -- A session by its number.
+  module _ (c : ℕ) (within : c < length (placed_of (run_of inputs))) where
+    abbrev p : Placed
+    p = placed_at (run_of inputs) c
+
+    is : IsPlacedAt (run_of inputs) c (placed_at (run_of inputs) c)
+    is = placed-there (run_of inputs) c within
+
+    of : IsStayOf (groups_of inputs.app) p.channel.conn.0 p.stay
+    of = stays_of-is (groups_of inputs.app) p.channel.conn.0 inputs.switches p.stay sound.known
+        (at-Contains (stays_in (run_of inputs) p.channel.conn.0) p.place p.stay is.stay_at)
+
+    -- Its path leads from its interface to that of the opposite session.
+    leads_back : IsAdmissible inputs.chip.links inputs.app.detour
+        (row_in (run_of inputs) (placed_at (run_of inputs) c)).ni
+        (row_in (run_of inputs)
+        (placed_at (run_of inputs) (opposite_in (run_of inputs) c))).ni
+        (flow_in (run_of inputs) (placed_at (run_of inputs) c)).path
+    leads_back =
+        let links = inputs.chip.links in
+        let detour = inputs.app.detour in
+        let design = design_of inputs in
+        let back = (opposite-is (run_of inputs) c within).is in
+        let here = subst (λ (g : ℕ). IsAdmissible links detour (row_at design g p.channel).ni
+        (row_at design g (opposite p.channel)).ni (grant_at design p.channel g).path) of.in_group
+        (leads inputs accepted of.use_case p.channel of.has) in
+        subst (λ (q : Placed). IsAdmissible links detour (row_in (run_of inputs) p).ni
+        (row_in (run_of inputs) q).ni (flow_in (run_of inputs) p).path) (sym back) here
+
+    path : HasPath (fabric_of inputs) c
+    path = has_path (run_of inputs) accepted.design.chip_is c within leads_back.is_path
+
+    given : IsGiven (fabric_of inputs) c
+    given =
+        let design = design_of inputs in
+        let run = run_of inputs in
+        let flow = flow_in run p in
+        let session = session_of run.spans p.stay in
+        let has = at-Contains (sessions_in run p.channel.conn.0) p.place session
+        (session_at run c p is) in
+        let remote = subst (λ (g : ℕ). (row_at design g p.channel).remote < 2 ^ queue_bits)
+        of.in_group (fits_remote inputs accepted of.use_case p.channel of.has) in
+        let few = subst (λ (g : ℕ). buffer_of (shape_at design p.channel g) ≤ max_queue_words)
+        of.in_group (few_words inputs accepted of.use_case p.channel of.has) in
+        record {
+          sendable = record {
+            route = route_fits inputs.chip accepted.design.chip_is (row_in run p).ni
+                (row_in run (placed_at run (opposite_in run c))).ni flow.path leads_back.is_path
+                leads_back.fits;
+            remote = remote;
+            paths = session-paths run sound p.channel session has;
+            back_paths = session-paths run sound (opposite p.channel) session has;
+          };
+          size = refl;
+          delay = sym (length-wires_along inputs.chip.links flow.path);
+          values = values-accepted run p;
+          buffer = omega (arith, few);
+          drained = drained run sound (writable inputs accepted spans sound) c within;
+        }
+
+  apart : (c d : ℕ) → c < length (placed_of (run_of inputs))
+      → d < length (placed_of (run_of inputs)) → AreApart (fabric_of inputs) c d
+  apart c d known_c known_d =
+      let run = run_of inputs in
+      let may = writable inputs accepted spans sound in
+      record {
+        wire = shares_none run accepted.design.chip_is sound c d known_c known_d;
+        queue = one_queue run may c d known_c known_d (queues_apart inputs accepted);
+        route = one_route run may c d known_c known_d (all_apart inputs accepted);
+        entry = one_entry run may c d known_c known_d (all_apart inputs accepted);
+      }
+
+  -- So it is.
+  pub is_accepted : IsAccepted (fabric_of inputs)
+  is_accepted =
+      let run = run_of inputs in
+      let may = writable inputs accepted spans sound in
+      record {
+        path = path;
+        answered = answered run;
+        given = given;
+        ordered = ordered run sound may;
+        apart = apart;
+        wired = is_wired inputs.chip accepted.design.chip_is (length (placed_of run))
+            (λ c. passage_of run (placed_at run c)) (opposite_in run);
+      }

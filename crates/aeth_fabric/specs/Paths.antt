@@ -1,0 +1,26 @@
+-- The wires along a path of links.
+--
+--   wires_on, wires_along      the wires of a link, and of the links of a path
+--   hops_along      how many routers a flit has passed by at a place
+-- This project's own.
+use Rattle.std.specs.Prelude.{ℕ, suc, ◌-◌, nat_lt, if◌then◌else◌, List, [], ◌∷◌, flat_map, map}
+use Rattle.std.specs.List.{range_with_len}
+use Rattle.aeth_base.specs.declared.ids.LinkId.{LinkId}
+use Rattle.aeth_chip.specs.Paths.{delay_of}
+use Rattle.aeth_chip.specs.Wires.{wire_at}
+use Rattle.aeth_chip.specs.declared.node.Link.{Link}
+
+-- The wires of a link, in the order of travel.
+abbrev pub wires_on : List Link → LinkId → List ℕ
+wires_on links link = map (wire_at links link.0) (range_with_len 0 (delay_of links link))
+
+-- The wires of a path's links, so that a place is an offset.
+abbrev pub wires_along : List Link → List LinkId → List ℕ
+wires_along links path = flat_map (wires_on links) path
+
+-- How many links of a path come before the link of the wire at a place: a router stands behind each.
+abbrev pub hops_along : List Link → List LinkId → ℕ → ℕ
+hops_along links [] place = 0
+hops_along links (link ∷ path) place =
+    if nat_lt place (delay_of links link) then 0
+    else suc (hops_along links path (place - delay_of links link))
