@@ -1,6 +1,9 @@
 -- What holds of components and channels in each phase of a cycle.
 use Rattle.std.proofs.Common.{ℕ, ◌≡◌, refl, sym, ◌∙◌, ap, subst, length, map, List, Option}
 use Rattle.std.proofs.Common.{arith, fold}
+use Rattle.std.proofs.Common.{zero, suc, [], ◌∷◌, Some, slice_get, length-set}
+use Rattle.std.specs.Prelude.{slice_set}
+use Rattle.std.proofs.lemmas.Option.{same_Some}
 use Rattle.std.specs.List.{All, range_with_len}
 use Rattle.std.proofs.lemmas.List.Elements.{All-map}
 use Rattle.std.proofs.lemmas.List.{length-map}
@@ -16,8 +19,8 @@ use Rattle.aeth_components.proofs.TurnLemmas.{All-turns, IsLane-pulled, IsLane-r
 use Rattle.aeth_components.proofs.TurnLemmas.{frames-pulled, frames-refilled, frames-turns}
 use Rattle.aeth_components.specs.Changes.{switched}
 use Rattle.aeth_components.specs.Components.{ComponentsState, Cycle, IsComponents, Runs}
-use Rattle.aeth_components.specs.Components.{components_of, driven_from, latched_from, moment_of}
-use Rattle.aeth_components.specs.Components.{ready_of, switched_from}
+use Rattle.aeth_components.specs.Components.{components_of, driven_from, frames_of, latched_from}
+use Rattle.aeth_components.specs.Components.{moment_of, ready_of, switched_from}
 use Rattle.aeth_components.specs.Counting.{counted, flits_counted, noted}
 use Rattle.aeth_components.specs.Frames.{Frame, IsWired, frame_of}
 use Rattle.aeth_components.specs.Lanes.{IsLane}
@@ -143,6 +146,8 @@ module _ (events : List Event) (cycle : ℕ) (old : ComponentsState) (wires : Li
             fold (noted cycle moment.parts) old.landings moment.lanes) runs.moment;
         flits = tallies;
         frames = runs.frames;
+        size = sym (length-map latched.parts frame_of) ∙ ap length runs.frames
+            ∙ length-map old.parts frame_of;
         count = ap length counts ∙ length-map latched.lanes (counted cycle latched.parts)
             ∙ runs.count;
       }
@@ -189,6 +194,30 @@ IsComponents-switched events all before =
       flits = before.flits;
       few = before.few;
     }
+
+-- A component in place of one with the same frame.
+frames-slice_set : (parts : List Part) (number : ℕ) (part : Part)
+    → slice_get (map frame_of parts) number ≡ Some (frame_of part)
+    → map frame_of (slice_set parts number part) ≡ map frame_of parts
+frames-slice_set [] number part at = absurd cc
+frames-slice_set (first ∷ parts) zero part at =
+    ap (λ (frame : Frame). frame ∷ map frame_of parts)
+    (sym (same_Some (frame_of first) (frame_of part) at))
+frames-slice_set (first ∷ parts) (suc number) part at =
+    ap (λ (frames : List Frame). frame_of first ∷ frames) (frames-slice_set parts number part at)
+
+pub IsComponents-replaced : (number : ℕ) (part : Part) (all : ComponentsState)
+    → slice_get (frames_of all) number ≡ Some (frame_of part) → IsComponents all
+    → IsComponents (record all { parts = slice_set all.parts number part })
+IsComponents-replaced number part all at before = record {
+  wired = subst (λ (frames : List Frame). IsWired frames (length all.wires))
+      (sym (frames-slice_set all.parts number part at)) before.wired;
+  lanes = subst (λ n. All (IsLane (length all.words) n) all.lanes)
+      (sym (length-set all.parts number part)) before.lanes;
+  landings = before.landings;
+  flits = before.flits;
+  few = before.few;
+}
 
 -- Components whose lists are the same.
 pub components-same : (wires : List (Option Flit)) (words : List ℕ) (parts parts_too : List Part)

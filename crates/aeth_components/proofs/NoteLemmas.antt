@@ -7,12 +7,12 @@ use Rattle.std.proofs.lemmas.Option.{same_Some, slice_get_within}
 use Rattle.aeth_base.proofs.Lists.{slice_get-slice_set_same, slice_get-slice_set_other}
 use Rattle.aeth_clocked.specs.declared.flit.Flit.{Flit}
 use Rattle.aeth_router.specs.declared.part.Part.{Part}
+use Rattle.aeth_components.specs.declared.lane.Lane.{Lane}
 use Rattle.aeth_components.proofs.CountingLemmas.{length-noted, length-written_over, noted-closed}
 use Rattle.aeth_components.proofs.CountingLemmas.{noted-open}
 use Rattle.aeth_components.specs.Counting.{brings, flits_counted, noted, with_flit, written_over}
 use Rattle.aeth_components.specs.Lanes.{is_open}
 use Rattle.aeth_components.specs.Laws.{LandsAt, NotesAlone}
-use Rattle.aeth_components.specs.declared.lane.Lane.{Lane}
 
 -- A place among those that are written over.
 pub written_over-within : (count from value : ℕ) (list : List ℕ) (place : ℕ)

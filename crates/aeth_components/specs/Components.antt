@@ -119,4 +119,5 @@ pub record Cycle (events : List Event) (cycle : ℕ) (old new : ComponentsState)
       new.landings ≡ fold (noted cycle latched.parts) old.landings latched.lanes
   pub flits : new.flits ≡ flits_counted new.wires old.flits
   pub frames : frames_of new ≡ frames_of old
+  pub size : length new.parts ≡ length old.parts
   pub count : length new.lanes ≡ length old.lanes

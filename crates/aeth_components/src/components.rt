@@ -24,6 +24,9 @@ use aeth_router::Part;
 use std::alloc::Global;
 use std::marker::Model;
 
+#[cfg(test)]
+mod tests;
+
 /// The components of a network, its wires, the session of each channel, and what a log is made of:
 /// the cycle in which each word landed, and the flits on each link. It knows nothing of what should
 /// come out.

@@ -1,0 +1,10 @@
+use Rattle.std.proofs.Common.{◌≡◌, length}
+use Rattle.aeth_components.proofs.components.tests.play.Given as goal
+use Rattle.aeth_components.specs.Components.{frames_of}
+
+-- The order fits the components, whose frames stay.
+abbrev pub invariant-loop-cycle : goal.invariant-loop-cycle
+invariant-loop-cycle l = record {
+  size : length l.pair.parts ≡ length l.fn.pair.parts;
+  frames : frames_of l.pair ≡ frames_of l.fn.pair;
+}
