@@ -3,6 +3,7 @@ pub mod CountingLemmas
 mod CycleLemmas
 pub mod FrameLemmas
 mod LaneLemmas
+pub mod MadeParts
 pub mod MadeLemmas
 pub mod NoteLemmas
 pub mod PartLemmas

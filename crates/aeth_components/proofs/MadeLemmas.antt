@@ -1,8 +1,8 @@
 -- Laws of the components of a chip: they are wired.
-use Rattle.std.proofs.Common.{ℕ, zero, suc, ◌≡◌, ◌<◌, ◌≤◌, ◌+◌, ◌-◌, refl, sym, ◌∙◌, ap, arith}
-use Rattle.std.proofs.Common.{List, [], ◌∷◌, ◌++◌, length, map, get_or, take, Some}
-use Rattle.std.proofs.Common.{slice_get, true, false, inl, inr, eqb-true}
-use Rattle.std.proofs.lemmas.Bool.{cases_Bool, cases_lt, eq-eqb}
+use Rattle.std.proofs.Common.{ℕ, ◌≡◌, ◌<◌, ◌+◌, ◌-◌, refl, sym, ◌∙◌, ap, arith}
+use Rattle.std.proofs.Common.{List, [], ◌∷◌, ◌++◌, length, map, get_or, Some}
+use Rattle.std.proofs.Common.{slice_get, true, inl, inr, eqb-true}
+use Rattle.std.proofs.lemmas.Bool.{cases_lt, eq-eqb}
 use Rattle.std.specs.Prelude.{◌==◌, slice_index, ◌⊎◌}
 use Rattle.std.specs.List.{range_with_len}
 use Rattle.std.specs.Option.{option_map}
@@ -11,171 +11,24 @@ use Rattle.std.proofs.lemmas.List.FromFn.{length-map-range_with_len}
 use Rattle.std.proofs.lemmas.Option.{slice_get-get_or, slice_get-map, slice_get_within, same_Some}
 use Rattle.aeth_chip.specs.Chip.{ChipData, IsChip, IsNode}
 use Rattle.aeth_chip.specs.Nodes.{begins_at, receives_on, same_node, sends_on}
-use Rattle.aeth_chip.specs.Paths.{delay_of}
 use Rattle.aeth_chip.specs.Wires.{further_wires, wire_at, wires_of}
 use Rattle.aeth_chip.specs.declared.node.Link.{Link}
 use Rattle.aeth_chip.specs.declared.node.Node.{Node}
 use Rattle.aeth_chip.specs.declared.node.Node.TheVariants.{Router, Ni}
-use Rattle.aeth_chip.proofs.WireLemmas.{HaveDelays, have_delays, sum_by-take_more, wire_at-behind}
+use Rattle.aeth_chip.proofs.WireLemmas.{HaveDelays, have_delays, wire_at-behind}
 use Rattle.aeth_chip.proofs.WireLemmas.{wire_at-below, wires_of-split}
 use Rattle.aeth_router.proofs.LinkLemmas.{is_among-from_passes, passes-from_is_among}
 use Rattle.aeth_router.proofs.WireLemmas.{AreLinks-entering_wires}
 use Rattle.aeth_router.specs.Router.{is_among, last_wire}
 use Rattle.aeth_router.specs.declared.part.Part.{Part}
-use Rattle.aeth_base.proofs.Ranges.{range_with_len-more}
-use Rattle.std.proofs.lemmas.List.{flat_map_more}
-use Rattle.std.specs.List.{flat_map}
 use Rattle.aeth_components.proofs.FrameLemmas.{from-map}
+use Rattle.aeth_components.proofs.MadeParts.{StageAt, among-first, among-only, at-append, at-range}
+use Rattle.aeth_components.proofs.MadeParts.{item-at, length-made_stages, place_of, place_of-below}
+use Rattle.aeth_components.proofs.MadeParts.{same_node-place, same_node-refl, stage-at}
 use Rattle.aeth_components.specs.Components.{part_count}
 use Rattle.aeth_components.specs.Frames.{Frame, IsWired, frame_of, receives_by, sends_by}
-use Rattle.aeth_components.specs.Making.{link_stages, made_interface, made_router, made_stage}
+use Rattle.aeth_components.specs.Making.{made_interface, made_router, made_stage}
 use Rattle.aeth_components.specs.Making.{made_stages, new_parts}
-
--- An element of two lists in a row is one of either.
-at-append : {X : Type 0} (xs ys : List X) (i : ℕ) (x : X) → slice_get (xs ++ ys) i ≡ Some x →
-    ((i < length xs) × (slice_get xs i ≡ Some x))
-    ⊎ ((j : ℕ) × (i ≡ length xs + j) × (slice_get ys j ≡ Some x))
-at-append [] ys i x at = inr (i, omega arith, at)
-at-append (first ∷ xs) ys zero x at = inl (omega arith, at)
-at-append (first ∷ xs) ys (suc i) x at =
-    elim (at-append xs ys i x at) [
-      | inl here ↦ inl (let within = here.0 in omega arith, here.1)
-      | inr later ↦ inr (later.0, let place = later.1 in omega arith, later.2)
-    ]
-
--- An element of a mapped range is that of its number.
-at-range : {X : Type 0} (f : ℕ → X) (start size i : ℕ) (x : X) →
-    slice_get (map f (range_with_len start size)) i ≡ Some x → (i < size) × (x ≡ f (start + i))
-at-range f start zero i x at = absurd cc
-at-range f start (suc size) zero x at = (
-  omega arith,
-  sym (same_Some (f start) x at)
-      ∙ ap f (let same : start ≡ start + 0 = omega arith in same),
-)
-at-range f start (suc size) (suc i) x at =
-    let rest = at-range f (start + 1) size i x at in (
-      let within = rest.0 in omega arith,
-      rest.1
-          ∙ ap f (let same : start + 1 + i ≡ start + suc i = omega arith in same),
-    )
-
--- The number of the component at a node, behind so many interfaces.
-abbrev pub place_of : ℕ → Node → ℕ
-place_of count (Ni n) = n.0
-place_of count (Router r) = count + r.0
-
--- One node is at one place.
-same_node-place : (count : ℕ) (some other : Node) → same_node some other ≡ true →
-    place_of count some ≡ place_of count other
-same_node-place count (Router r) (Router q) same = ap (λ n. count + n) (eqb-true r.0 q.0 same)
-same_node-place count (Router r) (Ni m) same = absurd (cc same)
-same_node-place count (Ni n) (Router q) same = absurd (cc same)
-same_node-place count (Ni n) (Ni m) same = eqb-true n.0 m.0 same
-
--- A node is itself.
-same_node-refl : (node : Node) → same_node node node ≡ true
-same_node-refl (Router r) = eq-eqb r.0 r.0 refl
-same_node-refl (Ni n) = eq-eqb n.0 n.0 refl
-
--- The place of a node of a chip.
-place_of-below : (routers nis : List (List ℕ)) (node : Node) → IsNode routers nis node
-    → place_of (length nis) node < length nis + length routers
-place_of-below routers nis (Router r) known = omega arith
-place_of-below routers nis (Ni n) known = omega arith
-
--- A member of a list with one is that one.
-among-first : (only wire : ℕ) → is_among (only ∷ []) wire ≡ true → (only == wire) ≡ true
-among-first only wire among =
-    elim (cases_Bool (only == wire)) [
-      | inl same ↦ same
-      | inr other ↦ absurd (let no : false ≡ true = rw other at among in cc)
-    ]
-
--- The only member of a list is among its members.
-among-only : (list : List ℕ) (only link : ℕ) → list ≡ only ∷ [] →
-    (slice_index list 0 == link) ≡ true → is_among list link ≡ true
-among-only list only link is same =
-    let here : (only == link) ≡ true = rw is at same in
-    rw is (rw here refl)
-
--- A list has an item at each place within.
-item-at : {X : Type 0} (xs : List X) (i : ℕ) → i < length xs → (x : X) × (slice_get xs i ≡ Some x)
-item-at [] i within = absurd (omega arith)
-item-at (x ∷ xs) zero within = (x, refl)
-item-at (x ∷ xs) (suc i) within = item-at xs i (omega arith)
-
--- The stage of a number among those of the first links: its link, its place, and the component.
-pub record StageAt (links : List Link) (number : ℕ) (part : Part) : Type 0 where
-  pub link : ℕ
-  pub place : ℕ
-  pub found : Link
-  pub at : slice_get links link ≡ Some found
-  pub short : place + 1 < found.delay
-  pub number_is : number ≡ further_wires (take link links) + place
-  pub is : part ≡ made_stage links link place
-
--- One link more has its stages behind those of the links before it.
-pub made_stages-more : (links : List Link) (count : ℕ)
-    → made_stages links (count + 1) ≡ made_stages links count ++ link_stages links count
-made_stages-more links count =
-    ap (λ n. made_stages links n) (let same : count + 1 ≡ suc count = omega arith in same)
-    ∙ ap (flat_map (link_stages links)) (range_with_len-more 0 count count (omega arith))
-    ∙ sym (flat_map_more (link_stages links) [] (range_with_len 0 count) count)
-
--- The stages of a link.
-length-link_stages : (links : List Link) (link : ℕ) (found : Link)
-    → slice_get links link ≡ Some found → length (link_stages links link) ≡ found.delay - 1
-length-link_stages links link found at =
-    length-map-range_with_len (made_stage links link) 0
-    (delay_of links (record { 0 = link }) - 1) ∙ rw at refl
-
-module _ (links : List Link) where
-  -- As many stages as further wires.
-  length-made_stages : (count : ℕ) → count ≤ length links
-      → length (made_stages links count) ≡ further_wires (take count links)
-  length-made_stages zero within = refl
-  length-made_stages (suc count) within =
-      let item = item-at links count (omega arith) in
-      let found = item.0 in
-      let at = item.1 in
-      let rest = length-made_stages count (omega arith) in
-      let here = length-link_stages links count found at in
-      let more = sum_by-take_more (λ (link : Link). link.delay - 1) links count found at in
-      let same : suc count ≡ count + 1 = omega arith in
-      let whole : length (made_stages links count) + length (link_stages links count)
-      ≡ further_wires (take (count + 1) links) = omega arith in
-      ap (λ n. length (made_stages links n)) same ∙ ap length (made_stages-more links count)
-      ∙ length-append (made_stages links count) (link_stages links count) ∙ whole
-      ∙ ap (λ n. further_wires (take n links)) (sym same)
-
-  stage-at : (count : ℕ) → count ≤ length links → (number : ℕ) (part : Part)
-      → slice_get (made_stages links count) number ≡ Some part → StageAt links number part
-  stage-at zero within number part at = absurd cc
-  stage-at (suc count) within number part at =
-      let same : suc count ≡ count + 1 = omega arith in
-      let two : slice_get (made_stages links count ++ link_stages links count) number ≡ Some part =
-      ap (λ list. slice_get list number) (sym (made_stages-more links count)
-      ∙ ap (λ n. made_stages links n) (sym same)) ∙ at in
-      let size = length-made_stages count (omega arith) in
-      elim (at-append (made_stages links count) (link_stages links count) number part two) [
-        | inl here ↦ stage-at count (omega arith) number part here.1
-        | inr later ↦
-            let stages = delay_of links (record { 0 = count }) - 1 in
-            let one = at-range (made_stage links count) 0 stages later.0 part later.2 in
-            let item = item-at links count (omega arith) in
-            let place = later.1 in
-            let short : later.0 < item.0.delay - 1 = rw item.1 at one.0 in
-            record {
-              link = count;
-              place = later.0;
-              found = item.0;
-              at = item.1;
-              short = omega arith;
-              number_is = omega arith;
-              is = one.1 ∙ ap (made_stage links count)
-                  (let same : 0 + later.0 ≡ later.0 = omega arith in same);
-            }
-      ]
 
 -- The component of a number is an interface, a router, or a stage.
 pub data Made (chip : ChipData) (rooms : List ℕ) (i : ℕ) (part : Part) : Type 0 where

@@ -1,6 +1,6 @@
 use Rattle.std.proofs.Common.{append_assoc}
 use Rattle.aeth_components.proofs.making.push_stages.Goals as goal
-use Rattle.aeth_components.proofs.MadeLemmas.{made_stages-more}
+use Rattle.aeth_components.proofs.MadeParts.{made_stages-more}
 use Rattle.aeth_components.specs.Making.{link_stages, made_stages}
 
 -- The stages of one link more.
