@@ -1,0 +1,164 @@
+-- What the components drive on each wire is what those of the law drive.
+use Rattle.std.proofs.Common.{◌≡◌, ◌≤◌, ◌<◌, ◌∙◌, ℕ, ◌%◌, refl, sym, ap, arith, inl, inr, true}
+use Rattle.std.proofs.Common.{List, Option, Some, None, get_or, length, map, slice_get}
+use Rattle.std.specs.Prelude.{◌==◌, option_and_then, position, unwrap_or}
+use Rattle.std.specs.List.{slice_index_or}
+use Rattle.std.proofs.lemmas.Bool.{cases_lt, eq-eqb}
+use Rattle.std.proofs.lemmas.List.FromFn.{get_or-map-range_with_len, length-map-range_with_len}
+use Rattle.std.proofs.lemmas.List.Quantifiers.{position-Some}
+use Rattle.std.proofs.lemmas.Map.Keys.{any_passes_from_place}
+use Rattle.std.proofs.lemmas.Option.{slice_get-get_or, slice_get_past}
+use Rattle.aeth_base.specs.declared.ids.LinkId.{LinkId}
+use Rattle.aeth_clocked.specs.Driven.{driven}
+use Rattle.aeth_clocked.proofs.DrivenLemmas.{driven-at}
+use Rattle.aeth_clocked.specs.Wires.{flit_on}
+use Rattle.aeth_clocked.specs.declared.flit.Flit.{Flit}
+use Rattle.aeth_ni.specs.Component.{emitted_by as ni_emitted, queue_at_cycle}
+use Rattle.aeth_ni.specs.Interface.{queue_at}
+use Rattle.aeth_ni.specs.Queue.{QueueState}
+use Rattle.aeth_router.specs.Part.{emit_of, outputs_of}
+use Rattle.aeth_router.specs.Ports.{flits_for, sole}
+use Rattle.aeth_router.specs.Router.{is_among}
+use Rattle.aeth_router.specs.declared.part.Part.{Part}
+use Rattle.aeth_router.specs.declared.part.Part.TheVariants.{Interface, Router, Stage}
+use Rattle.aeth_components.proofs.FrameLemmas.{AreDisjoint-parts, from-map}
+use Rattle.aeth_components.specs.Components.{wires_driven}
+use Rattle.aeth_components.specs.Frames.{InterfaceFrame, IsWired, RouterFrame, StageFrame}
+use Rattle.aeth_components.specs.Frames.{frame_of}
+use Rattle.aeth_components.specs.Switching.{entry_in}
+use Rattle.aeth_components.specs.View.{queue_in}
+use Rattle.aeth_refinement.specs.Components.{Net, emit, emitted_by}
+use Rattle.aeth_refinement.specs.Components.{driven as net_driven}
+use Rattle.aeth_refinement.specs.Fabric.{AtInterface, AtRouter, AtStage, Fabric, WireEnd}
+use Rattle.aeth_invariant.specs.Framed.{IsFramed, IsFrom, IsFromRouter, IsFromStage}
+use Rattle.aeth_invariant.specs.View.{HaveLatched, net_of}
+
+-- The flit on each of so many wires, and on no wire.
+pub flit_on-driven : (parts : List Part) (count cycle l : ℕ) → l < count
+    → flit_on (wires_driven parts count cycle) l ≡ driven outputs_of emit_of parts cycle l
+flit_on-driven parts count cycle l within =
+    let f = driven outputs_of emit_of parts cycle in
+    let size = length-map-range_with_len f 0 count in
+    ap (λ (found : Option (Option Flit)). unwrap_or found None)
+    (slice_get-get_or (wires_driven parts count cycle) l None (omega arith))
+    ∙ get_or-map-range_with_len f 0 count l l None within (omega arith)
+
+pub flit_on-past : (wires : List (Option Flit)) (l : ℕ) → length wires ≤ l → flit_on wires l ≡ None
+flit_on-past wires l past =
+    ap (λ (found : Option (Option Flit)). unwrap_or found None) (slice_get_past wires l past)
+
+-- What an interface emits goes by its entry and its queues.
+emitted-by : (entry : Option ℕ) (queues : List QueueState)
+    → ni_emitted entry queues ≡ emitted_by entry (queue_at queues)
+emitted-by None queues = refl
+emitted-by (Some queue) queues = refl
+
+-- A list where a number is at some place.
+is_among-position : (numbers : List ℕ) (l port : ℕ)
+    → position (λ other. other == l) numbers ≡ Some port → is_among numbers l ≡ true
+is_among-position numbers l port at =
+    let found = position-Some (λ other. other == l) numbers port 0 at in
+    any_passes_from_place (λ other. other == l) numbers port (get_or numbers port 0)
+    (slice_get-get_or numbers port 0 found.0) found.1
+
+module _ (fabric : Fabric) (parts : List Part) (old : List (Option Flit)) (t : ℕ) (handed : ℕ → ℕ)
+    (wired : IsWired (map frame_of parts) (length old))
+    (framed : IsFramed fabric (map frame_of parts) (length old)) (latched : HaveLatched parts old) where
+  abbrev net : Net
+  net = net_of handed parts old
+
+  -- What the sender of a wire emits is driven.
+  sent-on : (i l : ℕ) (part : Part) → l < length old → slice_get parts i ≡ Some part
+      → outputs_of part l ≡ true
+      → flit_on (wires_driven parts (length old) t) l ≡ emit_of part t l
+  sent-on i l part within at sends =
+      flit_on-driven parts (length old) t l within
+      ∙ driven-at outputs_of emit_of parts i t l part
+      (AreDisjoint-parts parts (length old) wired) at sends
+
+  from-interface : (l n : ℕ) → l < length old → IsFrom (map frame_of parts) n l
+      → flit_on (wires_driven parts (length old) t) l ≡ emit fabric net t l (AtInterface n)
+  from-interface l n within from =
+      let found = from-map frame_of parts n _ from.face in
+      let slots = framed.slots n from.number from.leaving from.entering from.slots from.queues
+      from.face in
+      let cases : (part : Part) → slice_get parts n ≡ Some part
+      → InterfaceFrame from.number from.leaving from.entering from.slots from.queues ≡ frame_of part
+      → flit_on (wires_driven parts (length old) t) l ≡ emit fabric net t l (AtInterface n) = elim [
+        | Interface ni ↦ λ at is.
+            let leaves : from.leaving ≡ ni.leaving = cc is in
+            let size : from.slots ≡ length ni.entries = cc is in
+            let number : ni.leaving.0 ≡ l = ap (λ (w : LinkId). w.0) (sym leaves) ∙ from.sends in
+            sent-on n l (Interface ni) within at (eq-eqb ni.leaving.0 l number)
+            ∙ emitted-by (queue_at_cycle ni.entries t) ni.queues
+            ∙ ap (λ (n : ℕ). emitted_by (slice_index_or ni.entries (t % n) None)
+            (queue_at ni.queues)) (sym size ∙ slots)
+            ∙ ap (λ (part : Option Part). emitted_by (entry_in (t % fabric.size) part)
+            (λ q. queue_in q part)) (sym at)
+        | Router router ↦ λ at is. absurd (cc is)
+        | Stage stage ↦ λ at is. absurd (cc is)
+      ] in
+      cases found.0 found.1 found.2
+
+  from-router : (l r : ℕ) → l < length old
+      → IsFromRouter (map frame_of parts) (fabric.incoming r) (fabric.port l) l
+      → flit_on (wires_driven parts (length old) t) l ≡ emit fabric net t l (AtRouter r)
+  from-router l r within from =
+      let found = from-map frame_of parts from.place _ from.face in
+      let cases : (part : Part) → slice_get parts from.place ≡ Some part
+      → RouterFrame (fabric.incoming r) from.outgoing ≡ frame_of part
+      → flit_on (wires_driven parts (length old) t) l ≡ emit fabric net t l (AtRouter r) = elim [
+        | Interface ni ↦ λ at is. absurd (cc is)
+        | Router router ↦ λ at is.
+            let enters : fabric.incoming r ≡ router.incoming = cc is in
+            let leaves : from.outgoing ≡ router.outgoing = cc is in
+            let port : position (λ other. other == l) router.outgoing ≡ Some (fabric.port l) =
+            ap (λ (ls : List ℕ). position (λ other. other == l) ls) (sym leaves) ∙ from.sends in
+            sent-on from.place l (Router router) within at
+            (is_among-position router.outgoing l (fabric.port l) port)
+            ∙ ap (option_and_then (λ port. sole (flits_for port router.held))) port
+            ∙ ap (λ (held : List (Option Flit)). sole (flits_for (fabric.port l) held))
+            (latched.routers from.place router at
+            ∙ ap (λ (ls : List ℕ). map (flit_on old) ls) (sym enters))
+        | Stage stage ↦ λ at is. absurd (cc is)
+      ] in
+      cases found.0 found.1 found.2
+
+  from-stage : (l m : ℕ) → l < length old → IsFromStage (map frame_of parts) m l
+      → flit_on (wires_driven parts (length old) t) l ≡ emit fabric net t l (AtStage m)
+  from-stage l m within from =
+      let found = from-map frame_of parts from.place _ from.face in
+      let cases : (part : Part) → slice_get parts from.place ≡ Some part
+      → StageFrame from.input from.output ≡ frame_of part
+      → flit_on (wires_driven parts (length old) t) l ≡ emit fabric net t l (AtStage m) = elim [
+        | Interface ni ↦ λ at is. absurd (cc is)
+        | Router router ↦ λ at is. absurd (cc is)
+        | Stage stage ↦ λ at is.
+            let reads : from.input ≡ stage.input = cc is in
+            let sends : from.output ≡ stage.output = cc is in
+            let number : stage.output.0 ≡ l = ap (λ (w : LinkId). w.0) (sym sends) ∙ from.sends in
+            sent-on from.place l (Stage stage) within at (eq-eqb stage.output.0 l number)
+            ∙ latched.stages from.place stage at
+            ∙ ap (flit_on old) (ap (λ (w : LinkId). w.0) (sym reads) ∙ from.reads)
+      ] in
+      cases found.0 found.1 found.2
+
+  -- On each wire the same, and on no other anything.
+  pub wires-driven : (l : ℕ)
+      → flit_on (wires_driven parts (length old) t) l ≡ net_driven fabric net t l
+  wires-driven l = elim (cases_lt l (length old)) [
+    | inl within ↦
+        let cases : (end : WireEnd) → fabric.start l ≡ end
+        → flit_on (wires_driven parts (length old) t) l ≡ emit fabric net t l end = elim [
+          | AtRouter r ↦ λ starts. from-router l r within (framed.router l r within starts)
+          | AtInterface n ↦ λ starts.
+              from-interface l n within (framed.interface l n within starts)
+          | AtStage m ↦ λ starts. from-stage l m within (framed.stage l m within starts)
+        ] in
+        cases (fabric.start l) refl
+    | inr past ↦
+        let size = length-map-range_with_len (driven outputs_of emit_of parts t) 0 (length old) in
+        flit_on-past (wires_driven parts (length old) t) l (omega arith)
+        ∙ sym (flit_on-past old l past)
+        ∙ sym (ap (emit fabric net t l) (framed.past l past))
+  ]

@@ -1,0 +1,11 @@
+pub mod Kept
+pub mod OneQueue
+pub mod Holding
+pub mod Driving
+pub mod Serving
+pub mod Refilling
+pub mod Drawing
+pub mod Taking
+pub mod Arriving
+pub mod Following
+pub mod Switching

@@ -1,0 +1,5 @@
+pub mod View
+pub mod Framed
+pub mod Served
+pub mod Following
+pub mod Events

@@ -1,0 +1,119 @@
+//! What holds of the components of a network over a fabric, over the definitions alone.
+ghost use Rattle.std.specs.Prelude.{◌≡◌, ◌≤◌, ◌<◌, ◌-◌, ◌+◌, ℕ, List, Option, length, map};
+ghost use Rattle.aeth_clocked.specs.Wires.{flit_on};
+ghost use Rattle.aeth_clocked.specs.declared.flit.Flit.{Flit};
+ghost use Rattle.aeth_router.specs.Part.{absorb_of};
+ghost use Rattle.aeth_router.specs.declared.part.Part.{Part};
+ghost use Rattle.aeth_components.specs.Changes.{switched};
+ghost use Rattle.aeth_components.specs.Components.{ComponentsState, wires_driven};
+ghost use Rattle.aeth_components.specs.Components.{Cycle as ComponentsCycle};
+ghost use Rattle.aeth_components.specs.Frames.{IsWired, frame_of};
+ghost use Rattle.aeth_components.specs.Phases.{Moment, in_turn, pulled, refilled};
+ghost use Rattle.aeth_components.specs.View.{queue_of as queue_in};
+ghost use Rattle.aeth_components.specs.Switching.{entry_of};
+ghost use Rattle.aeth_components.specs.declared.event.Event.{Event};
+ghost use Rattle.aeth_server.specs.PrivateServer.{arrived, landed, taken};
+ghost use Rattle.aeth_refinement.specs.Accepted.{IsAccepted};
+ghost use Rattle.aeth_refinement.specs.Carried.{Exact};
+ghost use Rattle.aeth_refinement.specs.Components.{Net, driven, queue_of};
+ghost use Rattle.aeth_refinement.specs.Cycle.{Cycle, Latched, Refilled, Took};
+ghost use Rattle.aeth_refinement.specs.Fabric.{Fabric, IsGoing, server_at};
+ghost use Rattle.aeth_refinement.specs.Switches.{Switched};
+ghost use Rattle.aeth_invariant.specs.Events.{AreEvents};
+ghost use Rattle.aeth_invariant.specs.Following.{Follows};
+ghost use Rattle.aeth_invariant.specs.Framed.{IsFramed};
+ghost use Rattle.aeth_invariant.specs.Served.{AreServed, handed_after};
+ghost use Rattle.aeth_invariant.specs.View.{HaveLatched, net_of};
+
+/// The events of a cycle make what the law on networks says, where they are those of a fabric's
+/// sessions.
+pub fn switches_are_made()
+    ensures { (fabric : Fabric) (e : ℕ) (events : List Event) (parts : List Part)
+        (handed : ℕ → ℕ) (wires : List (Option Flit)) (count : ℕ)
+        → IsFramed fabric (map frame_of parts) count → AreEvents fabric e events
+        → Switched fabric e (net_of handed parts wires)
+        (net_of handed (switched events parts) wires) }
+{
+    aeth_components::events_change_their_own();
+}
+
+/// The source queues are refilled as in the law on networks, where each channel in use is that of a
+/// session, which has handed on no more than has arrived.
+pub fn queues_are_refilled()
+    ensures { (fabric : Fabric) → IsAccepted fabric → (channel : ℕ → ℕ) (words : List ℕ)
+        (t lands takes : ℕ) (handed : ℕ → ℕ) (moment : Moment) (wires : List (Option Flit))
+        (count : ℕ) → IsFramed fabric (map frame_of moment.parts) count
+        → AreServed fabric channel words t lands takes handed moment.lanes
+        → ((c : ℕ) → c < fabric.count → IsGoing fabric c t
+        → handed c ≤ arrived (server_at fabric c) (t + 1))
+        → Refilled fabric t (net_of handed moment.parts wires)
+        (net_of (handed_after fabric (net_of handed moment.parts wires) t)
+        (in_turn (refilled words t) moment).parts wires) }
+{
+    aeth_components::turns_are_taken_alone();
+}
+
+/// The receivers take as in the law on networks, where no queue holds more than has landed of its
+/// session and wasn't taken.
+pub fn words_are_taken()
+    ensures { (fabric : Fabric) → IsAccepted fabric → (channel : ℕ → ℕ) (words : List ℕ)
+        (t lands takes : ℕ) (handed : ℕ → ℕ) (moment : Moment) (wires : List (Option Flit))
+        (count : ℕ) → IsFramed fabric (map frame_of moment.parts) count
+        → AreServed fabric channel words t lands takes handed moment.lanes → (old : Net)
+        → ((n x : ℕ) → old.entry n x ≡ entry_of moment.parts n x)
+        → ((c : ℕ) → c < fabric.count → queue_of fabric old c
+        ≡ queue_in moment.parts (fabric.passage c).ni (fabric.passage c).queue)
+        → ((c : ℕ) → c < fabric.count → IsGoing fabric c t
+        → length (queue_of fabric old c).received
+        ≤ landed (server_at fabric (fabric.opposite c)) lands
+        - taken (server_at fabric (fabric.opposite c)) takes)
+        → Took fabric t old (net_of handed (in_turn (pulled t) moment).parts wires) }
+{
+    aeth_components::turns_are_taken_alone();
+}
+
+/// The components of a fabric drive on each wire what the law on networks says.
+pub fn wires_are_driven()
+    ensures { (fabric : Fabric) (parts : List Part) (old : List (Option Flit)) (t : ℕ)
+        (handed : ℕ → ℕ) → IsWired (map frame_of parts) (length old)
+        → IsFramed fabric (map frame_of parts) (length old) → HaveLatched parts old → (l : ℕ)
+        → flit_on (wires_driven parts (length old) t) l
+        ≡ driven fabric (net_of handed parts old) t l }
+{}
+
+/// They latch as it says, and hold then what the wires had.
+pub fn wires_are_latched()
+    ensures latched { (fabric : Fabric) → IsAccepted fabric → (parts : List Part)
+        (wires : List (Option Flit)) (count : ℕ) → IsFramed fabric (map frame_of parts) count
+        → (handed : ℕ → ℕ) (old : List (Option Flit))
+        → Latched fabric (flit_on wires) (net_of handed parts old)
+        (net_of handed (map (λ part. absorb_of part wires) parts) wires) }
+    ensures held { (parts : List Part) (wires : List (Option Flit))
+        → HaveLatched (map (λ part. absorb_of part wires) parts) wires }
+{}
+
+/// One cycle of components that follow the private servers of a fabric, with the events that the
+/// fabric has in that cycle, is a cycle of the law on networks, and they follow them still.
+pub fn cycles_are_cycles()
+    ensures cycle { (fabric : Fabric) → IsAccepted fabric → (channel : ℕ → ℕ)
+        (events : List Event) (t : ℕ) (handed : ℕ → ℕ) (old new : ComponentsState)
+        → Follows fabric channel t t handed old → AreEvents fabric (t + 1) events
+        → ComponentsCycle events t old new
+        → Cycle fabric t (net_of handed old.parts old.wires) (flit_on new.wires)
+        (net_of
+        (handed_after fabric (net_of handed (switched events old.parts) old.wires) t)
+        new.parts new.wires) }
+    ensures follows { (fabric : Fabric) → IsAccepted fabric → (channel : ℕ → ℕ)
+        (events : List Event) (t : ℕ) (handed : ℕ → ℕ) (old new : ComponentsState)
+        → Follows fabric channel t t handed old → AreEvents fabric (t + 1) events
+        → ComponentsCycle events t old new
+        → Follows fabric channel t (t + 1)
+        (handed_after fabric (net_of handed (switched events old.parts) old.wires) t) new }
+    ensures exact { (fabric : Fabric) → IsAccepted fabric → (channel : ℕ → ℕ)
+        (events : List Event) (t : ℕ) (handed : ℕ → ℕ) (old new : ComponentsState)
+        → Follows fabric channel t t handed old → AreEvents fabric (t + 1) events
+        → ComponentsCycle events t old new → Exact fabric t (flit_on new.wires) }
+{
+    switches_are_made();
+    aeth_components::turns_are_taken_alone();
+}
