@@ -9,3 +9,6 @@ pub mod Taking
 pub mod Arriving
 pub mod Following
 pub mod Switching
+pub mod Running
+pub mod Beginning
+pub mod Telling

@@ -99,6 +99,31 @@ still-open cycle turn moment closed number lane at is =
           absurd (omega (arith, within, past, size))
     ]
 
+-- How many words of a session were handed on, where it is in use, and where it isn't.
+pub handed-going : (fabric : Fabric) (net : Net) (t c : ℕ) → IsGoing fabric c t
+    → handed_after fabric net t c ≡ net.handed c + handing fabric net t c
+handed-going fabric net t c going =
+    ap (λ (b : Bool). cond b (net.handed c + handing fabric net t c) (net.handed c))
+    (and_from (leb (server_at fabric c).go t) (ltb t (server_at fabric c).finish)
+    (le-leb (server_at fabric c).go t going.goes)
+    (lt-ltb t (server_at fabric c).finish going.unfinished))
+
+pub handed-rested : (fabric : Fabric) (net : Net) (t c : ℕ) → (IsGoing fabric c t → ⊥)
+    → handed_after fabric net t c ≡ net.handed c
+handed-rested fabric net t c not =
+    let go = (server_at fabric c).go in
+    let finish = (server_at fabric c).finish in
+    elim (cases_Bool (leb go t && ltb t finish)) [
+      | inl is ↦
+          let both = and_parts (leb go t) (ltb t finish) is in
+          absurd (not (record {
+            goes = leb-true go t both.0;
+            unfinished = ltb-true t finish both.1;
+          }))
+      | inr rests ↦
+          ap (λ (b : Bool). cond b (net.handed c + handing fabric net t c) (net.handed c)) rests
+    ]
+
 module _ (fabric : Fabric) (ok : IsAccepted fabric) (channel : ℕ → ℕ) (words : List ℕ)
     (t lands takes : ℕ) (handed : ℕ → ℕ) (moment : Moment) (wires : List (Option Flit)) (count : ℕ)
     (framed : IsFramed fabric (map frame_of moment.parts) count)
@@ -172,30 +197,6 @@ module _ (fabric : Fabric) (ok : IsAccepted fabric) (channel : ℕ → ℕ) (wor
   handing-is c f =
       ap (λ n. min (waiting_words - length (queue_of fabric old c).waiting) n) f.size
 
-  -- How many were handed on.
-  pub handed-going : (c : ℕ) → IsGoing fabric c t
-      → handed_after fabric old t c ≡ handed c + handing fabric old t c
-  handed-going c going =
-      ap (λ (b : Bool). cond b (handed c + handing fabric old t c) (handed c))
-      (and_from (leb (server_at fabric c).go t) (ltb t (server_at fabric c).finish)
-      (le-leb (server_at fabric c).go t going.goes)
-      (lt-ltb t (server_at fabric c).finish going.unfinished))
-
-  pub handed-rested : (c : ℕ) → (IsGoing fabric c t → ⊥) → handed_after fabric old t c ≡ handed c
-  handed-rested c not =
-      let go = (server_at fabric c).go in
-      let finish = (server_at fabric c).finish in
-      elim (cases_Bool (leb go t && ltb t finish)) [
-        | inl is ↦
-            let both = and_parts (leb go t) (ltb t finish) is in
-            absurd (not (record {
-              goes = leb-true go t both.0;
-              unfinished = ltb-true t finish both.1;
-            }))
-        | inr rests ↦
-            ap (λ (b : Bool). cond b (handed c + handing fabric old t c) (handed c)) rests
-      ]
-
   -- Where no session in use has a queue, it stays.
   nobody : (c : ℕ) → ((d : ℕ) → d < fabric.count → IsGoing fabric d t → IsSameQueue fabric d c → ⊥)
       → IsNone (uses (λ s. s.sender) t (fabric.passage c).ni (fabric.passage c).queue) moment.lanes
@@ -260,9 +261,9 @@ module _ (fabric : Fabric) (ok : IsAccepted fabric) (channel : ℕ → ℕ) (wor
         ∙ ap (take (handing fabric old t c)) f.left
         ∙ take-words_from (handing fabric old t c) values (handed c)
         (arrived (server_at fabric c) (t + 1) - handed c) (omega arith));
-    counts = λ c h going. handed-going c going;
+    counts = λ c h going. handed-going fabric old t c going;
     rests = λ c h none. ap (λ (q : QueueState). q.waiting) (stays c (nobody c none));
-    rested = λ c h early. handed-rested c (λ (going : IsGoing fabric c t).
+    rested = λ c h early. handed-rested fabric old t c (λ (going : IsGoing fabric c t).
         let goes = going.goes in omega (arith, goes, early));
     kept = λ c h. keeps c;
     entry = entry_of-same ready.parts moment.parts
@@ -302,7 +303,7 @@ module _ (fabric : Fabric) (ok : IsAccepted fabric) (channel : ℕ → ℕ) (wor
             };
             counted = record {
               handed_is = ap (λ n. n + fits (left_of words lane) queue) counted.handed_is
-                  ∙ ap (λ n. handed c + n) told ∙ sym (handed-going c going);
+                  ∙ ap (λ n. handed c + n) told ∙ sym (handed-going fabric old t c going);
               landed_is = counted.landed_is;
               taken_is = counted.taken_is;
             };

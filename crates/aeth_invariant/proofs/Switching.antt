@@ -88,7 +88,7 @@ is-writes ni slot event there =
     (eq-eqb there.write.ni.0 ni there.at_ni) (eq-eqb there.write.slot slot there.at_slot)
 
 -- What becomes of a session's queue.
-data Becomes (fabric : Fabric) (e c : ℕ) (old new : QueueState) : Type 0 where
+pub data Becomes (fabric : Fabric) (e c : ℕ) (old new : QueueState) : Type 0 where
   Stays : new ≡ old → Becomes fabric e c old new
   IsHalted : HasEvent fabric (halt_of fabric) e c → new ≡ stopped old → Becomes fabric e c old new
   IsFinished : HasEvent fabric (finish_of fabric) e c → new ≡ finished old
@@ -189,7 +189,7 @@ module _ (fabric : Fabric) (e : ℕ) (events : List Event) (parts : List Part) (
       (done-at c i (Change (SetRoute to number route remote credits)) end h at is ni queue)
   becomes-by c h i (Change (SetSlot to slot number)) at of end is ni queue = absurd (cc is)
 
-  becomes : (c : ℕ) → c < fabric.count
+  pub becomes : (c : ℕ) → c < fabric.count
       → Becomes fabric e c (queue_of fabric old c) (queue_of fabric new c)
   becomes c h =
       let n = (fabric.passage c).ni in

@@ -5,7 +5,8 @@ ghost use Rattle.aeth_clocked.specs.declared.flit.Flit.{Flit};
 ghost use Rattle.aeth_router.specs.Part.{absorb_of};
 ghost use Rattle.aeth_router.specs.declared.part.Part.{Part};
 ghost use Rattle.aeth_components.specs.Changes.{switched};
-ghost use Rattle.aeth_components.specs.Components.{ComponentsState, wires_driven};
+ghost use Rattle.aeth_base.specs.Limits.{max_cycles};
+ghost use Rattle.aeth_components.specs.Components.{ComponentsState, IsComponents, wires_driven};
 ghost use Rattle.aeth_components.specs.Components.{Cycle as ComponentsCycle};
 ghost use Rattle.aeth_components.specs.Frames.{IsWired, frame_of};
 ghost use Rattle.aeth_components.specs.Phases.{Moment, in_turn, pulled, refilled};
@@ -19,10 +20,13 @@ ghost use Rattle.aeth_refinement.specs.Components.{Net, driven, queue_of};
 ghost use Rattle.aeth_refinement.specs.Cycle.{Cycle, Latched, Refilled, Took};
 ghost use Rattle.aeth_refinement.specs.Fabric.{Fabric, IsGoing, server_at};
 ghost use Rattle.aeth_refinement.specs.Switches.{Switched};
+ghost use Rattle.aeth_invariant.specs.Beginning.{AreEmpty, loaded_with};
 ghost use Rattle.aeth_invariant.specs.Events.{AreEvents};
 ghost use Rattle.aeth_invariant.specs.Following.{Follows};
 ghost use Rattle.aeth_invariant.specs.Framed.{IsFramed};
+ghost use Rattle.aeth_invariant.specs.Running.{Prepares, Runs};
 ghost use Rattle.aeth_invariant.specs.Served.{AreServed, handed_after};
+ghost use Rattle.aeth_invariant.specs.Telling.{CountsFlits};
 ghost use Rattle.aeth_invariant.specs.View.{HaveLatched, net_of};
 
 /// The events of a cycle make what the law on networks says, where they are those of a fabric's
@@ -117,3 +121,42 @@ pub fn cycles_are_cycles()
     switches_are_made();
     aeth_components::turns_are_taken_alone();
 }
+
+/// Components between two cycles follow the private servers, once they are prepared.
+pub fn components_are_prepared()
+    ensures { (fabric : Fabric) → IsAccepted fabric → (channel : ℕ → ℕ) (t : ℕ) (handed : ℕ → ℕ)
+        (old ready : ComponentsState) → Runs fabric channel t handed old
+        → Prepares fabric channel t old ready → Follows fabric channel t t handed ready }
+{}
+
+/// From a cycle to the next components run on: they are prepared, and do the cycle with the events that
+/// the fabric has in it.
+pub fn cycles_keep_running()
+    ensures { (fabric : Fabric) → IsAccepted fabric → (channel : ℕ → ℕ) (events : List Event)
+        (t : ℕ) (handed : ℕ → ℕ) (old ready new : ComponentsState)
+        → Runs fabric channel t handed old → Prepares fabric channel t old ready
+        → AreEvents fabric (t + 1) events → ComponentsCycle events t ready new
+        → Runs fabric channel (t + 1)
+        (handed_after fabric (net_of handed (switched events ready.parts) ready.wires) t) new }
+{
+    cycles_are_cycles();
+}
+
+/// Empty components run before the first cycle, once the events are done that a fabric has before it.
+pub fn runs_begin()
+    ensures { (fabric : Fabric) → IsAccepted fabric → (channel : ℕ → ℕ) (events : List Event)
+        (all : ComponentsState) → AreEmpty fabric all → AreEvents fabric 0 events
+        → Runs fabric channel 0 (λ c. 0) (loaded_with events all) }
+{
+    aeth_components::events_change_their_own();
+}
+
+/// A cycle whose wires have the flits of the private servers counts for each link the cycles in which
+/// these have one there.
+pub fn flits_are_counted()
+    ensures { (fabric : Fabric) → IsAccepted fabric → (events : List Event) (t : ℕ)
+        (old new : ComponentsState) → IsComponents old → ComponentsCycle events t old new
+        → t < max_cycles → Exact fabric t (flit_on new.wires)
+        → length new.wires ≡ length old.wires → CountsFlits fabric t old
+        → CountsFlits fabric (t + 1) new }
+{}

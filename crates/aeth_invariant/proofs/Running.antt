@@ -1,0 +1,318 @@
+-- From cycle to cycle components run on: they are prepared, do a cycle, and are where they were.
+use Rattle.std.proofs.Common.{◌≡◌, ◌≤◌, ◌<◌, ◌∙◌, ◌⊎◌, ℕ, ◌+◌, ◌-◌, refl, sym, ap, subst, arith, inl, inr, true}
+use Rattle.std.proofs.Common.{ltb, leb, List, [], ◌∷◌, Option, Some, None, fold, length, map, slice_get}
+use Rattle.std.specs.Prelude.{option_map}
+use Rattle.std.specs.List.{range_with_len}
+use Rattle.std.proofs.Math.Seq.{map-set_same}
+use Rattle.std.proofs.lemmas.Bool.{and_from, and_parts, cases_Bool, cases_lt, le-leb, leb-true, lt-ltb, ltb-true}
+use Rattle.std.proofs.lemmas.Option.{get_or_from_slice_get, same_Some, slice_get-map}
+use Rattle.aeth_clocked.specs.declared.flit.Flit.{Flit}
+use Rattle.aeth_router.specs.declared.part.Part.{Part}
+use Rattle.aeth_components.proofs.CountingLemmas.{counted-closed, counted-open}
+use Rattle.aeth_components.proofs.FrameLemmas.{from-map}
+use Rattle.aeth_components.proofs.TurnLemmas.{pulled-closed, pulled-open, refilled-closed, refilled-open}
+use Rattle.aeth_components.specs.Components.{ComponentsState, Cycle, driven_from, frames_of, latched_of, moment_of, ready_of}
+use Rattle.aeth_components.specs.Counting.{counted}
+use Rattle.aeth_components.specs.Frames.{Frame, IsWired, frame_of}
+use Rattle.aeth_components.specs.Lanes.{is_open}
+use Rattle.aeth_components.specs.Phases.{Moment, in_turn, pulled, refilled, turned, turned_at}
+use Rattle.aeth_components.specs.declared.event.Event.{Event}
+use Rattle.aeth_components.specs.declared.lane.Lane.{Lane}
+use Rattle.aeth_server.proofs.SessionEnds.{idle-before}
+use Rattle.aeth_server.proofs.PrivateServerLemmas.{sent-more}
+use Rattle.aeth_server.specs.PrivateServer.{arrived}
+use Rattle.aeth_refinement.proofs.Unique.{paths-of}
+use Rattle.aeth_refinement.specs.Accepted.{IsAccepted}
+use Rattle.aeth_refinement.specs.Fabric.{Fabric, IsGoing, server_at}
+use Rattle.aeth_refinement.specs.Standing.{Stands}
+use Rattle.aeth_invariant.specs.Following.{Follows}
+use Rattle.aeth_invariant.specs.Framed.{IsFramed}
+use Rattle.aeth_invariant.specs.Running.{HasCounts, Prepares, Runs}
+use Rattle.aeth_invariant.specs.Served.{AreServed, HasLane, IsInUse, IsLaneOf}
+use Rattle.aeth_invariant.specs.View.{HaveLatched, net_of}
+
+-- The cycles of a channel.
+abbrev cycles_in : Lane → ℕ × ℕ
+cycles_in lane = (lane.go, lane.fin)
+
+-- No turn changes them.
+module _ (turn : List Part → Lane → List Part × Lane)
+    (same : (parts : List Part) (lane : Lane) → cycles_in (turn parts lane).1 ≡ cycles_in lane) where
+  cycles-turned : (moment : Moment) (number : ℕ) (found : Option Lane)
+      → slice_get moment.lanes number ≡ found
+      → map cycles_in (turned_at turn moment number found).lanes ≡ map cycles_in moment.lanes
+  cycles-turned moment number None at = refl
+  cycles-turned moment number (Some lane) at =
+      map-set_same cycles_in moment.lanes number (turn moment.parts lane).1 lane
+      (same moment.parts lane
+      ∙ ap cycles_in (sym (get_or_from_slice_get moment.lanes number lane lane at)))
+
+  cycles-turns : (numbers : List ℕ) (moment : Moment)
+      → map cycles_in (fold (turned turn) moment numbers).lanes ≡ map cycles_in moment.lanes
+  cycles-turns [] moment = refl
+  cycles-turns (number ∷ numbers) moment =
+      cycles-turns numbers (turned turn moment number)
+      ∙ cycles-turned moment number (slice_get moment.lanes number) refl
+
+cycles-refilled : (words : List ℕ) (t : ℕ) (parts : List Part) (lane : Lane)
+    → cycles_in (refilled words t parts lane).1 ≡ cycles_in lane
+cycles-refilled words t parts lane = elim (cases_Bool (is_open lane t)) [
+  | inl is ↦ ap (λ (done : List Part × Lane). cycles_in done.1) (refilled-open words t parts lane is)
+  | inr not ↦
+      ap (λ (done : List Part × Lane). cycles_in done.1) (refilled-closed words t parts lane not)
+]
+
+cycles-pulled : (t : ℕ) (parts : List Part) (lane : Lane)
+    → cycles_in (pulled t parts lane).1 ≡ cycles_in lane
+cycles-pulled t parts lane = elim (cases_Bool (is_open lane t)) [
+  | inl is ↦ ap (λ (done : List Part × Lane). cycles_in done.1) (pulled-open t parts lane is)
+  | inr not ↦ ap (λ (done : List Part × Lane). cycles_in done.1) (pulled-closed t parts lane not)
+]
+
+cycles-counted : (t : ℕ) (parts : List Part) (lanes : List Lane)
+    → map cycles_in (map (counted t parts) lanes) ≡ map cycles_in lanes
+cycles-counted t parts [] = refl
+cycles-counted t parts (lane ∷ lanes) =
+    let one : cycles_in (counted t parts lane) ≡ cycles_in lane =
+    elim (cases_Bool (is_open lane t)) [
+      | inl is ↦ ap cycles_in (counted-open t parts lane is)
+      | inr not ↦ ap cycles_in (counted-closed t parts lane not)
+    ] in
+    ap (λ (x : ℕ × ℕ). x ∷ map cycles_in (map (counted t parts) lanes)) one
+    ∙ ap (λ (xs : List (ℕ × ℕ)). cycles_in lane ∷ xs) (cycles-counted t parts lanes)
+
+-- Nor does a cycle.
+cycles-kept : (events : List Event) (t : ℕ) (old new : ComponentsState) → Cycle events t old new
+    → map cycles_in new.lanes ≡ map cycles_in old.lanes
+cycles-kept events t old new cycle =
+    let ready = ready_of old.words events t (moment_of old) in
+    let gone = driven_from t ready in
+    let drained = in_turn (pulled t) gone in
+    ap (λ (lanes : List Lane). map cycles_in lanes) cycle.lanes
+    ∙ cycles-counted t (latched_of old.words events t new.wires (moment_of old)).parts drained.lanes
+    ∙ cycles-turns (pulled t) (cycles-pulled t) (range_with_len 0 (length gone.lanes)) gone
+    ∙ cycles-turns (refilled old.words t) (cycles-refilled old.words t)
+    (range_with_len 0 (length old.lanes)) _
+
+-- A channel behind a cycle, before it.
+lane-before : (old new : List Lane) → map cycles_in new ≡ map cycles_in old → (number : ℕ)
+    (lane : Lane) → slice_get new number ≡ Some lane
+    → (before : Lane) × (slice_get old number ≡ Some before) × (cycles_in lane ≡ cycles_in before)
+lane-before old new same number lane at =
+    from-map cycles_in old number (cycles_in lane)
+    (ap (λ (xs : List (ℕ × ℕ)). slice_get xs number) (sym same)
+    ∙ slice_get-map cycles_in new number ∙ ap (option_map cycles_in) at)
+
+-- A channel that is open, by its cycles.
+open-at : (lane : Lane) (t : ℕ) → lane.go ≤ t → t < lane.fin → is_open lane t ≡ true
+open-at lane t from upto =
+    and_from (leb lane.go t) (ltb t lane.fin) (le-leb lane.go t from) (lt-ltb t lane.fin upto)
+
+pub open-parts : (lane : Lane) (t : ℕ) → is_open lane t ≡ true → (lane.go ≤ t) × (t < lane.fin)
+open-parts lane t is =
+    let both = and_parts (leb lane.go t) (ltb t lane.fin) is in
+    (leb-true lane.go t both.0, ltb-true t lane.fin both.1)
+
+module _ (fabric : Fabric) (ok : IsAccepted fabric) (channel : ℕ → ℕ) (t : ℕ) (handed : ℕ → ℕ)
+    (old ready : ComponentsState) (runs : Runs fabric channel t handed old)
+    (prepares : Prepares fabric channel t old ready) where
+  -- A session that goes now has done nothing.
+  started : (c : ℕ) → c < fabric.count → IsGoing fabric c t → (server_at fabric c).go ≡ t
+      → HasLane fabric ready.words (channel c) c t (handed c) (t + 1) t ready.lanes
+  started c h going goes =
+      let has = prepares.starts c h going goes in
+      let server = server_at fabric c in
+      let paths = paths-of fabric ok c h in
+      let path = paths.path in
+      let idle = idle-before server paths t (omega (arith, goes)) in
+      let sends = sent-more server paths (t + 1 - server.shape.path_delay) t (omega (arith, path)) in
+      let none = idle.sent in
+      let fresh = runs.fresh c h (omega (arith, goes)) in
+      let hands = has.handed in
+      let lands = has.landed in
+      record {
+        lane = has.lane;
+        at = has.at;
+        served = record {
+          of = has.of;
+          counted = record {
+            handed_is = omega (arith, hands, fresh);
+            landed_is = omega (arith, lands, sends, none);
+            taken_is = has.taken ∙ sym idle.taken;
+          };
+          fed = has.fed;
+        };
+      }
+
+  -- One that went before goes on.
+  went : (c : ℕ) → c < fabric.count → IsGoing fabric c t → (server_at fabric c).go < t
+      → HasLane fabric ready.words (channel c) c t (handed c) (t + 1) t ready.lanes
+  went c h going before =
+      let has = runs.going c h going before in
+      let lane = has.lane in
+      let of = subst (λ (ws : List ℕ). IsLaneOf fabric ws c lane) (sym prepares.words) has.of in
+      record {
+        lane = record lane {
+          accepted = arrived (server_at fabric c) (t + 1);
+          pull = (server_at fabric c).pull t;
+        };
+        at = prepares.stays c lane h going before has.at;
+        served = record {
+          of = record {
+            sender = of.sender;
+            receiver = of.receiver;
+            go = of.go;
+            fin = of.fin;
+            values = of.values;
+          };
+          counted = record {
+            handed_is = has.counted.handed_is;
+            landed_is = has.counted.landed_is;
+            taken_is = has.counted.taken_is;
+          };
+          fed = record { accepted = refl; pull = refl };
+        };
+      }
+
+  ready-served : AreServed fabric channel ready.words t (t + 1) t handed ready.lanes
+  ready-served = record {
+    own = λ c h going. elim (cases_lt (server_at fabric c).go t) [
+      | inl before ↦ went c h going before
+      | inr now ↦
+          let goes = going.goes in
+          started c h going (omega (arith, now, goes))
+    ];
+    only = λ number lane at is. elim (prepares.others number lane at) [
+      | inl starts ↦ record {
+        session = starts.session;
+        known = starts.known;
+        going = starts.going;
+        place = starts.place;
+      }
+      | inr other ↦
+          let parts = open-parts lane t is in
+          let from = parts.0 in
+          let upto = parts.1 in
+          let go = other.2 in
+          let fin = other.3 in
+          runs.only number other.0 other.1
+          (open-at other.0 t (omega (arith, from, go)) (omega (arith, upto, fin)))
+    ];
+  }
+
+  frames-same : frames_of ready ≡ frames_of old
+  frames-same = ap (λ (parts : List Part). map frame_of parts) prepares.parts
+
+  -- Prepared components follow the private servers.
+  pub prepared : Follows fabric channel t t handed ready
+  prepared =
+      let wires = prepares.wires in
+      let wired : IsWired (frames_of old) (length ready.wires) =
+      subst (λ (ws : List (Option Flit)). IsWired (frames_of old) (length ws)) (sym wires) runs.wired
+      in
+      let framed : IsFramed fabric (frames_of old) (length ready.wires) =
+      subst (λ (ws : List (Option Flit)). IsFramed fabric (frames_of old) (length ws)) (sym wires)
+      runs.framed in
+      let latched : HaveLatched old.parts ready.wires =
+      subst (HaveLatched old.parts) (sym wires) runs.latched in
+      let stands : Stands fabric t t (net_of handed old.parts ready.wires) =
+      subst (λ (ws : List (Option Flit)). Stands fabric t t (net_of handed old.parts ws)) (sym wires)
+      runs.stands in
+      record {
+        wired = subst (λ (fs : List Frame). IsWired fs (length ready.wires)) (sym frames-same) wired;
+        framed = subst (λ (fs : List Frame). IsFramed fabric fs (length ready.wires))
+            (sym frames-same) framed;
+        latched = subst (λ (ps : List Part). HaveLatched ps ready.wires) (sym prepares.parts) latched;
+        served = ready-served;
+        stands = subst (λ (ps : List Part). Stands fabric t t (net_of handed ps ready.wires))
+            (sym prepares.parts) stands;
+      }
+
+  -- What was ever loaded went before.
+  ready-gone : (number : ℕ) (lane : Lane) → slice_get ready.lanes number ≡ Some lane
+      → (lane.go < t + 1) ⊎ (lane.fin ≡ 0)
+  ready-gone number lane at = elim (prepares.others number lane at) [
+    | inl starts ↦
+        let has = prepares.starts starts.session starts.known starts.going starts.goes in
+        let same : has.lane ≡ lane =
+        same_Some has.lane lane (sym has.at ∙ ap (slice_get ready.lanes) starts.place ∙ at) in
+        let go : lane.go ≡ t = sym (ap (λ (s : Lane). s.go) same) ∙ has.of.go ∙ starts.goes in
+        inl (omega (arith, go))
+    | inr other ↦
+        let go = other.2 in
+        let fin = other.3 in
+        elim (runs.gone number other.0 other.1) [
+          | inl before ↦ inl (omega (arith, before, go))
+          | inr none ↦ inr (omega (arith, none, fin))
+        ]
+  ]
+
+  -- Behind the cycle they run on.
+  module _ (events : List Event) (more : ℕ → ℕ) (new : ComponentsState)
+      (cycle : Cycle events t ready new) (follows : Follows fabric channel t (t + 1) more new)
+      (rested : (c : ℕ) → (IsGoing fabric c t → ⊥) → more c ≡ handed c) where
+    going-on : (c : ℕ) → c < fabric.count → IsGoing fabric c (t + 1)
+        → (server_at fabric c).go < t + 1
+        → HasCounts fabric channel new.words c (more c) (t + 1 + 1) (t + 1) new.lanes
+    going-on c h going before =
+        let unfinished = going.unfinished in
+        let has = follows.served.own c h (record {
+          goes = omega (arith, before);
+          unfinished = omega (arith, unfinished);
+        }) in
+        record {
+          lane = has.lane;
+          at = has.at;
+          of = has.served.of;
+          counted = has.served.counted;
+        }
+
+    gone-on : (number : ℕ) (lane : Lane) → slice_get new.lanes number ≡ Some lane
+        → (lane.go < t + 1) ⊎ (lane.fin ≡ 0)
+    gone-on number lane at =
+        let was = lane-before ready.lanes new.lanes (cycles-kept events t ready new cycle) number lane
+        at in
+        let go = ap (λ (x : ℕ × ℕ). x.0) was.2 in
+        let fin = ap (λ (x : ℕ × ℕ). x.1) was.2 in
+        elim (ready-gone number was.0 was.1) [
+          | inl before ↦ inl (omega (arith, before, go))
+          | inr none ↦ inr (omega (arith, none, fin))
+        ]
+
+    only-on : (number : ℕ) (lane : Lane) → slice_get new.lanes number ≡ Some lane
+        → is_open lane (t + 1) ≡ true → IsInUse fabric channel (t + 1) number
+    only-on number lane at is =
+        let parts = open-parts lane (t + 1) is in
+        let upto = parts.1 in
+        let from : lane.go ≤ t = elim (gone-on number lane at) [
+          | inl before ↦ omega (arith, before)
+          | inr none ↦ absurd (omega (arith, none, upto))
+        ] in
+        let in_use = follows.served.only number lane at
+        (open-at lane t from (omega (arith, upto))) in
+        let has = follows.served.own in_use.session in_use.known in_use.going in
+        let there : slice_get new.lanes (channel in_use.session) ≡ Some lane =
+        ap (slice_get new.lanes) in_use.place ∙ at in
+        let same : has.lane ≡ lane = same_Some has.lane lane (sym has.at ∙ there) in
+        let fin : lane.fin ≡ (server_at fabric in_use.session).finish =
+        sym (ap (λ (s : Lane). s.fin) same) ∙ has.served.of.fin in
+        let goes = in_use.going.goes in
+        record {
+          session = in_use.session;
+          known = in_use.known;
+          going = record { goes = omega (arith, goes); unfinished = omega (arith, fin, upto) };
+          place = in_use.place;
+        }
+
+    pub runs-on : Runs fabric channel (t + 1) more new
+    runs-on = record {
+      wired = follows.wired;
+      framed = follows.framed;
+      latched = follows.latched;
+      stands = follows.stands;
+      going = going-on;
+      only = only-on;
+      gone = gone-on;
+      fresh = λ c h early. rested c (λ going. let goes = going.goes in omega (arith, goes, early))
+          ∙ runs.fresh c h (omega (arith, early));
+    }
