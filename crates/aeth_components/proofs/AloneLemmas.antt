@@ -17,17 +17,17 @@ use Rattle.aeth_ni.specs.Interface.{InterfaceState, changed, queue_at}
 use Rattle.aeth_ni.specs.Queue.{QueueState, empty_queue}
 
 -- The component that has changed, and any other.
-pub slice_get-with_part_same : (parts : List Part) (number : ℕ) (change : Part → Part) (part : Part) →
-    slice_get parts number ≡ Some part →
-    slice_get (with_part number change parts) number ≡ Some (change part)
+pub slice_get-with_part_same : (parts : List Part) (number : ℕ) (change : Part → Part) (part : Part)
+    → slice_get parts number ≡ Some part
+    → slice_get (with_part number change parts) number ≡ Some (change part)
 slice_get-with_part_same [] number change part at = absurd cc
 slice_get-with_part_same (first ∷ parts) zero change part at =
     ap (λ (part : Part). Some (change part)) (same_Some first part at)
 slice_get-with_part_same (first ∷ parts) (suc number) change part at =
     slice_get-with_part_same parts number change part at
 
-pub slice_get-with_part_other : (parts : List Part) (number other : ℕ) (change : Part → Part) →
-    other ≢ number → slice_get (with_part number change parts) other ≡ slice_get parts other
+pub slice_get-with_part_other : (parts : List Part) (number other : ℕ) (change : Part → Part)
+    → other ≢ number → slice_get (with_part number change parts) other ≡ slice_get parts other
 slice_get-with_part_other [] number other change apart = refl
 slice_get-with_part_other (part ∷ parts) zero zero change apart = absurd (apart refl)
 slice_get-with_part_other (part ∷ parts) zero (suc other) change apart = refl
@@ -36,22 +36,22 @@ slice_get-with_part_other (part ∷ parts) (suc number) (suc other) change apart
     slice_get-with_part_other parts number other change (λ same. apart (ap (λ n. suc n) same))
 
 -- The interface of an end.
-face_in : (part : Part) (number : _) (leaving entering : _) (slots queues : ℕ) →
-    frame_of part ≡ InterfaceFrame number leaving entering slots queues →
-    (ni : InterfaceState) × (part ≡ Interface ni) × (length ni.queues ≡ queues)
+face_in : (part : Part) (number : _) (leaving entering : _) (slots queues : ℕ)
+    → frame_of part ≡ InterfaceFrame number leaving entering slots queues
+    → (ni : InterfaceState) × (part ≡ Interface ni) × (length ni.queues ≡ queues)
 face_in (Interface ni) number leaving entering slots queues is = (ni, refl, cc)
 face_in (Router router) number leaving entering slots queues is = absurd cc
 face_in (Stage stage) number leaving entering slots queues is = absurd cc
 
-pub interface-at : (parts : List Part) (number : ℕ) (frame : Frame) →
-    slice_get (map frame_of parts) number ≡ Some frame →
-    (part : Part) × (slice_get parts number ≡ Some part) × (frame_of part ≡ frame)
+pub interface-at : (parts : List Part) (number : ℕ) (frame : Frame)
+    → slice_get (map frame_of parts) number ≡ Some frame
+    → (part : Part) × (slice_get parts number ≡ Some part) × (frame_of part ≡ frame)
 interface-at [] number frame at = absurd cc
 interface-at (part ∷ parts) zero frame at = (part, refl, same_Some (frame_of part) frame at)
 interface-at (part ∷ parts) (suc number) frame at = interface-at parts number frame at
 
-pub interface-of : (parts : List Part) (end : ChannelEnd) → HasQueue (map frame_of parts) end →
-    (ni : InterfaceState) × (slice_get parts end.ni.0 ≡ Some (Interface ni))
+pub interface-of : (parts : List Part) (end : ChannelEnd) → HasQueue (map frame_of parts) end
+    → (ni : InterfaceState) × (slice_get parts end.ni.0 ≡ Some (Interface ni))
     × (end.queue < length ni.queues)
 interface-of parts end has =
     let found = interface-at parts end.ni.0
@@ -62,9 +62,9 @@ interface-of parts end has =
     (face.0, found.1 ∙ ap (λ (part : Part). Some part) face.1, omega arith)
 
 -- The queue that has changed.
-pub queue_of-at_end_same : (parts : List Part) (end : ChannelEnd) (change : QueueState → QueueState) →
-    HasQueue (map frame_of parts) end →
-    queue_of (at_end end change parts) end.ni.0 end.queue
+pub queue_of-at_end_same : (parts : List Part) (end : ChannelEnd) (change : QueueState → QueueState)
+    → HasQueue (map frame_of parts) end
+    → queue_of (at_end end change parts) end.ni.0 end.queue
     ≡ change (queue_of parts end.ni.0 end.queue)
 queue_of-at_end_same parts end change has =
     let found = interface-of parts end has in
@@ -74,9 +74,9 @@ queue_of-at_end_same parts end change has =
     ∙ ap (λ (part : Option Part). change (queue_in end.queue part)) (sym found.1)
 
 -- Any other.
-queue_in-other : (part : Part) (queue other : ℕ) (change : QueueState → QueueState) →
-    other ≢ queue →
-    queue_in other (Some (on_interface (changed queue change) part)) ≡ queue_in other (Some part)
+queue_in-other : (part : Part) (queue other : ℕ) (change : QueueState → QueueState)
+    → other ≢ queue
+    → queue_in other (Some (on_interface (changed queue change) part)) ≡ queue_in other (Some part)
 queue_in-other (Interface ni) queue other change apart =
     get_or-set_other ni.queues queue other (change (queue_at ni.queues queue)) (empty_queue 0)
     apart
@@ -84,8 +84,8 @@ queue_in-other (Router router) queue other change apart = refl
 queue_in-other (Stage stage) queue other change apart = refl
 
 queue_of-same_part : (parts : List Part) (number queue other : ℕ)
-    (change : QueueState → QueueState) → other ≢ queue →
-    queue_in other
+    (change : QueueState → QueueState) → other ≢ queue
+    → queue_in other
     (slice_get (with_part number (on_interface (changed queue change)) parts) number)
     ≡ queue_in other (slice_get parts number)
 queue_of-same_part [] number queue other change apart = refl
@@ -95,8 +95,8 @@ queue_of-same_part (part ∷ parts) (suc number) queue other change apart =
     queue_of-same_part parts number queue other change apart
 
 pub queue_of-at_end_other : (parts : List Part) (end : ChannelEnd) (change : QueueState → QueueState)
-    (ni queue : ℕ) → ((ni ≡ end.ni.0) × (queue ≡ end.queue) → ⊥) →
-    queue_of (at_end end change parts) ni queue ≡ queue_of parts ni queue
+    (ni queue : ℕ) → ((ni ≡ end.ni.0) × (queue ≡ end.queue) → ⊥)
+    → queue_of (at_end end change parts) ni queue ≡ queue_of parts ni queue
 queue_of-at_end_other parts end change ni queue apart =
     elim (cases_eq ni end.ni.0) [
       | inl same ↦
@@ -110,9 +110,9 @@ queue_of-at_end_other parts end change ni queue apart =
     ]
 
 -- What a queue tells.
-pub told_at-queue_of : (parts : List Part) (end : ChannelEnd) (tells : QueueState → ℕ) →
-    HasQueue (map frame_of parts) end →
-    told_at end tells parts ≡ tells (queue_of parts end.ni.0 end.queue)
+pub told_at-queue_of : (parts : List Part) (end : ChannelEnd) (tells : QueueState → ℕ)
+    → HasQueue (map frame_of parts) end
+    → told_at end tells parts ≡ tells (queue_of parts end.ni.0 end.queue)
 told_at-queue_of parts end tells has =
     let found = interface-of parts end has in
     ap (λ (part : Option Part). option_map_or (told_by end.queue tells) part 0) found.1

@@ -16,17 +16,17 @@ use Rattle.aeth_components.specs.Lanes.{IsLane, is_open}
 use Rattle.aeth_ni.specs.Queue.{capped}
 
 -- One more item is mapped in its place.
-map-more_at : {X : Type 0} (f : X → X) (xs : List X) (i : ℕ) (default : X) → i < length xs →
-    set (map f (take i xs) ++ drop i xs) i (f (get_or (map f (take i xs) ++ drop i xs) i default))
+map-more_at : {X : Type 0} (f : X → X) (xs : List X) (i : ℕ) (default : X) → i < length xs
+    → set (map f (take i xs) ++ drop i xs) i (f (get_or (map f (take i xs) ++ drop i xs) i default))
     ≡ map f (take (suc i) xs) ++ drop (suc i) xs
 map-more_at f [] i default within = absurd (omega arith)
 map-more_at f (x ∷ xs) zero default within = refl
 map-more_at f (x ∷ xs) (suc i) default within =
     ap (λ (rest : List _). f x ∷ rest) (map-more_at f xs i default (omega arith))
 
-pub map-more : {X : Type 0} (f : X → X) (xs now : List X) (i : ℕ) (default next : X) →
-    i < length xs → now ≡ map f (take i xs) ++ drop i xs → next ≡ f (get_or now i default) →
-    set now i next ≡ map f (take (i + 1) xs) ++ drop (i + 1) xs
+pub map-more : {X : Type 0} (f : X → X) (xs now : List X) (i : ℕ) (default next : X)
+    → i < length xs → now ≡ map f (take i xs) ++ drop i xs → next ≡ f (get_or now i default)
+    → set now i next ≡ map f (take (i + 1) xs) ++ drop (i + 1) xs
 map-more f xs now i default next within is to =
     ap (set now i) to ∙ ap (λ (list : List _). set list i (f (get_or list i default))) is
     ∙ map-more_at f xs i default within

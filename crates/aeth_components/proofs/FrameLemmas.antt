@@ -27,8 +27,8 @@ use Rattle.aeth_ni.specs.Queue.{QueueState, flit_landed}
 use Rattle.aeth_ni.specs.Sending.{flit_sent}
 
 -- What holds of all that a list is mapped to.
-All-from_map : {X Y : Type 0} (f : X → Y) (P : Y → Type 0) (xs : List X) → All P (map f xs) →
-    All (λ x. P (f x)) xs
+All-from_map : {X Y : Type 0} (f : X → Y) (P : Y → Type 0) (xs : List X) → All P (map f xs)
+    → All (λ x. P (f x)) xs
 All-from_map f P xs all place default within =
     subst P (get_or-map f xs place default (f default) within)
     (all place (f default) (let size = length-map xs f in omega arith))
@@ -39,8 +39,8 @@ outputs_of-frame (Interface ni) link = refl
 outputs_of-frame (Router router) link = refl
 outputs_of-frame (Stage stage) link = refl
 
-inputs_of-frame : (part : Part) (link : ℕ) →
-    inputs_of part link ≡ receives_by (frame_of part) link
+inputs_of-frame : (part : Part) (link : ℕ)
+    → inputs_of part link ≡ receives_by (frame_of part) link
 inputs_of-frame (Interface ni) link = refl
 inputs_of-frame (Router router) link = refl
 inputs_of-frame (Stage stage) link = refl
@@ -48,16 +48,16 @@ inputs_of-frame (Stage stage) link = refl
 module _ (links : Part → ℕ → Bool) (kinds : Frame → ℕ → Bool)
     (same : (part : Part) (link : ℕ) → links part link ≡ kinds (frame_of part) link) where
   -- Where the links of all frames are links, so are those of the components.
-  AreLinks-frames : (parts : List Part) (count : ℕ) →
-      All (λ frame. AreLinks (kinds frame) count) (map frame_of parts) →
-      All (λ part. AreLinks (links part) count) parts
+  AreLinks-frames : (parts : List Part) (count : ℕ)
+      → All (λ frame. AreLinks (kinds frame) count) (map frame_of parts)
+      → All (λ part. AreLinks (links part) count) parts
   AreLinks-frames parts count all place default within link is =
       All-from_map frame_of (λ frame. AreLinks (kinds frame) count) parts all place default within
       link (sym (same (get_or parts place default) link) ∙ is)
 
   -- Where frames have no link in common, the components have none.
-  AreDisjoint-frames : (parts : List Part) →
-      AreDisjoint kinds (map frame_of parts) → AreDisjoint links parts
+  AreDisjoint-frames : (parts : List Part)
+      → AreDisjoint kinds (map frame_of parts) → AreDisjoint links parts
   AreDisjoint-frames parts disjoint i j link part other at there is is_too =
       disjoint i j link (frame_of part) (frame_of other)
       (slice_get-map frame_of parts i ∙ ap (option_map frame_of) at)
@@ -100,21 +100,21 @@ is_output-parts parts count wired wire within =
     ∙ owner.3)
 
 -- An interface with other queues, and as many, has the same frame.
-frame_of-queues : (ni : InterfaceState) (queues : List QueueState) →
-    length queues ≡ length ni.queues →
-    frame_of (Interface (record ni { queues = queues })) ≡ frame_of (Interface ni)
+frame_of-queues : (ni : InterfaceState) (queues : List QueueState)
+    → length queues ≡ length ni.queues
+    → frame_of (Interface (record ni { queues = queues })) ≡ frame_of (Interface ni)
 frame_of-queues ni queues same =
     ap (InterfaceFrame ni.number ni.leaving ni.entering (length ni.entries)) same
 
-pub frame_of-changed : (queue : ℕ) (change : QueueState → QueueState) (ni : InterfaceState) →
-    frame_of (Interface (changed queue change ni)) ≡ frame_of (Interface ni)
+pub frame_of-changed : (queue : ℕ) (change : QueueState → QueueState) (ni : InterfaceState)
+    → frame_of (Interface (changed queue change ni)) ≡ frame_of (Interface ni)
 frame_of-changed queue change ni =
     frame_of-queues ni (with_queue queue change ni.queues)
     (length-with_queue queue change ni.queues)
 
 -- Emitting changes no frame, nor does latching.
-length-flit_sent_by : (entry : Option ℕ) (queues : List QueueState) →
-    length (flit_sent_by entry queues) ≡ length queues
+length-flit_sent_by : (entry : Option ℕ) (queues : List QueueState)
+    → length (flit_sent_by entry queues) ≡ length queues
 length-flit_sent_by None queues = refl
 length-flit_sent_by (Some queue) queues = length-with_queue queue flit_sent queues
 
@@ -125,14 +125,14 @@ frame_of-after (Interface ni) cycle =
 frame_of-after (Router router) cycle = refl
 frame_of-after (Stage stage) cycle = refl
 
-length-landed_at : (arrival : Option Arrival) (queues : List QueueState) →
-    length (landed_at arrival queues) ≡ length queues
+length-landed_at : (arrival : Option Arrival) (queues : List QueueState)
+    → length (landed_at arrival queues) ≡ length queues
 length-landed_at None queues = refl
 length-landed_at (Some arrival) queues =
     length-with_queue arrival.header.queue (flit_landed arrival.header.credits arrival.words) queues
 
-frame_of-absorb : (part : Part) (wires : List (Option Flit)) →
-    frame_of (absorb_of part wires) ≡ frame_of part
+frame_of-absorb : (part : Part) (wires : List (Option Flit))
+    → frame_of (absorb_of part wires) ≡ frame_of part
 frame_of-absorb (Interface ni) wires =
     let arrival = arrival_of (flit_on wires ni.entering.0) in
     frame_of-queues ni (landed_at arrival ni.queues) (length-landed_at arrival ni.queues)
@@ -140,17 +140,17 @@ frame_of-absorb (Router router) wires = refl
 frame_of-absorb (Stage stage) wires = refl
 
 -- A change of all components that keeps each frame keeps the frames.
-frames-map : (change : Part → Part) → ((part : Part) → frame_of (change part) ≡ frame_of part) →
-    (parts : List Part) → map frame_of (map change parts) ≡ map frame_of parts
+frames-map : (change : Part → Part) → ((part : Part) → frame_of (change part) ≡ frame_of part)
+    → (parts : List Part) → map frame_of (map change parts) ≡ map frame_of parts
 frames-map change kept [] = refl
 frames-map change kept (part ∷ parts) = rw (kept part, frames-map change kept parts) refl
 
-pub frames-after : (parts : List Part) (cycle : ℕ) →
-    map frame_of (map (λ part. after_of part cycle) parts) ≡ map frame_of parts
+pub frames-after : (parts : List Part) (cycle : ℕ)
+    → map frame_of (map (λ part. after_of part cycle) parts) ≡ map frame_of parts
 frames-after parts cycle =
     frames-map (λ part. after_of part cycle) (λ part. frame_of-after part cycle) parts
 
-pub frames-absorb : (parts : List Part) (wires : List (Option Flit)) →
-    map frame_of (map (λ part. absorb_of part wires) parts) ≡ map frame_of parts
+pub frames-absorb : (parts : List Part) (wires : List (Option Flit))
+    → map frame_of (map (λ part. absorb_of part wires) parts) ≡ map frame_of parts
 frames-absorb parts wires =
     frames-map (λ part. absorb_of part wires) (λ part. frame_of-absorb part wires) parts

@@ -7,8 +7,8 @@ use Rattle.aeth_components.specs.Lanes.{with_lane}
 
 -- A lane that is changed at its place has changed.
 pub set-with_lane : (lanes : List Lane) (number : ℕ) (change : Lane → Lane)
-    (default : Lane) → number < length lanes →
-    set lanes number (change (get_or lanes number default))
+    (default : Lane) → number < length lanes
+    → set lanes number (change (get_or lanes number default))
     ≡ with_lane number change lanes
 set-with_lane [] number change default within = refl
 set-with_lane (first ∷ lanes) zero change default within = refl

@@ -25,8 +25,8 @@ use Rattle.aeth_components.specs.Making.{link_stages, made_stage}
 use Rattle.aeth_components.specs.Making.{made_stages}
 
 -- An element of two lists in a row is one of either.
-pub at-append : {X : Type 0} (xs ys : List X) (i : ℕ) (x : X) → slice_get (xs ++ ys) i ≡ Some x →
-    ((i < length xs) × (slice_get xs i ≡ Some x))
+pub at-append : {X : Type 0} (xs ys : List X) (i : ℕ) (x : X) → slice_get (xs ++ ys) i ≡ Some x
+    → ((i < length xs) × (slice_get xs i ≡ Some x))
     ⊎ ((j : ℕ) × (i ≡ length xs + j) × (slice_get ys j ≡ Some x))
 at-append [] ys i x at = inr (i, omega arith, at)
 at-append (first ∷ xs) ys zero x at = inl (omega arith, at)
@@ -37,8 +37,8 @@ at-append (first ∷ xs) ys (suc i) x at =
     ]
 
 -- An element of a mapped range is that of its number.
-pub at-range : {X : Type 0} (f : ℕ → X) (start size i : ℕ) (x : X) →
-    slice_get (map f (range_with_len start size)) i ≡ Some x → (i < size) × (x ≡ f (start + i))
+pub at-range : {X : Type 0} (f : ℕ → X) (start size i : ℕ) (x : X)
+    → slice_get (map f (range_with_len start size)) i ≡ Some x → (i < size) × (x ≡ f (start + i))
 at-range f start zero i x at = absurd cc
 at-range f start (suc size) zero x at = (
   omega arith,
@@ -58,8 +58,8 @@ place_of count (Ni n) = n.0
 place_of count (Router r) = count + r.0
 
 -- One node is at one place.
-pub same_node-place : (count : ℕ) (some other : Node) → same_node some other ≡ true →
-    place_of count some ≡ place_of count other
+pub same_node-place : (count : ℕ) (some other : Node) → same_node some other ≡ true
+    → place_of count some ≡ place_of count other
 same_node-place count (Router r) (Router q) same = ap (λ n. count + n) (eqb-true r.0 q.0 same)
 same_node-place count (Router r) (Ni m) same = absurd (cc same)
 same_node-place count (Ni n) (Router q) same = absurd (cc same)
@@ -85,8 +85,8 @@ among-first only wire among =
     ]
 
 -- The only member of a list is among its members.
-pub among-only : (list : List ℕ) (only link : ℕ) → list ≡ only ∷ [] →
-    (slice_index list 0 == link) ≡ true → is_among list link ≡ true
+pub among-only : (list : List ℕ) (only link : ℕ) → list ≡ only ∷ []
+    → (slice_index list 0 == link) ≡ true → is_among list link ≡ true
 among-only list only link is same =
     let here : (only == link) ≡ true = rw is at same in
     rw is (rw here refl)

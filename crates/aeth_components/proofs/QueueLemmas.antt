@@ -13,16 +13,16 @@ abbrev pub with_waiting : List ℕ → QueueState → QueueState
 with_waiting words queue = record queue { waiting = words }
 
 -- A change that changes nothing.
-pub changed-same : (number : ℕ) (change : QueueState → QueueState) (ni : InterfaceState) →
-    change (queue_at ni.queues number) ≡ queue_at ni.queues number → changed number change ni ≡ ni
+pub changed-same : (number : ℕ) (change : QueueState → QueueState) (ni : InterfaceState)
+    → change (queue_at ni.queues number) ≡ queue_at ni.queues number → changed number change ni ≡ ni
 changed-same number change ni same =
     ap (λ (queues : List QueueState). record ni { queues = queues })
     (ap (set ni.queues number) same ∙ set-get_or ni.queues number (empty_queue 0))
 
 -- One change behind another.
 pub changed-changed : (number : ℕ) (first second : QueueState → QueueState)
-    (ni : InterfaceState) → number < length ni.queues →
-    changed number second (changed number first ni)
+    (ni : InterfaceState) → number < length ni.queues
+    → changed number second (changed number first ni)
     ≡ changed number (λ queue. second (first queue)) ni
 changed-changed number first second ni within =
     let queue = queue_at ni.queues number in
@@ -33,29 +33,29 @@ changed-changed number first second ni within =
 
 -- The queue behind a change.
 pub queue_at-changed : (number : ℕ) (change : QueueState → QueueState)
-    (ni : InterfaceState) → number < length ni.queues →
-    queue_at (changed number change ni).queues number ≡ change (queue_at ni.queues number)
+    (ni : InterfaceState) → number < length ni.queues
+    → queue_at (changed number change ni).queues number ≡ change (queue_at ni.queues number)
 queue_at-changed number change ni within =
     get_or-set_same ni.queues number (change (queue_at ni.queues number)) (empty_queue 0) within
 
 -- So many words wait behind those that did.
-pub length-with_waiting : (number : ℕ) (words : List ℕ) (ni state : InterfaceState) →
-    number < length ni.queues → state ≡ changed number (with_waiting words) ni →
-    length (queue_at state.queues number).waiting ≡ length words
+pub length-with_waiting : (number : ℕ) (words : List ℕ) (ni state : InterfaceState)
+    → number < length ni.queues → state ≡ changed number (with_waiting words) ni
+    → length (queue_at state.queues number).waiting ≡ length words
 length-with_waiting number words ni state within is =
     ap (λ (state : InterfaceState). length (queue_at state.queues number).waiting) is
     ∙ ap (λ (queue : QueueState). length queue.waiting)
     (queue_at-changed number (with_waiting words) ni within)
 
 -- A list is empty where it has no first element, and only there.
-pub length-no_first : {X : Type 0} (first : Option X) (xs : List X) → first ≡ slice_get xs 0 →
-    is_some first ≡ false → length xs ≡ 0
+pub length-no_first : {X : Type 0} (first : Option X) (xs : List X) → first ≡ slice_get xs 0
+    → is_some first ≡ false → length xs ≡ 0
 length-no_first first [] at none = refl
 length-no_first first (x ∷ xs) at none =
     absurd (let no : true ≡ false = sym (ap is_some at) ∙ none in cc)
 
-pub length-some_first : {X : Type 0} (first : Option X) (xs : List X) → first ≡ slice_get xs 0 →
-    is_some first ≡ true → 0 < length xs
+pub length-some_first : {X : Type 0} (first : Option X) (xs : List X) → first ≡ slice_get xs 0
+    → is_some first ≡ true → 0 < length xs
 length-some_first first [] at some =
     absurd (let no : false ≡ true = sym (ap is_some at) ∙ some in cc)
 length-some_first first (x ∷ xs) at some = omega arith
@@ -64,14 +64,14 @@ length-some_first first (x ∷ xs) at some = omega arith
 pub taken-none : (queue : QueueState) → length queue.received ≡ 0 → word_taken queue ≡ queue
 taken-none queue none = rw (eq-eqb (length queue.received) 0 none) refl
 
-pub taken-some : (queue : QueueState) → (length queue.received ≡ 0 → ⊥) →
-    word_taken queue
+pub taken-some : (queue : QueueState) → (length queue.received ≡ 0 → ⊥)
+    → word_taken queue
     ≡ record queue { received = drop 1 queue.received; owed = capped (queue.owed + 1) }
 taken-some queue some = rw (ne_eqb (length queue.received) 0 some) refl
 
 -- A turn takes a word, where one is held.
-length-taken : (queue : QueueState) →
-    length (word_taken queue).received ≡ length queue.received - 1
+length-taken : (queue : QueueState)
+    → length (word_taken queue).received ≡ length queue.received - 1
 length-taken queue =
     elim (cases_eq (length queue.received) 0) [
       | inl none ↦ rw (eq-eqb (length queue.received) 0 none) (omega arith)
@@ -79,8 +79,8 @@ length-taken queue =
           rw (ne_eqb (length queue.received) 0 some) (length-drop 1 queue.received)
     ]
 
-pub length-drawn : (times : ℕ) (queue : QueueState) →
-    length (drawn times queue).received ≡ length queue.received - times
+pub length-drawn : (times : ℕ) (queue : QueueState)
+    → length (drawn times queue).received ≡ length queue.received - times
 length-drawn zero queue = omega arith
 length-drawn (suc times) queue =
     let before = length-drawn times queue in
@@ -88,8 +88,8 @@ length-drawn (suc times) queue =
     omega arith
 
 -- No further turn changes anything then.
-pub drawn-more : (times more : ℕ) (queue : QueueState) → length queue.received ≤ times →
-    drawn (times + more) queue ≡ drawn times queue
+pub drawn-more : (times more : ℕ) (queue : QueueState) → length queue.received ≤ times
+    → drawn (times + more) queue ≡ drawn times queue
 drawn-more times zero queue none =
     ap (λ n. drawn n queue) (let same : times + 0 ≡ times = omega arith in same)
 drawn-more times (suc more) queue none =
@@ -99,9 +99,9 @@ drawn-more times (suc more) queue none =
     ∙ taken-none (drawn (times + more) queue) (omega arith) ∙ drawn-more times more queue none
 
 -- How many are held once words were taken so many times.
-pub held-drawn : (number times : ℕ) (ni state : InterfaceState) → number < length ni.queues →
-    state ≡ changed number (drawn times) ni →
-    length (queue_at state.queues number).received
+pub held-drawn : (number times : ℕ) (ni state : InterfaceState) → number < length ni.queues
+    → state ≡ changed number (drawn times) ni
+    → length (queue_at state.queues number).received
     ≡ length (queue_at ni.queues number).received - times
 held-drawn number times ni state within is =
     ap (λ (state : InterfaceState). length (queue_at state.queues number).received) is
@@ -110,9 +110,9 @@ held-drawn number times ni state within is =
     ∙ length-drawn times (queue_at ni.queues number)
 
 -- Where all are taken, further turns change nothing.
-pub changed-drawn_more : (number times all : ℕ) (ni : InterfaceState) → times ≤ all →
-    length (queue_at ni.queues number).received ≤ times →
-    changed number (λ queue. word_taken (drawn times queue)) ni ≡ changed number (drawn all) ni
+pub changed-drawn_more : (number times all : ℕ) (ni : InterfaceState) → times ≤ all
+    → length (queue_at ni.queues number).received ≤ times
+    → changed number (λ queue. word_taken (drawn times queue)) ni ≡ changed number (drawn all) ni
 changed-drawn_more number times all ni most none =
     let before = queue_at ni.queues number in
     let size = length-drawn times before in
@@ -122,8 +122,8 @@ changed-drawn_more number times all ni most none =
     ∙ ap (λ n. drawn n before) (let whole : times + (all - times) ≡ all = omega arith in whole))
 
 -- The queue behind so many turns, in numbers.
-pub drawn-is : (times : ℕ) (queue : QueueState) → queue.owed ≤ max_count →
-    drawn times queue ≡ record queue {
+pub drawn-is : (times : ℕ) (queue : QueueState) → queue.owed ≤ max_count
+    → drawn times queue ≡ record queue {
       received = drop times queue.received;
       owed = capped (queue.owed + min times (length queue.received));
     }

@@ -26,9 +26,9 @@ abbrev with_entry : SlotWrite → InterfaceState → InterfaceState
 with_entry write ni = record ni { entries = set ni.entries write.slot write.entry }
 
 -- A change that keeps the entries of an interface changes no entry.
-entry_of-kept : (parts : List Part) (number : ℕ) (change : InterfaceState → InterfaceState) →
-    ((ni : InterfaceState) → (change ni).entries ≡ ni.entries) → (ni slot : ℕ) →
-    entry_of (with_part number (on_interface change) parts) ni slot ≡ entry_of parts ni slot
+entry_of-kept : (parts : List Part) (number : ℕ) (change : InterfaceState → InterfaceState)
+    → ((ni : InterfaceState) → (change ni).entries ≡ ni.entries) → (ni slot : ℕ)
+    → entry_of (with_part number (on_interface change) parts) ni slot ≡ entry_of parts ni slot
 entry_of-kept [] number change kept ni slot = refl
 entry_of-kept (Interface state ∷ parts) zero change kept zero slot = rw (kept state) refl
 entry_of-kept (Router router ∷ parts) zero change kept zero slot = refl
@@ -39,25 +39,25 @@ entry_of-kept (part ∷ parts) (suc number) change kept (suc ni) slot =
     entry_of-kept parts number change kept ni slot
 
 -- A write to one slot changes no other.
-entry_in-other : (part : Part) (write : SlotWrite) (slot : ℕ) → slot ≢ write.slot →
-    entry_in slot (Some (on_interface (with_entry write) part)) ≡ entry_in slot (Some part)
+entry_in-other : (part : Part) (write : SlotWrite) (slot : ℕ) → slot ≢ write.slot
+    → entry_in slot (Some (on_interface (with_entry write) part)) ≡ entry_in slot (Some part)
 entry_in-other (Interface ni) write slot apart =
     get_or-set_other ni.entries write.slot slot write.entry None apart
 entry_in-other (Router router) write slot apart = refl
 entry_in-other (Stage stage) write slot apart = refl
 
-entry_of-same_part : (parts : List Part) (number slot : ℕ) (write : SlotWrite) →
-    slot ≢ write.slot →
-    entry_in slot (slice_get (with_part number (on_interface (with_entry write)) parts) number)
+entry_of-same_part : (parts : List Part) (number slot : ℕ) (write : SlotWrite)
+    → slot ≢ write.slot
+    → entry_in slot (slice_get (with_part number (on_interface (with_entry write)) parts) number)
     ≡ entry_in slot (slice_get parts number)
 entry_of-same_part [] number slot write apart = refl
 entry_of-same_part (part ∷ parts) zero slot write apart = entry_in-other part write slot apart
 entry_of-same_part (part ∷ parts) (suc number) slot write apart =
     entry_of-same_part parts number slot write apart
 
-entry_of-write_other : (parts : List Part) (write : SlotWrite) (ni slot : ℕ) →
-    ((ni ≡ write.ni.0) × (slot ≡ write.slot) → ⊥) →
-    entry_of (with_part write.ni.0 (on_interface (with_entry write)) parts) ni slot
+entry_of-write_other : (parts : List Part) (write : SlotWrite) (ni slot : ℕ)
+    → ((ni ≡ write.ni.0) × (slot ≡ write.slot) → ⊥)
+    → entry_of (with_part write.ni.0 (on_interface (with_entry write)) parts) ni slot
     ≡ entry_of parts ni slot
 entry_of-write_other parts write ni slot apart =
     elim (cases_eq ni write.ni.0) [
@@ -71,16 +71,16 @@ entry_of-write_other parts write ni slot apart =
     ]
 
 -- It changes its own.
-slots-in : (part : Part) (number : NiId) (leaving entering : LinkId) (slots queues : ℕ) →
-    frame_of part ≡ InterfaceFrame number leaving entering slots queues →
-    (ni : InterfaceState) × (part ≡ Interface ni) × (length ni.entries ≡ slots)
+slots-in : (part : Part) (number : NiId) (leaving entering : LinkId) (slots queues : ℕ)
+    → frame_of part ≡ InterfaceFrame number leaving entering slots queues
+    → (ni : InterfaceState) × (part ≡ Interface ni) × (length ni.entries ≡ slots)
 slots-in (Interface ni) number leaving entering slots queues is = (ni, refl, cc)
 slots-in (Router router) number leaving entering slots queues is = absurd cc
 slots-in (Stage stage) number leaving entering slots queues is = absurd cc
 
-entry_of-write_same : (parts : List Part) (write : SlotWrite) →
-    HasSlot (map frame_of parts) write.ni.0 write.slot →
-    entry_of (with_part write.ni.0 (on_interface (with_entry write)) parts) write.ni.0 write.slot
+entry_of-write_same : (parts : List Part) (write : SlotWrite)
+    → HasSlot (map frame_of parts) write.ni.0 write.slot
+    → entry_of (with_part write.ni.0 (on_interface (with_entry write)) parts) write.ni.0 write.slot
     ≡ write.entry
 entry_of-write_same parts write has =
     let found = interface-at parts write.ni.0
@@ -95,17 +95,17 @@ entry_of-write_same parts write has =
     ∙ get_or-set_same face.0.entries write.slot write.entry None (omega arith)
 
 -- What one event does to an entry that it doesn't write.
-written-other : (parts : List Part) (write : SlotWrite) (event : Event) (ni slot : ℕ) →
-    slot_write event ≡ Some write → (Writes event ni slot → ⊥) →
-    entry_of (with_part write.ni.0 (on_interface (with_entry write)) parts) ni slot
+written-other : (parts : List Part) (write : SlotWrite) (event : Event) (ni slot : ℕ)
+    → slot_write event ≡ Some write → (Writes event ni slot → ⊥)
+    → entry_of (with_part write.ni.0 (on_interface (with_entry write)) parts) ni slot
     ≡ entry_of parts ni slot
 written-other parts write event ni slot is none =
     entry_of-write_other parts write ni slot
     (λ at. none (record { write = write; is = is; at_ni = sym at.0; at_slot = sym at.1 }))
 
-entry_of-happened_other : (parts : List Part) (event : Event) (ni slot : ℕ) →
-    (Writes event ni slot → ⊥) →
-    entry_of (happened parts event) ni slot ≡ entry_of parts ni slot
+entry_of-happened_other : (parts : List Part) (event : Event) (ni slot : ℕ)
+    → (Writes event ni slot → ⊥)
+    → entry_of (happened parts event) ni slot ≡ entry_of parts ni slot
 entry_of-happened_other parts (Halt end) ni slot none =
     entry_of-kept parts end.ni.0 (event_done (Halt end)) (λ state. refl) ni slot
 entry_of-happened_other parts (Finish end) ni slot none =
@@ -123,18 +123,18 @@ entry_of-happened_other parts (Change (SetSlot to number queue)) ni slot none =
     (Change (SetSlot to number queue)) ni slot refl none
 
 -- What it does to the one that it writes.
-written-same : (parts : List Part) (some write : SlotWrite) → Some some ≡ Some write →
-    HasSlot (map frame_of parts) write.ni.0 write.slot →
-    entry_of (with_part some.ni.0 (on_interface (with_entry some)) parts) write.ni.0 write.slot
+written-same : (parts : List Part) (some write : SlotWrite) → Some some ≡ Some write
+    → HasSlot (map frame_of parts) write.ni.0 write.slot
+    → entry_of (with_part some.ni.0 (on_interface (with_entry some)) parts) write.ni.0 write.slot
     ≡ write.entry
 written-same parts some write is has =
     ap (λ (other : SlotWrite). entry_of (with_part other.ni.0 (on_interface (with_entry other))
     parts) write.ni.0 write.slot) (same_Some some write is)
     ∙ entry_of-write_same parts write has
 
-entry_of-happened_same : (parts : List Part) (event : Event) (write : SlotWrite) →
-    slot_write event ≡ Some write → HasSlot (map frame_of parts) write.ni.0 write.slot →
-    entry_of (happened parts event) write.ni.0 write.slot ≡ write.entry
+entry_of-happened_same : (parts : List Part) (event : Event) (write : SlotWrite)
+    → slot_write event ≡ Some write → HasSlot (map frame_of parts) write.ni.0 write.slot
+    → entry_of (happened parts event) write.ni.0 write.slot ≡ write.entry
 entry_of-happened_same parts (Halt end) write is has = absurd cc
 entry_of-happened_same parts (Finish end) write is has = absurd cc
 entry_of-happened_same parts (Change (ClearSlot to number)) write is has =
@@ -146,9 +146,9 @@ entry_of-happened_same parts (Change (SetSlot to number queue)) write is has =
     written-same parts (record { ni = to; slot = number; entry = Some queue }) write is has
 
 -- What many do.
-entry_of-switched_other : (events : List Event) (parts : List Part) (ni slot : ℕ) →
-    ((i : ℕ) (event : Event) → slice_get events i ≡ Some event → Writes event ni slot → ⊥) →
-    entry_of (switched events parts) ni slot ≡ entry_of parts ni slot
+entry_of-switched_other : (events : List Event) (parts : List Part) (ni slot : ℕ)
+    → ((i : ℕ) (event : Event) → slice_get events i ≡ Some event → Writes event ni slot → ⊥)
+    → entry_of (switched events parts) ni slot ≡ entry_of parts ni slot
 entry_of-switched_other [] parts ni slot none = refl
 entry_of-switched_other (event ∷ events) parts ni slot none =
     entry_of-switched_other events (happened parts event) ni slot
@@ -156,11 +156,11 @@ entry_of-switched_other (event ∷ events) parts ni slot none =
     ∙ entry_of-happened_other parts event ni slot (none 0 event refl)
 
 entry_of-switched_same : (events : List Event) (parts : List Part) (i : ℕ) (event : Event)
-    (write : SlotWrite) → slice_get events i ≡ Some event → slot_write event ≡ Some write →
-    HasSlot (map frame_of parts) write.ni.0 write.slot →
-    ((j : ℕ) (other : Event) → slice_get events j ≡ Some other →
-    Writes other write.ni.0 write.slot → j ≡ i) →
-    entry_of (switched events parts) write.ni.0 write.slot ≡ write.entry
+    (write : SlotWrite) → slice_get events i ≡ Some event → slot_write event ≡ Some write
+    → HasSlot (map frame_of parts) write.ni.0 write.slot
+    → ((j : ℕ) (other : Event) → slice_get events j ≡ Some other
+    → Writes other write.ni.0 write.slot → j ≡ i)
+    → entry_of (switched events parts) write.ni.0 write.slot ≡ write.entry
 entry_of-switched_same [] parts i event write at is has alone = absurd cc
 entry_of-switched_same (first ∷ events) parts zero event write at is has alone =
     let same : first ≡ event = same_Some first event at in

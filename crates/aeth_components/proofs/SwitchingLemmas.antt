@@ -18,9 +18,9 @@ use Rattle.aeth_ni.specs.Interface.{InterfaceState}
 use Rattle.aeth_ni.specs.Queue.{QueueState, finished, stopped, with_route, without_route}
 
 -- A change that keeps the queues of an interface changes no queue.
-queue_of-kept : (parts : List Part) (number : ℕ) (change : InterfaceState → InterfaceState) →
-    ((ni : InterfaceState) → (change ni).queues ≡ ni.queues) → (ni queue : ℕ) →
-    queue_of (with_part number (on_interface change) parts) ni queue ≡ queue_of parts ni queue
+queue_of-kept : (parts : List Part) (number : ℕ) (change : InterfaceState → InterfaceState)
+    → ((ni : InterfaceState) → (change ni).queues ≡ ni.queues) → (ni queue : ℕ)
+    → queue_of (with_part number (on_interface change) parts) ni queue ≡ queue_of parts ni queue
 queue_of-kept [] number change kept ni queue = refl
 queue_of-kept (Interface state ∷ parts) zero change kept zero queue = rw (kept state) refl
 queue_of-kept (Router router ∷ parts) zero change kept zero queue = refl
@@ -32,15 +32,15 @@ queue_of-kept (part ∷ parts) (suc number) change kept (suc ni) queue =
 
 -- What one event does to a queue that it doesn't change.
 touched-end : (parts : List Part) (end : ChannelEnd) (change : QueueState → QueueState) (event : Event)
-    (ni queue : ℕ) → event_end event ≡ Some end → (Touches event ni queue → ⊥) →
-    queue_of (at_end end change parts) ni queue ≡ queue_of parts ni queue
+    (ni queue : ℕ) → event_end event ≡ Some end → (Touches event ni queue → ⊥)
+    → queue_of (at_end end change parts) ni queue ≡ queue_of parts ni queue
 touched-end parts end change event ni queue is none =
     queue_of-at_end_other parts end change ni queue
     (λ uses. none (record { end = end; is = is; at_ni = sym uses.0; at_queue = sym uses.1 }))
 
-queue_of-happened_other : (parts : List Part) (event : Event) (ni queue : ℕ) →
-    (Touches event ni queue → ⊥) →
-    queue_of (happened parts event) ni queue ≡ queue_of parts ni queue
+queue_of-happened_other : (parts : List Part) (event : Event) (ni queue : ℕ)
+    → (Touches event ni queue → ⊥)
+    → queue_of (happened parts event) ni queue ≡ queue_of parts ni queue
 queue_of-happened_other parts (Halt end) ni queue none =
     touched-end parts end stopped (Halt end) ni queue refl none
 queue_of-happened_other parts (Finish end) ni queue none =
@@ -59,18 +59,18 @@ queue_of-happened_other parts (Change (SetSlot to slot number)) ni queue none =
     queue_of-kept parts to.0 _ (λ state. refl) ni queue
 
 -- What it does to the one that it changes.
-same-end : (parts : List Part) (some end : ChannelEnd) (change : QueueState → QueueState) →
-    Some some ≡ Some end → HasQueue (map frame_of parts) end →
-    queue_of (at_end some change parts) end.ni.0 end.queue
+same-end : (parts : List Part) (some end : ChannelEnd) (change : QueueState → QueueState)
+    → Some some ≡ Some end → HasQueue (map frame_of parts) end
+    → queue_of (at_end some change parts) end.ni.0 end.queue
     ≡ change (queue_of parts end.ni.0 end.queue)
 same-end parts some end change is has =
     ap (λ (other : ChannelEnd). queue_of (at_end other change parts) end.ni.0 end.queue)
     (same_Some some end is)
     ∙ queue_of-at_end_same parts end change has
 
-queue_of-happened_same : (parts : List Part) (event : Event) (end : ChannelEnd) →
-    event_end event ≡ Some end → HasQueue (map frame_of parts) end →
-    queue_of (happened parts event) end.ni.0 end.queue
+queue_of-happened_same : (parts : List Part) (event : Event) (end : ChannelEnd)
+    → event_end event ≡ Some end → HasQueue (map frame_of parts) end
+    → queue_of (happened parts event) end.ni.0 end.queue
     ≡ queue_done event (queue_of parts end.ni.0 end.queue)
 queue_of-happened_same parts (Halt some) end is has =
     same-end parts some end stopped is has
@@ -85,9 +85,9 @@ queue_of-happened_same parts (Change (SetRoute to number route remote credits)) 
 queue_of-happened_same parts (Change (SetSlot to slot number)) end is has = absurd cc
 
 -- What many do.
-queue_of-switched_other : (events : List Event) (parts : List Part) (ni queue : ℕ) →
-    ((i : ℕ) (event : Event) → slice_get events i ≡ Some event → Touches event ni queue → ⊥) →
-    queue_of (switched events parts) ni queue ≡ queue_of parts ni queue
+queue_of-switched_other : (events : List Event) (parts : List Part) (ni queue : ℕ)
+    → ((i : ℕ) (event : Event) → slice_get events i ≡ Some event → Touches event ni queue → ⊥)
+    → queue_of (switched events parts) ni queue ≡ queue_of parts ni queue
 queue_of-switched_other [] parts ni queue none = refl
 queue_of-switched_other (event ∷ events) parts ni queue none =
     queue_of-switched_other events (happened parts event) ni queue
@@ -95,11 +95,11 @@ queue_of-switched_other (event ∷ events) parts ni queue none =
     ∙ queue_of-happened_other parts event ni queue (none 0 event refl)
 
 queue_of-switched_same : (events : List Event) (parts : List Part) (i : ℕ) (event : Event)
-    (end : ChannelEnd) → slice_get events i ≡ Some event → event_end event ≡ Some end →
-    HasQueue (map frame_of parts) end →
-    ((j : ℕ) (other : Event) → slice_get events j ≡ Some other →
-    Touches other end.ni.0 end.queue → j ≡ i) →
-    queue_of (switched events parts) end.ni.0 end.queue
+    (end : ChannelEnd) → slice_get events i ≡ Some event → event_end event ≡ Some end
+    → HasQueue (map frame_of parts) end
+    → ((j : ℕ) (other : Event) → slice_get events j ≡ Some other
+    → Touches other end.ni.0 end.queue → j ≡ i)
+    → queue_of (switched events parts) end.ni.0 end.queue
     ≡ queue_done event (queue_of parts end.ni.0 end.queue)
 queue_of-switched_same [] parts i event end at is has alone = absurd cc
 queue_of-switched_same (first ∷ events) parts zero event end at is has alone =

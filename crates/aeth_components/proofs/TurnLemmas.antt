@@ -33,10 +33,10 @@ use Rattle.aeth_ni.specs.Queue.{QueueState}
 module _ (turn : List Part → Lane → List Part × Lane) where
   -- One more lane has had its turn.
   pub turns-more : (before now : Moment) (number : ℕ) (lane : Lane)
-      (done : List Part × Lane) →
-      now ≡ fold (turned turn) before (range_with_len 0 number) →
-      slice_get now.lanes number ≡ Some lane → done ≡ turn now.parts lane →
-      turned_by now number done ≡ fold (turned turn) before (range_with_len 0 (number + 1))
+      (done : List Part × Lane)
+      → now ≡ fold (turned turn) before (range_with_len 0 number)
+      → slice_get now.lanes number ≡ Some lane → done ≡ turn now.parts lane
+      → turned_by now number done ≡ fold (turned turn) before (range_with_len 0 (number + 1))
   turns-more before now number lane done so_far at did =
       let next : suc number ≡ number + 1 = omega arith in
       let here : turned turn now number ≡ turned_by now number (turn now.parts lane) =
@@ -49,11 +49,11 @@ module _ (turn : List Part → Lane → List Part × Lane) where
 
   -- What each turn keeps of its lane, all turns keep of all lanes.
   module _ (P : Lane → Type 0)
-      (kept : (parts : List Part) (lane : Lane) → P lane →
-      P (turn parts lane).1) where
-    All-turned_at : (moment : Moment) (number : ℕ) (found : Option Lane) →
-        slice_get moment.lanes number ≡ found → All P moment.lanes →
-        All P (turned_at turn moment number found).lanes
+      (kept : (parts : List Part) (lane : Lane) → P lane
+      → P (turn parts lane).1) where
+    All-turned_at : (moment : Moment) (number : ℕ) (found : Option Lane)
+        → slice_get moment.lanes number ≡ found → All P moment.lanes
+        → All P (turned_at turn moment number found).lanes
     All-turned_at moment number None at all = all
     All-turned_at moment number (Some lane) at all =
         All-set P moment.lanes number (turn moment.parts lane).1
@@ -62,86 +62,86 @@ module _ (turn : List Part → Lane → List Part × Lane) where
         (all number lane (slice_get_within moment.lanes number lane at))))
         all
 
-    pub All-turns : (numbers : List ℕ) (moment : Moment) → All P moment.lanes →
-        All P (fold (turned turn) moment numbers).lanes
+    pub All-turns : (numbers : List ℕ) (moment : Moment) → All P moment.lanes
+        → All P (fold (turned turn) moment numbers).lanes
     All-turns [] moment all = all
     All-turns (number ∷ numbers) moment all =
         All-turns numbers (turned turn moment number)
         (All-turned_at moment number (slice_get moment.lanes number) refl all)
 
   -- Where each turn keeps the frames, all turns do.
-  module _ (kept : (parts : List Part) (lane : Lane) →
-      map frame_of (turn parts lane).0 ≡ map frame_of parts) where
-    frames-turned_at : (moment : Moment) (number : ℕ) (found : Option Lane) →
-        map frame_of (turned_at turn moment number found).parts ≡ map frame_of moment.parts
+  module _ (kept : (parts : List Part) (lane : Lane)
+      → map frame_of (turn parts lane).0 ≡ map frame_of parts) where
+    frames-turned_at : (moment : Moment) (number : ℕ) (found : Option Lane)
+        → map frame_of (turned_at turn moment number found).parts ≡ map frame_of moment.parts
     frames-turned_at moment number None = refl
     frames-turned_at moment number (Some lane) = kept moment.parts lane
 
-    pub frames-turns : (numbers : List ℕ) (moment : Moment) →
-        map frame_of (fold (turned turn) moment numbers).parts ≡ map frame_of moment.parts
+    pub frames-turns : (numbers : List ℕ) (moment : Moment)
+        → map frame_of (fold (turned turn) moment numbers).parts ≡ map frame_of moment.parts
     frames-turns [] moment = refl
     frames-turns (number ∷ numbers) moment =
         frames-turns numbers (turned turn moment number)
         ∙ frames-turned_at moment number (slice_get moment.lanes number)
 
 -- A channel whose turn comes while it is open, or not.
-pub refilled-open : (words : List ℕ) (cycle : ℕ) (parts : List Part) (lane : Lane) →
-    is_open lane cycle ≡ true →
-    refilled words cycle parts lane ≡ handed_on (left_of words lane) parts lane
+pub refilled-open : (words : List ℕ) (cycle : ℕ) (parts : List Part) (lane : Lane)
+    → is_open lane cycle ≡ true
+    → refilled words cycle parts lane ≡ handed_on (left_of words lane) parts lane
 refilled-open words cycle parts lane opened = rw opened refl
 
-pub pulled-open : (cycle : ℕ) (parts : List Part) (lane : Lane) →
-    is_open lane cycle ≡ true → pulled cycle parts lane ≡ drawn_out parts lane
+pub pulled-open : (cycle : ℕ) (parts : List Part) (lane : Lane)
+    → is_open lane cycle ≡ true → pulled cycle parts lane ≡ drawn_out parts lane
 pulled-open cycle parts lane opened = rw opened refl
 
-pub refilled-closed : (words : List ℕ) (cycle : ℕ) (parts : List Part) (lane : Lane) →
-    is_open lane cycle ≡ false → refilled words cycle parts lane ≡ (parts, lane)
+pub refilled-closed : (words : List ℕ) (cycle : ℕ) (parts : List Part) (lane : Lane)
+    → is_open lane cycle ≡ false → refilled words cycle parts lane ≡ (parts, lane)
 refilled-closed words cycle parts lane closed = rw closed refl
 
-pub pulled-closed : (cycle : ℕ) (parts : List Part) (lane : Lane) →
-    is_open lane cycle ≡ false → pulled cycle parts lane ≡ (parts, lane)
+pub pulled-closed : (cycle : ℕ) (parts : List Part) (lane : Lane)
+    → is_open lane cycle ≡ false → pulled cycle parts lane ≡ (parts, lane)
 pulled-closed cycle parts lane closed = rw closed refl
 
 -- A change that changes no queue changes no component.
-with_part-same : (number : ℕ) (change : Part → Part) → ((part : Part) → change part ≡ part) →
-    (parts : List Part) → with_part number change parts ≡ parts
+with_part-same : (number : ℕ) (change : Part → Part) → ((part : Part) → change part ≡ part)
+    → (parts : List Part) → with_part number change parts ≡ parts
 with_part-same number change same [] = refl
 with_part-same zero change same (part ∷ parts) =
     ap (λ (part : Part). part ∷ parts) (same part)
 with_part-same (suc number) change same (part ∷ parts) =
     ap (λ (rest : List Part). part ∷ rest) (with_part-same number change same parts)
 
-on_interface-same : (queue : ℕ) (change : QueueState → QueueState) →
-    ((state : QueueState) → change state ≡ state) → (part : Part) →
-    on_interface (changed queue change) part ≡ part
+on_interface-same : (queue : ℕ) (change : QueueState → QueueState)
+    → ((state : QueueState) → change state ≡ state) → (part : Part)
+    → on_interface (changed queue change) part ≡ part
 on_interface-same queue change same (Interface ni) =
     ap (λ (ni : InterfaceState). Interface ni)
     (changed-same queue change ni (same (queue_at ni.queues queue)))
 on_interface-same queue change same (Router router) = refl
 on_interface-same queue change same (Stage stage) = refl
 
-at_end-same : (end : ChannelEnd) (change : QueueState → QueueState) →
-    ((state : QueueState) → change state ≡ state) → (parts : List Part) →
-    at_end end change parts ≡ parts
+at_end-same : (end : ChannelEnd) (change : QueueState → QueueState)
+    → ((state : QueueState) → change state ≡ state) → (parts : List Part)
+    → at_end end change parts ≡ parts
 at_end-same end change same parts =
     with_part-same end.ni.0 (on_interface (changed end.queue change))
     (on_interface-same end.queue change same) parts
 
 -- What is told of a component is bounded where each queue tells so much at most.
-told_by-le : (queue most : ℕ) (tells : QueueState → ℕ) →
-    ((state : QueueState) → tells state ≤ most) → (part : Part) → told_by queue tells part ≤ most
+told_by-le : (queue most : ℕ) (tells : QueueState → ℕ)
+    → ((state : QueueState) → tells state ≤ most) → (part : Part) → told_by queue tells part ≤ most
 told_by-le queue most tells within (Interface ni) = within (queue_at ni.queues queue)
 told_by-le queue most tells within (Router router) = omega arith
 told_by-le queue most tells within (Stage stage) = omega arith
 
-map_or-le : (most : ℕ) (tells : Part → ℕ) → ((part : Part) → tells part ≤ most) →
-    (found : Option Part) → option_map_or tells found 0 ≤ most
+map_or-le : (most : ℕ) (tells : Part → ℕ) → ((part : Part) → tells part ≤ most)
+    → (found : Option Part) → option_map_or tells found 0 ≤ most
 map_or-le most tells within None = omega arith
 map_or-le most tells within (Some part) = within part
 
-pub told_at-le : (end : ChannelEnd) (most : ℕ) (tells : QueueState → ℕ) →
-    ((state : QueueState) → tells state ≤ most) → (parts : List Part) →
-    told_at end tells parts ≤ most
+pub told_at-le : (end : ChannelEnd) (most : ℕ) (tells : QueueState → ℕ)
+    → ((state : QueueState) → tells state ≤ most) → (parts : List Part)
+    → told_at end tells parts ≤ most
 told_at-le end most tells within parts =
     map_or-le most (told_by end.queue tells) (told_by-le end.queue most tells within)
     (slice_get parts end.ni.0)
@@ -165,8 +165,8 @@ handed_on-none parts lane =
     ap₂ (λ (parts : List Part) (n : ℕ). (parts, record lane { handed = n }))
     (at_end-same lane.sender (filled []) filled-none parts) same
 
-pub refilled-none : (words : List ℕ) (cycle : ℕ) (parts : List Part) (lane : Lane) →
-    lane.accepted ≤ lane.handed → refilled words cycle parts lane ≡ (parts, lane)
+pub refilled-none : (words : List ℕ) (cycle : ℕ) (parts : List Part) (lane : Lane)
+    → lane.accepted ≤ lane.handed → refilled words cycle parts lane ≡ (parts, lane)
 refilled-none words cycle parts lane none =
     elim (cases_Bool (is_open lane cycle)) [
       | inl opened ↦
@@ -178,8 +178,8 @@ refilled-none words cycle parts lane none =
     ]
 
 -- Where no word is there to be taken, none is.
-drawn_out-none : (parts : List Part) (lane : Lane) → asked_of lane ≡ 0 →
-    drawn_out parts lane ≡ (parts, lane)
+drawn_out-none : (parts : List Part) (lane : Lane) → asked_of lane ≡ 0
+    → drawn_out parts lane ≡ (parts, lane)
 drawn_out-none parts lane none =
     let told = told_at-le lane.receiver 0 (draws (asked_of lane))
     (λ state. rw none (omega arith)) parts in
@@ -188,8 +188,8 @@ drawn_out-none parts lane none =
     ap₂ (λ (parts : List Part) (n : ℕ). (parts, record lane { taken = n }))
     (at_end-same lane.receiver (drawn (asked_of lane)) (λ state. rw none refl) parts) same
 
-pub pulled-none : (cycle : ℕ) (parts : List Part) (lane : Lane) →
-    lane.landed ≤ lane.taken → pulled cycle parts lane ≡ (parts, lane)
+pub pulled-none : (cycle : ℕ) (parts : List Part) (lane : Lane)
+    → lane.landed ≤ lane.taken → pulled cycle parts lane ≡ (parts, lane)
 pulled-none cycle parts lane none =
     elim (cases_Bool (is_open lane cycle)) [
       | inl opened ↦
@@ -198,20 +198,20 @@ pulled-none cycle parts lane none =
     ]
 
 -- A turn keeps the frames.
-frame_of-on_interface : (queue : ℕ) (change : QueueState → QueueState) (part : Part) →
-    frame_of (on_interface (changed queue change) part) ≡ frame_of part
+frame_of-on_interface : (queue : ℕ) (change : QueueState → QueueState) (part : Part)
+    → frame_of (on_interface (changed queue change) part) ≡ frame_of part
 frame_of-on_interface queue change (Interface ni) = frame_of-changed queue change ni
 frame_of-on_interface queue change (Router router) = refl
 frame_of-on_interface queue change (Stage stage) = refl
 
-frames-at_end : (end : ChannelEnd) (change : QueueState → QueueState) (parts : List Part) →
-    map frame_of (at_end end change parts) ≡ map frame_of parts
+frames-at_end : (end : ChannelEnd) (change : QueueState → QueueState) (parts : List Part)
+    → map frame_of (at_end end change parts) ≡ map frame_of parts
 frames-at_end end change parts =
     frames-with_part end.ni.0 (on_interface (changed end.queue change))
     (frame_of-on_interface end.queue change) parts
 
-pub frames-refilled : (words : List ℕ) (cycle : ℕ) (parts : List Part) (lane : Lane) →
-    map frame_of (refilled words cycle parts lane).0 ≡ map frame_of parts
+pub frames-refilled : (words : List ℕ) (cycle : ℕ) (parts : List Part) (lane : Lane)
+    → map frame_of (refilled words cycle parts lane).0 ≡ map frame_of parts
 frames-refilled words cycle parts lane =
     elim (cases_Bool (is_open lane cycle)) [
       | inl opened ↦ rw opened
@@ -219,8 +219,8 @@ frames-refilled words cycle parts lane =
       | inr closed ↦ rw closed refl
     ]
 
-pub frames-pulled : (cycle : ℕ) (parts : List Part) (lane : Lane) →
-    map frame_of (pulled cycle parts lane).0 ≡ map frame_of parts
+pub frames-pulled : (cycle : ℕ) (parts : List Part) (lane : Lane)
+    → map frame_of (pulled cycle parts lane).0 ≡ map frame_of parts
 frames-pulled cycle parts lane =
     elim (cases_Bool (is_open lane cycle)) [
       | inl opened ↦ rw opened (frames-at_end lane.receiver (drawn (asked_of lane)) parts)
@@ -228,9 +228,9 @@ frames-pulled cycle parts lane =
     ]
 
 -- A turn keeps what holds of a channel.
-pub IsLane-refilled : (words : List ℕ) (cycle count : ℕ) (parts : List Part) (lane : Lane) →
-    IsLane (length words) count lane →
-    IsLane (length words) count (refilled words cycle parts lane).1
+pub IsLane-refilled : (words : List ℕ) (cycle count : ℕ) (parts : List Part) (lane : Lane)
+    → IsLane (length words) count lane
+    → IsLane (length words) count (refilled words cycle parts lane).1
 IsLane-refilled words cycle count parts lane sound =
     elim (cases_Bool (is_open lane cycle)) [
       | inl opened ↦ rw opened (
@@ -253,8 +253,8 @@ IsLane-refilled words cycle count parts lane sound =
       | inr closed ↦ rw closed sound
     ]
 
-pub IsLane-pulled : (words cycle count : ℕ) (parts : List Part) (lane : Lane) →
-    IsLane words count lane → IsLane words count (pulled cycle parts lane).1
+pub IsLane-pulled : (words cycle count : ℕ) (parts : List Part) (lane : Lane)
+    → IsLane words count lane → IsLane words count (pulled cycle parts lane).1
 IsLane-pulled words cycle count parts lane sound =
     elim (cases_Bool (is_open lane cycle)) [
       | inl opened ↦ rw opened (

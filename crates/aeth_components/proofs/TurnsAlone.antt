@@ -25,8 +25,8 @@ module _ (turn : List Part → Lane → List Part × Lane) (active : Lane → Bo
     (tells : Lane → QueueState → ℕ) (counted : Lane → ℕ → Lane)
     (so : Acts turn active end_of change tells counted) where
   -- A lane keeps its end, and stays active or not.
-  active-turn : (parts : List Part) (lane : Lane) →
-      active (turn parts lane).1 ≡ active lane
+  active-turn : (parts : List Part) (lane : Lane)
+      → active (turn parts lane).1 ≡ active lane
   active-turn parts lane =
       elim (cases_Bool (active lane)) [
         | inl is ↦ ap (λ (done : List Part × Lane). active done.1) (so.acts parts lane is)
@@ -35,8 +35,8 @@ module _ (turn : List Part → Lane → List Part × Lane) (active : Lane → Bo
             (so.rests parts lane not)
       ]
 
-  end_of-turn : (parts : List Part) (lane : Lane) →
-      end_of (turn parts lane).1 ≡ end_of lane
+  end_of-turn : (parts : List Part) (lane : Lane)
+      → end_of (turn parts lane).1 ≡ end_of lane
   end_of-turn parts lane =
       elim (cases_Bool (active lane)) [
         | inl is ↦ ap (λ (done : List Part × Lane). end_of done.1) (so.acts parts lane is)
@@ -46,10 +46,10 @@ module _ (turn : List Part → Lane → List Part × Lane) (active : Lane → Bo
       ]
 
   -- No turn changes whose a queue is.
-  IsAlone-turned_at : (moment : Moment) (number own ni queue : ℕ) (found : Option Lane) →
-      slice_get moment.lanes number ≡ found →
-      IsAlone active end_of moment.lanes own ni queue →
-      IsAlone active end_of (turned_at turn moment number found).lanes own ni queue
+  IsAlone-turned_at : (moment : Moment) (number own ni queue : ℕ) (found : Option Lane)
+      → slice_get moment.lanes number ≡ found
+      → IsAlone active end_of moment.lanes own ni queue
+      → IsAlone active end_of (turned_at turn moment number found).lanes own ni queue
   IsAlone-turned_at moment number own ni queue None at alone i other there is uses =
       alone i other there is uses
   IsAlone-turned_at moment number own ni queue (Some lane) at alone i other there is uses =
@@ -72,10 +72,10 @@ module _ (turn : List Part → Lane → List Part × Lane) (active : Lane → Bo
       ]
 
   -- Another lane's turn changes neither.
-  Stays-turned_at : (moment : Moment) (number own ni queue : ℕ) (found : Option Lane) →
-      slice_get moment.lanes number ≡ found → own ≢ number →
-      IsAlone active end_of moment.lanes own ni queue →
-      Stays moment (turned_at turn moment number found) own ni queue
+  Stays-turned_at : (moment : Moment) (number own ni queue : ℕ) (found : Option Lane)
+      → slice_get moment.lanes number ≡ found → own ≢ number
+      → IsAlone active end_of moment.lanes own ni queue
+      → Stays moment (turned_at turn moment number found) own ni queue
   Stays-turned_at moment number own ni queue None at apart alone =
       record { queue_is = refl; lane = refl }
   Stays-turned_at moment number own ni queue (Some lane) at apart alone = record {
@@ -94,10 +94,10 @@ module _ (turn : List Part → Lane → List Part × Lane) (active : Lane → Bo
   }
 
   -- Nor do those of many others.
-  pub Stays-turns : (size start : ℕ) (moment : Moment) (own ni queue : ℕ) →
-      ((own < start) ⊎ (start + size ≤ own)) →
-      IsAlone active end_of moment.lanes own ni queue →
-      Stays moment (fold (turned turn) moment (range_with_len start size)) own ni queue
+  pub Stays-turns : (size start : ℕ) (moment : Moment) (own ni queue : ℕ)
+      → ((own < start) ⊎ (start + size ≤ own))
+      → IsAlone active end_of moment.lanes own ni queue
+      → Stays moment (fold (turned turn) moment (range_with_len start size)) own ni queue
   Stays-turns zero start moment own ni queue outside alone =
       record { queue_is = refl; lane = refl }
   Stays-turns (suc size) start moment own ni queue outside alone =
@@ -120,10 +120,10 @@ module _ (turn : List Part → Lane → List Part × Lane) (active : Lane → Bo
         lane = rest.lane ∙ first.lane;
       }
 
-  Done-turned : (moment : Moment) (own : ℕ) (lane : Lane) →
-      slice_get moment.lanes own ≡ Some lane → active lane ≡ true →
-      HasQueue (map frame_of moment.parts) (end_of lane) →
-      Done end_of change tells counted moment (turned turn moment own) own lane
+  Done-turned : (moment : Moment) (own : ℕ) (lane : Lane)
+      → slice_get moment.lanes own ≡ Some lane → active lane ≡ true
+      → HasQueue (map frame_of moment.parts) (end_of lane)
+      → Done end_of change tells counted moment (turned turn moment own) own lane
   Done-turned moment own lane at is has =
       let within = slice_get_within moment.lanes own lane at in
       let acts : turned turn moment own
@@ -143,18 +143,18 @@ module _ (turn : List Part → Lane → List Part × Lane) (active : Lane → Bo
             (told_at-queue_of moment.parts (end_of lane) (tells lane) has);
       }
 
-  frames-turned_at : (moment : Moment) (number : ℕ) (found : Option Lane) →
-      map frame_of (turned_at turn moment number found).parts ≡ map frame_of moment.parts
+  frames-turned_at : (moment : Moment) (number : ℕ) (found : Option Lane)
+      → map frame_of (turned_at turn moment number found).parts ≡ map frame_of moment.parts
   frames-turned_at moment number None = refl
   frames-turned_at moment number (Some lane) = so.keeps_frames moment.parts lane
 
   -- Among many turns it is as it would be alone.
-  pub Done-turns : (size start : ℕ) (moment : Moment) (own : ℕ) (lane : Lane) →
-      start ≤ own → own < start + size →
-      slice_get moment.lanes own ≡ Some lane → active lane ≡ true →
-      HasQueue (map frame_of moment.parts) (end_of lane) →
-      IsAlone active end_of moment.lanes own (end_of lane).ni.0 (end_of lane).queue →
-      Done end_of change tells counted moment (fold (turned turn) moment (range_with_len start size)) own lane
+  pub Done-turns : (size start : ℕ) (moment : Moment) (own : ℕ) (lane : Lane)
+      → start ≤ own → own < start + size
+      → slice_get moment.lanes own ≡ Some lane → active lane ≡ true
+      → HasQueue (map frame_of moment.parts) (end_of lane)
+      → IsAlone active end_of moment.lanes own (end_of lane).ni.0 (end_of lane).queue
+      → Done end_of change tells counted moment (fold (turned turn) moment (range_with_len start size)) own lane
   Done-turns zero start moment own lane from to at is has alone = absurd (omega arith)
   Done-turns (suc size) start moment own lane from to at is has alone =
       let ni = (end_of lane).ni.0 in
@@ -187,10 +187,10 @@ module _ (turn : List Part → Lane → List Part × Lane) (active : Lane → Bo
       ]
 
   -- A lane that isn't active stays.
-  kept-turned_at : (moment : Moment) (number own : ℕ) (lane : Lane) (found : Option Lane) →
-      slice_get moment.lanes number ≡ found → slice_get moment.lanes own ≡ Some lane →
-      active lane ≡ false →
-      slice_get (turned_at turn moment number found).lanes own ≡ Some lane
+  kept-turned_at : (moment : Moment) (number own : ℕ) (lane : Lane) (found : Option Lane)
+      → slice_get moment.lanes number ≡ found → slice_get moment.lanes own ≡ Some lane
+      → active lane ≡ false
+      → slice_get (turned_at turn moment number found).lanes own ≡ Some lane
   kept-turned_at moment number own lane None at there not = there
   kept-turned_at moment number own lane (Some found) at there not =
       let within = slice_get_within moment.lanes number found at in
@@ -209,9 +209,9 @@ module _ (turn : List Part → Lane → List Part × Lane) (active : Lane → Bo
             ∙ there
       ]
 
-  pub kept-turns : (numbers : List ℕ) (moment : Moment) (own : ℕ) (lane : Lane) →
-      slice_get moment.lanes own ≡ Some lane → active lane ≡ false →
-      slice_get (fold (turned turn) moment numbers).lanes own ≡ Some lane
+  pub kept-turns : (numbers : List ℕ) (moment : Moment) (own : ℕ) (lane : Lane)
+      → slice_get moment.lanes own ≡ Some lane → active lane ≡ false
+      → slice_get (fold (turned turn) moment numbers).lanes own ≡ Some lane
   kept-turns [] moment own lane there not = there
   kept-turns (number ∷ numbers) moment own lane there not =
       kept-turns numbers (turned turn moment number) own lane

@@ -14,18 +14,18 @@ use Rattle.aeth_ni.specs.Queue.{QueueState}
 pub record Acts (turn : List Part → Lane → List Part × Lane) (active : Lane → Bool)
     (end_of : Lane → ChannelEnd) (change : Lane → QueueState → QueueState)
     (tells : Lane → QueueState → ℕ) (counted : Lane → ℕ → Lane) : Type 0 where
-  pub acts : (parts : List Part) (lane : Lane) → active lane ≡ true →
-      turn parts lane
+  pub acts : (parts : List Part) (lane : Lane) → active lane ≡ true
+      → turn parts lane
       ≡ (
         at_end (end_of lane) (change lane) parts,
         counted lane (told_at (end_of lane) (tells lane) parts),
       )
-  pub rests : (parts : List Part) (lane : Lane) → active lane ≡ false →
-      turn parts lane ≡ (parts, lane)
+  pub rests : (parts : List Part) (lane : Lane) → active lane ≡ false
+      → turn parts lane ≡ (parts, lane)
   pub keeps_active : (lane : Lane) (n : ℕ) → active (counted lane n) ≡ active lane
   pub keeps_end : (lane : Lane) (n : ℕ) → end_of (counted lane n) ≡ end_of lane
-  pub keeps_frames : (parts : List Part) (lane : Lane) →
-      map frame_of (turn parts lane).0 ≡ map frame_of parts
+  pub keeps_frames : (parts : List Part) (lane : Lane)
+      → map frame_of (turn parts lane).0 ≡ map frame_of parts
 
 -- The queue is one end.
 abbrev pub IsAt : ℕ → ℕ → ChannelEnd → Type 0
@@ -34,8 +34,8 @@ IsAt ni queue end = (ni ≡ end.ni.0) × (queue ≡ end.queue)
 -- Of the active lanes the one of this number alone, if any, uses the queue.
 abbrev pub IsAlone : (Lane → Bool) → (Lane → ChannelEnd) → List Lane → ℕ → ℕ → ℕ → Type 0
 IsAlone active end_of lanes own ni queue =
-    (i : ℕ) (lane : Lane) → slice_get lanes i ≡ Some lane → active lane ≡ true →
-    IsAt ni queue (end_of lane) → i ≡ own
+    (i : ℕ) (lane : Lane) → slice_get lanes i ≡ Some lane → active lane ≡ true
+    → IsAt ni queue (end_of lane) → i ≡ own
 
 -- A queue and a lane stay.
 pub record Stays (old new : Moment) (own ni queue : ℕ) : Type 0 where

@@ -15,41 +15,41 @@ use Rattle.aeth_components.specs.View.{HasQueue}
 -- Refilling, of the words of all lanes in a cycle.
 pub record RefillsAlone (words : List ℕ) (cycle : ℕ) (moment : Moment) : Type 0 where
   -- An open lane hands on what fits.
-  pub own : (number : ℕ) (lane : Lane) →
-      slice_get moment.lanes number ≡ Some lane → is_open lane cycle ≡ true →
-      HasQueue (map frame_of moment.parts) lane.sender →
-      IsAlone (λ s. is_open s cycle) (λ s. s.sender) moment.lanes number lane.sender.ni.0
-      lane.sender.queue →
-      Done (λ s. s.sender) (λ s. filled (left_of words s)) (λ s. fits (left_of words s))
+  pub own : (number : ℕ) (lane : Lane)
+      → slice_get moment.lanes number ≡ Some lane → is_open lane cycle ≡ true
+      → HasQueue (map frame_of moment.parts) lane.sender
+      → IsAlone (λ s. is_open s cycle) (λ s. s.sender) moment.lanes number lane.sender.ni.0
+      lane.sender.queue
+      → Done (λ s. s.sender) (λ s. filled (left_of words s)) (λ s. fits (left_of words s))
       (λ s n. record s { handed = s.handed + n }) moment (in_turn (refilled words cycle) moment)
       number lane
   -- A lane that isn't open stays.
-  pub closed : (number : ℕ) (lane : Lane) →
-      slice_get moment.lanes number ≡ Some lane → is_open lane cycle ≡ false →
-      slice_get (in_turn (refilled words cycle) moment).lanes number ≡ Some lane
+  pub closed : (number : ℕ) (lane : Lane)
+      → slice_get moment.lanes number ≡ Some lane → is_open lane cycle ≡ false
+      → slice_get (in_turn (refilled words cycle) moment).lanes number ≡ Some lane
   -- A queue that no open lane sends from stays.
-  pub other : (ni queue : ℕ) →
-      IsAlone (λ s. is_open s cycle) (λ s. s.sender) moment.lanes (length moment.lanes) ni
+  pub other : (ni queue : ℕ)
+      → IsAlone (λ s. is_open s cycle) (λ s. s.sender) moment.lanes (length moment.lanes) ni
       queue → Stays moment (in_turn (refilled words cycle) moment) (length moment.lanes) ni queue
 
 -- Taking, in a cycle.
 pub record TakesAlone (cycle : ℕ) (moment : Moment) : Type 0 where
   -- An open lane's receiver takes what it may.
-  pub own : (number : ℕ) (lane : Lane) →
-      slice_get moment.lanes number ≡ Some lane → is_open lane cycle ≡ true →
-      HasQueue (map frame_of moment.parts) lane.receiver →
-      IsAlone (λ s. is_open s cycle) (λ s. s.receiver) moment.lanes number
-      lane.receiver.ni.0 lane.receiver.queue →
-      Done (λ s. s.receiver) (λ s. drawn (asked_of s)) (λ s. draws (asked_of s))
+  pub own : (number : ℕ) (lane : Lane)
+      → slice_get moment.lanes number ≡ Some lane → is_open lane cycle ≡ true
+      → HasQueue (map frame_of moment.parts) lane.receiver
+      → IsAlone (λ s. is_open s cycle) (λ s. s.receiver) moment.lanes number
+      lane.receiver.ni.0 lane.receiver.queue
+      → Done (λ s. s.receiver) (λ s. drawn (asked_of s)) (λ s. draws (asked_of s))
       (λ s n. record s { taken = s.taken + n }) moment (in_turn (pulled cycle) moment)
       number lane
   -- A lane that isn't open stays.
-  pub closed : (number : ℕ) (lane : Lane) →
-      slice_get moment.lanes number ≡ Some lane → is_open lane cycle ≡ false →
-      slice_get (in_turn (pulled cycle) moment).lanes number ≡ Some lane
+  pub closed : (number : ℕ) (lane : Lane)
+      → slice_get moment.lanes number ≡ Some lane → is_open lane cycle ≡ false
+      → slice_get (in_turn (pulled cycle) moment).lanes number ≡ Some lane
   -- A queue at which no open lane receives stays.
-  pub other : (ni queue : ℕ) →
-      IsAlone (λ s. is_open s cycle) (λ s. s.receiver) moment.lanes (length moment.lanes) ni
+  pub other : (ni queue : ℕ)
+      → IsAlone (λ s. is_open s cycle) (λ s. s.receiver) moment.lanes (length moment.lanes) ni
       queue → Stays moment (in_turn (pulled cycle) moment) (length moment.lanes) ni queue
 
 -- A word of a channel lands in a cycle whose place this is among those of all.

@@ -49,14 +49,14 @@ pub record Touches (event : Event) (ni queue : ℕ) : Type 0 where
 
 -- What events do to one queue: nothing, where none changes it; what the one that changes it does.
 pub record SwitchesAlone (events : List Event) (parts : List Part) : Type 0 where
-  pub other : (ni queue : ℕ) →
-      ((i : ℕ) (event : Event) → slice_get events i ≡ Some event → Touches event ni queue → ⊥) →
-      queue_of (switched events parts) ni queue ≡ queue_of parts ni queue
-  pub own : (i : ℕ) (event : Event) (end : ChannelEnd) → slice_get events i ≡ Some event →
-      event_end event ≡ Some end → HasQueue (map frame_of parts) end →
-      ((j : ℕ) (other : Event) → slice_get events j ≡ Some other →
-      Touches other end.ni.0 end.queue → j ≡ i) →
-      queue_of (switched events parts) end.ni.0 end.queue
+  pub other : (ni queue : ℕ)
+      → ((i : ℕ) (event : Event) → slice_get events i ≡ Some event → Touches event ni queue → ⊥)
+      → queue_of (switched events parts) ni queue ≡ queue_of parts ni queue
+  pub own : (i : ℕ) (event : Event) (end : ChannelEnd) → slice_get events i ≡ Some event
+      → event_end event ≡ Some end → HasQueue (map frame_of parts) end
+      → ((j : ℕ) (other : Event) → slice_get events j ≡ Some other
+      → Touches other end.ni.0 end.queue → j ≡ i)
+      → queue_of (switched events parts) end.ni.0 end.queue
       ≡ queue_done event (queue_of parts end.ni.0 end.queue)
 
 -- The entry of a slot of one of the components; none where there is none.
@@ -95,11 +95,11 @@ pub record Writes (event : Event) (ni slot : ℕ) : Type 0 where
 
 -- What events do to one entry: nothing, where none writes it; what the one that does writes.
 pub record WritesAlone (events : List Event) (parts : List Part) : Type 0 where
-  pub other : (ni slot : ℕ) →
-      ((i : ℕ) (event : Event) → slice_get events i ≡ Some event → Writes event ni slot → ⊥) →
-      entry_of (switched events parts) ni slot ≡ entry_of parts ni slot
-  pub own : (i : ℕ) (event : Event) (write : SlotWrite) → slice_get events i ≡ Some event →
-      slot_write event ≡ Some write → HasSlot (map frame_of parts) write.ni.0 write.slot →
-      ((j : ℕ) (other : Event) → slice_get events j ≡ Some other →
-      Writes other write.ni.0 write.slot → j ≡ i) →
-      entry_of (switched events parts) write.ni.0 write.slot ≡ write.entry
+  pub other : (ni slot : ℕ)
+      → ((i : ℕ) (event : Event) → slice_get events i ≡ Some event → Writes event ni slot → ⊥)
+      → entry_of (switched events parts) ni slot ≡ entry_of parts ni slot
+  pub own : (i : ℕ) (event : Event) (write : SlotWrite) → slice_get events i ≡ Some event
+      → slot_write event ≡ Some write → HasSlot (map frame_of parts) write.ni.0 write.slot
+      → ((j : ℕ) (other : Event) → slice_get events j ≡ Some other
+      → Writes other write.ni.0 write.slot → j ≡ i)
+      → entry_of (switched events parts) write.ni.0 write.slot ≡ write.entry

@@ -11,8 +11,8 @@ use Rattle.aeth_components.specs.Phases.{asked_of, left_of, pulled, refilled}
 use Rattle.aeth_components.specs.Queues.{drawn, draws, filled, fits}
 
 -- Refilling acts on the sender's queue.
-acts-refilled : (words : List ℕ) (cycle : ℕ) →
-    Acts (refilled words cycle) (λ s. is_open s cycle) (λ s. s.sender)
+acts-refilled : (words : List ℕ) (cycle : ℕ)
+    → Acts (refilled words cycle) (λ s. is_open s cycle) (λ s. s.sender)
     (λ s. filled (left_of words s)) (λ s. fits (left_of words s))
     (λ s n. record s { handed = s.handed + n })
 acts-refilled words cycle = record {
@@ -24,8 +24,8 @@ acts-refilled words cycle = record {
 }
 
 -- Taking acts on the receiver's queue.
-acts-pulled : (cycle : ℕ) →
-    Acts (pulled cycle) (λ s. is_open s cycle) (λ s. s.receiver) (λ s. drawn (asked_of s))
+acts-pulled : (cycle : ℕ)
+    → Acts (pulled cycle) (λ s. is_open s cycle) (λ s. s.receiver) (λ s. drawn (asked_of s))
     (λ s. draws (asked_of s)) (λ s n. record s { taken = s.taken + n })
 acts-pulled cycle = record {
   acts = λ parts lane opened. pulled-open cycle parts lane opened;
