@@ -230,7 +230,7 @@ module _ (fabric : Fabric) (ok : IsAccepted fabric) (channel : ℕ → ℕ) (eve
   now = step fabric ok t first (net_of more latched new.wires) (flit_on new.wires) follows.stands whole
 
   -- The counts behind it.
-  drained-served : AreServed fabric channel old.words t (t + 1) (t + 1) more drained.lanes
+  pub drained-served : AreServed fabric channel old.words t (t + 1) (t + 1) more drained.lanes
   unfolding whole
   drained-served =
       let next : suc t ≡ t + 1 = omega arith in

@@ -12,3 +12,6 @@ pub mod Switching
 pub mod Running
 pub mod Beginning
 pub mod Telling
+pub mod Told
+pub mod Noting
+pub mod Notes

@@ -1,21 +1,21 @@
 -- From cycle to cycle components run on: they are prepared, do a cycle, and are where they were.
 use Rattle.std.proofs.Common.{◌≡◌, ◌≤◌, ◌<◌, ◌∙◌, ◌⊎◌, ℕ, ◌+◌, ◌-◌, refl, sym, ap, subst, arith, inl, inr, true}
-use Rattle.std.proofs.Common.{ltb, leb, List, [], ◌∷◌, Option, Some, None, fold, length, map, slice_get}
+use Rattle.std.proofs.Common.{ltb, leb, List, [], ◌∷◌, Option, Some, None, fold, length, map, get_or, slice_get}
 use Rattle.std.specs.Prelude.{option_map}
 use Rattle.std.specs.List.{range_with_len}
 use Rattle.std.proofs.Math.Seq.{map-set_same}
 use Rattle.std.proofs.lemmas.Bool.{and_from, and_parts, cases_Bool, cases_lt, le-leb, leb-true, lt-ltb, ltb-true}
-use Rattle.std.proofs.lemmas.Option.{get_or_from_slice_get, same_Some, slice_get-map}
+use Rattle.std.proofs.lemmas.Option.{get_or_from_slice_get, same_Some, slice_get-get_or, slice_get-map, slice_get_within}
 use Rattle.aeth_clocked.specs.declared.flit.Flit.{Flit}
 use Rattle.aeth_router.specs.declared.part.Part.{Part}
 use Rattle.aeth_components.proofs.CountingLemmas.{counted-closed, counted-open}
 use Rattle.aeth_components.proofs.FrameLemmas.{from-map}
 use Rattle.aeth_components.proofs.TurnLemmas.{pulled-closed, pulled-open, refilled-closed, refilled-open}
-use Rattle.aeth_components.specs.Components.{ComponentsState, Cycle, driven_from, frames_of, latched_of, moment_of, ready_of}
+use Rattle.aeth_components.specs.Components.{ComponentsState, Cycle, switched_from, driven_from, frames_of, latched_of, moment_of, ready_of}
 use Rattle.aeth_components.specs.Counting.{counted}
 use Rattle.aeth_components.specs.Frames.{Frame, IsWired, frame_of}
 use Rattle.aeth_components.specs.Lanes.{is_open}
-use Rattle.aeth_components.specs.Phases.{Moment, in_turn, pulled, refilled, turned, turned_at}
+use Rattle.aeth_components.specs.Phases.{Moment, pulled, refilled, turned, turned_at}
 use Rattle.aeth_components.specs.declared.event.Event.{Event}
 use Rattle.aeth_components.specs.declared.lane.Lane.{Lane}
 use Rattle.aeth_server.proofs.SessionEnds.{idle-before}
@@ -27,13 +27,13 @@ use Rattle.aeth_refinement.specs.Fabric.{Fabric, IsGoing, server_at}
 use Rattle.aeth_refinement.specs.Standing.{Stands}
 use Rattle.aeth_invariant.specs.Following.{Follows}
 use Rattle.aeth_invariant.specs.Framed.{IsFramed}
-use Rattle.aeth_invariant.specs.Running.{HasCounts, Prepares, Runs}
+use Rattle.aeth_invariant.specs.Running.{HasCounts, Prepares, Runs, Starts}
 use Rattle.aeth_invariant.specs.Served.{AreServed, HasLane, IsInUse, IsLaneOf}
 use Rattle.aeth_invariant.specs.View.{HaveLatched, net_of}
 
--- The cycles of a channel.
-abbrev cycles_in : Lane → ℕ × ℕ
-cycles_in lane = (lane.go, lane.fin)
+-- The cycles of a channel, and the place of its first word.
+abbrev pub cycles_in : Lane → ℕ × ℕ × ℕ
+cycles_in lane = (lane.go, lane.fin, lane.first)
 
 -- No turn changes them.
 module _ (turn : List Part → Lane → List Part × Lane)
@@ -78,29 +78,35 @@ cycles-counted t parts (lane ∷ lanes) =
       | inl is ↦ ap cycles_in (counted-open t parts lane is)
       | inr not ↦ ap cycles_in (counted-closed t parts lane not)
     ] in
-    ap (λ (x : ℕ × ℕ). x ∷ map cycles_in (map (counted t parts) lanes)) one
-    ∙ ap (λ (xs : List (ℕ × ℕ)). cycles_in lane ∷ xs) (cycles-counted t parts lanes)
+    ap (λ (x : ℕ × ℕ × ℕ). x ∷ map cycles_in (map (counted t parts) lanes)) one
+    ∙ ap (λ (xs : List (ℕ × ℕ × ℕ)). cycles_in lane ∷ xs) (cycles-counted t parts lanes)
+
+-- The channels of a cycle, up to the latch.
+pub cycles-drained : (words : List ℕ) (events : List Event) (t : ℕ) (wires : List (Option Flit))
+    (moment : Moment) → map cycles_in (latched_of words events t wires moment).lanes
+    ≡ map cycles_in moment.lanes
+cycles-drained words events t wires moment =
+    let gone = driven_from t (ready_of words events t moment) in
+    cycles-turns (pulled t) (cycles-pulled t) (range_with_len 0 (length gone.lanes)) gone
+    ∙ cycles-turns (refilled words t) (cycles-refilled words t)
+    (range_with_len 0 (length moment.lanes)) (switched_from events moment)
 
 -- Nor does a cycle.
 cycles-kept : (events : List Event) (t : ℕ) (old new : ComponentsState) → Cycle events t old new
     → map cycles_in new.lanes ≡ map cycles_in old.lanes
 cycles-kept events t old new cycle =
-    let ready = ready_of old.words events t (moment_of old) in
-    let gone = driven_from t ready in
-    let drained = in_turn (pulled t) gone in
     ap (λ (lanes : List Lane). map cycles_in lanes) cycle.lanes
-    ∙ cycles-counted t (latched_of old.words events t new.wires (moment_of old)).parts drained.lanes
-    ∙ cycles-turns (pulled t) (cycles-pulled t) (range_with_len 0 (length gone.lanes)) gone
-    ∙ cycles-turns (refilled old.words t) (cycles-refilled old.words t)
-    (range_with_len 0 (length old.lanes)) _
+    ∙ cycles-counted t (latched_of old.words events t new.wires (moment_of old)).parts
+    (latched_of old.words events t new.wires (moment_of old)).lanes
+    ∙ cycles-drained old.words events t new.wires (moment_of old)
 
 -- A channel behind a cycle, before it.
-lane-before : (old new : List Lane) → map cycles_in new ≡ map cycles_in old → (number : ℕ)
+pub lane-before : (old new : List Lane) → map cycles_in new ≡ map cycles_in old → (number : ℕ)
     (lane : Lane) → slice_get new number ≡ Some lane
     → (before : Lane) × (slice_get old number ≡ Some before) × (cycles_in lane ≡ cycles_in before)
 lane-before old new same number lane at =
     from-map cycles_in old number (cycles_in lane)
-    (ap (λ (xs : List (ℕ × ℕ)). slice_get xs number) (sym same)
+    (ap (λ (xs : List (ℕ × ℕ × ℕ)). slice_get xs number) (sym same)
     ∙ slice_get-map cycles_in new number ∙ ap (option_map cycles_in) at)
 
 -- A channel that is open, by its cycles.
@@ -116,6 +122,27 @@ open-parts lane t is =
 module _ (fabric : Fabric) (ok : IsAccepted fabric) (channel : ℕ → ℕ) (t : ℕ) (handed : ℕ → ℕ)
     (old ready : ComponentsState) (runs : Runs fabric channel t handed old)
     (prepares : Prepares fabric channel t old ready) where
+  -- A channel is loaded now, or was there before.
+  others : (number : ℕ) (lane : Lane) → slice_get ready.lanes number ≡ Some lane
+      → Starts fabric channel t number
+      ⊎ ((before : Lane) × (slice_get old.lanes number ≡ Some before) × (before.go ≡ lane.go)
+      × (before.fin ≡ lane.fin))
+  others number lane at =
+      let within = slice_get_within ready.lanes number lane at in
+      let count = prepares.count in
+      let before = get_or old.lanes number lane in
+      let there = slice_get-get_or old.lanes number lane (omega (arith, within, count)) in
+      elim (prepares.keeps number before there) [
+        | inl starts ↦ inl starts
+        | inr kept ↦
+            let same : kept.0 ≡ lane = same_Some kept.0 lane (sym kept.1 ∙ at) in
+            let go : before.go ≡ lane.go =
+            sym (ap (λ (s : Lane). s.go) kept.2) ∙ ap (λ (s : Lane). s.go) same in
+            let fin : before.fin ≡ lane.fin =
+            sym (ap (λ (s : Lane). s.fin) kept.2) ∙ ap (λ (s : Lane). s.fin) same in
+            inr (before, there, go, fin)
+      ]
+
   -- A session that goes now has done nothing.
   started : (c : ℕ) → c < fabric.count → IsGoing fabric c t → (server_at fabric c).go ≡ t
       → HasLane fabric ready.words (channel c) c t (handed c) (t + 1) t ready.lanes
@@ -182,7 +209,7 @@ module _ (fabric : Fabric) (ok : IsAccepted fabric) (channel : ℕ → ℕ) (t :
           let goes = going.goes in
           started c h going (omega (arith, now, goes))
     ];
-    only = λ number lane at is. elim (prepares.others number lane at) [
+    only = λ number lane at is. elim (others number lane at) [
       | inl starts ↦ record {
         session = starts.session;
         known = starts.known;
@@ -231,7 +258,7 @@ module _ (fabric : Fabric) (ok : IsAccepted fabric) (channel : ℕ → ℕ) (t :
   -- What was ever loaded went before.
   ready-gone : (number : ℕ) (lane : Lane) → slice_get ready.lanes number ≡ Some lane
       → (lane.go < t + 1) ⊎ (lane.fin ≡ 0)
-  ready-gone number lane at = elim (prepares.others number lane at) [
+  ready-gone number lane at = elim (others number lane at) [
     | inl starts ↦
         let has = prepares.starts starts.session starts.known starts.going starts.goes in
         let same : has.lane ≡ lane =
@@ -272,8 +299,8 @@ module _ (fabric : Fabric) (ok : IsAccepted fabric) (channel : ℕ → ℕ) (t :
     gone-on number lane at =
         let was = lane-before ready.lanes new.lanes (cycles-kept events t ready new cycle) number lane
         at in
-        let go = ap (λ (x : ℕ × ℕ). x.0) was.2 in
-        let fin = ap (λ (x : ℕ × ℕ). x.1) was.2 in
+        let go = ap (λ (x : ℕ × ℕ × ℕ). x.0) was.2 in
+        let fin = ap (λ (x : ℕ × ℕ × ℕ). x.1) was.2 in
         elim (ready-gone number was.0 was.1) [
           | inl before ↦ inl (omega (arith, before, go))
           | inr none ↦ inr (omega (arith, none, fin))

@@ -6,3 +6,4 @@ pub mod Events
 pub mod Running
 pub mod Beginning
 pub mod Telling
+pub mod Places

@@ -60,7 +60,8 @@ module _ (fabric : Fabric) (channel : ℕ → ℕ) where
     pub place : channel session ≡ number
 
   -- What is done before cycle t. Sessions that go are loaded; each that went before accepts what has
-  -- arrived by then, and its receiver takes as it says; no channel changes its cycles but by a load.
+  -- arrived by then, and its receiver takes as it says; but for these two numbers, a channel that isn't
+  -- loaded stays.
   pub record Prepares (t : ℕ) (old ready : ComponentsState) : Type 0 where
     pub parts : ready.parts ≡ old.parts
     pub wires : ready.wires ≡ old.wires
@@ -76,7 +77,8 @@ module _ (fabric : Fabric) (channel : ℕ → ℕ) where
           accepted = arrived (server_at fabric c) (t + 1);
           pull = (server_at fabric c).pull t;
         })
-    pub others : (number : ℕ) (lane : Lane) → slice_get ready.lanes number ≡ Some lane
+    pub count : length ready.lanes ≡ length old.lanes
+    pub keeps : (number : ℕ) (lane : Lane) → slice_get old.lanes number ≡ Some lane
         → Starts t number
-        ⊎ ((before : Lane) × (slice_get old.lanes number ≡ Some before)
-        × (before.go ≡ lane.go) × (before.fin ≡ lane.fin))
+        ⊎ ((after : Lane) × (slice_get ready.lanes number ≡ Some after)
+        × (after ≡ record lane { accepted = after.accepted; pull = after.pull }))

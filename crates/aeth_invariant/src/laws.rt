@@ -24,9 +24,10 @@ ghost use Rattle.aeth_invariant.specs.Beginning.{AreEmpty, loaded_with};
 ghost use Rattle.aeth_invariant.specs.Events.{AreEvents};
 ghost use Rattle.aeth_invariant.specs.Following.{Follows};
 ghost use Rattle.aeth_invariant.specs.Framed.{IsFramed};
-ghost use Rattle.aeth_invariant.specs.Running.{Prepares, Runs};
+ghost use Rattle.aeth_invariant.specs.Places.{ArePlaced, HavePlaces};
+ghost use Rattle.aeth_invariant.specs.Running.{Prepares, Runs, Starts};
 ghost use Rattle.aeth_invariant.specs.Served.{AreServed, handed_after};
-ghost use Rattle.aeth_invariant.specs.Telling.{CountsFlits};
+ghost use Rattle.aeth_invariant.specs.Telling.{CountsFlits, HasTold, NotesLandings};
 ghost use Rattle.aeth_invariant.specs.View.{HaveLatched, net_of};
 
 /// The events of a cycle make what the law on networks says, where they are those of a fabric's
@@ -160,3 +161,34 @@ pub fn flits_are_counted()
         → length new.wires ≡ length old.wires → CountsFlits fabric t old
         → CountsFlits fabric (t + 1) new }
 {}
+
+/// Behind each cycle the channel of a session that went tells what has landed and what was taken of it,
+/// also once it is finished, until another session goes over the channel.
+pub fn sessions_are_told()
+    ensures { (fabric : Fabric) (channel : ℕ → ℕ) (events : List Event) (t : ℕ) (more : ℕ → ℕ)
+        (old ready new : ComponentsState) → Prepares fabric channel t old ready
+        → ComponentsCycle events t ready new → Follows fabric channel t (t + 1) more new → (c : ℕ)
+        → c < fabric.count → (server_at fabric c).go ≤ t
+        → (server_at fabric c).go < (server_at fabric c).finish
+        → ((server_at fabric c).finish ≤ t → Starts fabric channel t (channel c) → ⊥)
+        → ((server_at fabric c).go < t → HasTold fabric channel t c old)
+        → HasTold fabric channel (t + 1) c new }
+{
+    aeth_components::turns_are_taken_alone();
+}
+
+/// A cycle of components that follow the private servers notes for each word that lands the cycle in
+/// which it lands there, at its place among all words, and leaves all others.
+pub fn landings_are_noted()
+    ensures { (fabric : Fabric) → IsAccepted fabric → (channel : ℕ → ℕ) (events : List Event)
+        (t : ℕ) (handed : ℕ → ℕ) (old new : ComponentsState)
+        → Follows fabric channel t t handed old → AreEvents fabric (t + 1) events
+        → ComponentsCycle events t old new → (first : ℕ → ℕ)
+        → HavePlaces fabric channel first t old.lanes
+        → ArePlaced fabric first (length old.landings)
+        → NotesLandings fabric first t old → NotesLandings fabric first (t + 1) new }
+{
+    switches_are_made();
+    aeth_components::turns_are_taken_alone();
+    aeth_components::landings_are_noted_alone();
+}
