@@ -1,0 +1,193 @@
+-- What is made from the lines of all use cases is what the switches of a run do.
+use Rattle.std.proofs.Common.{◌≡◌, ◌∙◌, ◌<◌, ◌≤◌, ◌*◌, ℕ, List, [], ◌∷◌, All, Contains, ap, arith}
+use Rattle.std.proofs.Common.{filter, inl, inr, length, map, not, refl, subst, sym}
+use Rattle.std.specs.Prelude.{flat_map}
+use Rattle.std.specs.List.{range_with_len}
+use Rattle.std.proofs.lemmas.List.Elements.{All-head, All-tail}
+use Rattle.aeth_base.specs.Limits.{max_path_delay}
+use Rattle.aeth_base.specs.declared.ids.Side.{Side}
+use Rattle.aeth_base.specs.declared.ids.Side.TheVariants.{Back, Fwd}
+use Rattle.aeth_base.specs.declared.ids.UseId.{UseId}
+use Rattle.aeth_base.proofs.Members.{Contains-cases, Contains-here, Contains-nil, Contains-there}
+use Rattle.aeth_base.proofs.Members.{filter-Contains, flat_map-Contains}
+use Rattle.aeth_slots.specs.SlotSet.{greatest}
+use Rattle.aeth_chip.specs.Paths.{path_delay}
+use Rattle.aeth_ni.specs.Limits.{queues_of_interface}
+use Rattle.aeth_group.specs.Members.{group_at, groups_of, has_at, is_kept}
+use Rattle.aeth_ni.specs.declared.row.ChannelRow.{ChannelRow}
+use Rattle.aeth_trace.specs.declared.switches.SwitchRow.{SwitchRow}
+use Rattle.aeth_report.specs.Channels.{channels_with}
+use Rattle.aeth_reconf.specs.Rows.{rows_that}
+use Rattle.aeth_tables.specs.Tables.{tables_of}
+use Rattle.aeth_tables.proofs.PromiseLaws.{are_printable, keep_promises}
+use Rattle.aeth_accepted.specs.Inputs.{AreAccepted, Inputs, design_of, row_at, run_of}
+use Rattle.aeth_accepted.proofs.TableFlows.{rows-of_tables}
+use Rattle.aeth_schedule.specs.Lines.{all_lines, lines_of}
+use Rattle.aeth_group.proofs.MemberLemmas.{length-groups_of}
+use Rattle.aeth_tables.specs.Granted.{Granted, grant_on, granted_in}
+use Rattle.aeth_tables.specs.Promises.{HasNumbers}
+use Rattle.aeth_tables.specs.Switching.{changing, delays_in, lag_of, spans_of}
+use Rattle.aeth_tables.specs.TableText.{IsRowOf}
+use Rattle.aeth_tables.proofs.ShapeRanges.{shape_in_range}
+use Rattle.aeth_tables.proofs.UseLaws.{is_reserved}
+use Rattle.aeth_schedule.specs.Rooms.{queue_number}
+use Rattle.aeth_schedule.specs.declared.lines.Line.{Line}
+use Rattle.std.proofs.lemmas.List.FromFn.{get_or-map-range_with_len, length-map-range_with_len}
+use Rattle.aeth_schedule.specs.Made.{AreRows, events_over, loaded_over, timed_over}
+use Rattle.aeth_schedule.specs.Switching.{events_by, loaded_of, switches_from, timed_of}
+use Rattle.aeth_schedule.specs.Timed.{within}
+use Rattle.aeth_schedule.proofs.LineLemmas.{changed-of, line-at, lines-all, rows-with}
+
+module _ (inputs : Inputs) (accepted : AreAccepted inputs) where
+  -- There are as many shapes as rows.
+  as-many : (u : ℕ) → u < length inputs.app.uses
+      → length (tables_of inputs.chip inputs.app (groups_of inputs.app) inputs.plan
+      (record { 0 = u })).rows
+      ≡ length (tables_of inputs.chip inputs.app (groups_of inputs.app) inputs.plan
+      (record { 0 = u })).shapes
+  as-many u known = (are_printable inputs.chip inputs.app inputs.plan accepted.design
+      (record { 0 = u }) known).count
+
+  -- The rows of the lines of a use case are those of its channels.
+  rows-of : (u : ℕ) → u < length inputs.app.uses → map (λ line. line.row) (lines_of inputs u)
+      ≡ rows_that (groups_of inputs.app) (row_at (design_of inputs))
+      (group_at (groups_of inputs.app) u) (has_at (groups_of inputs.app) u)
+  rows-of u known =
+      let groups = groups_of inputs.app in
+      let has = row_at (design_of inputs) (group_at groups u) in
+      let conns = filter (has_at groups u) (range_with_len 0 groups.connections) in
+      let tables = tables_of inputs.chip inputs.app groups inputs.plan (record { 0 = u }) in
+      let rows = rows-of_tables inputs accepted (record { 0 = u }) known in
+      let shapes : length tables.shapes ≡ length (map has (flat_map channels_with conns)) =
+      sym (as-many u known) ∙ ap (λ (list : List ChannelRow). length list) rows in
+      rw rows (rows-with has conns tables.shapes shapes)
+
+  -- The events of a switch.
+  events-same : (u : ℕ) (row : SwitchRow) → u < length inputs.app.uses
+      → row.to.0 < length inputs.app.uses
+      → events_over (groups_of inputs.app) (run_of inputs).spans (all_lines inputs)
+      (record { leaves = u; row = row }) ≡ events_by inputs (record { leaves = u; row = row })
+  events-same u row from to =
+      rw (
+        line-at inputs accepted u from,
+        line-at inputs accepted row.to.0 to,
+        changed-of inputs accepted u row.to.0 u from (as-many u from),
+        changed-of inputs accepted u row.to.0 row.to.0 to (as-many row.to.0 to),
+      ) refl
+
+  -- Those of all switches.
+  events-all : (u : ℕ) (rows : List SwitchRow) → u < length inputs.app.uses
+      → All (λ row. row.to.0 < length inputs.app.uses) rows
+      → flat_map (events_over (groups_of inputs.app) (run_of inputs).spans (all_lines inputs))
+      (switches_from u rows) ≡ flat_map (events_by inputs) (switches_from u rows)
+  events-all u [] from known = refl
+  events-all u (row ∷ rows) from known =
+      let fits = λ (one : SwitchRow). one.to.0 < length inputs.app.uses in
+      let to = All-head fits row rows known in
+      let rest = events-all row.to.0 rows to (All-tail fits row rows known) in
+      rw (events-same u row from to, rest) refl
+
+  -- The events of the run.
+  pub timed-same : (rows : List SwitchRow) → rows ≡ inputs.switches
+      → timed_over (groups_of inputs.app) (run_of inputs).spans (all_lines inputs) rows inputs.cycles
+      ≡ timed_of inputs
+  unfolding timed_of
+  timed-same [] are = rw (← are) refl
+  timed-same (first ∷ rows) are =
+      let fits = λ (one : SwitchRow). one.to.0 < length inputs.app.uses in
+      let known = subst (λ (list : List SwitchRow). All fits list) (sym are) accepted.switches.known in
+      let all = events-all first.to.0 rows (All-head fits first rows known)
+      (All-tail fits first rows known) in
+      rw (← are) (ap (within inputs.cycles) all)
+
+  -- What is written before the first cycle.
+  pub loaded-same : (rows : List SwitchRow) → rows ≡ inputs.switches
+      → loaded_over (all_lines inputs) rows ≡ loaded_of inputs
+  loaded-same [] are = rw (← are) refl
+  loaded-same (first ∷ rows) are =
+      let fits = λ (one : SwitchRow). one.to.0 < length inputs.app.uses in
+      let known = subst (λ (list : List SwitchRow). All fits list) (sym are) accepted.switches.known in
+      let to = All-head fits first rows known in
+      rw (← are, line-at inputs accepted first.to.0 to, rows-of first.to.0 to) refl
+
+  -- There are spans for each use case.
+  pub spans-are : (run_of inputs).spans.uses ≡ length (groups_of inputs.app).uses
+  unfolding spans_of
+  spans-are = refl
+
+  -- There are lines for each use case.
+  pub lines-are : length (all_lines inputs) ≡ length (groups_of inputs.app).uses
+  lines-are = length-map-range_with_len (lines_of inputs) 0 (length inputs.app.uses)
+      ∙ sym (length-groups_of inputs.app)
+
+  -- The switches are rows between known use cases.
+  pub rows-are : AreRows (length (groups_of inputs.app).uses) inputs.switches
+  rows-are = record {
+    known = subst (λ (n : ℕ). All (λ (row : SwitchRow). row.to.0 < n) inputs.switches)
+        (sym (length-groups_of inputs.app)) accepted.switches.known;
+    cycles = accepted.switches.cycles;
+    drains = accepted.switches.drains;
+  }
+
+  -- A line names a connection and lands at a queue of the chip.
+  abbrev pub Fits : Line → Type 0
+  Fits line = (line.row.channel.conn.0 < length inputs.app.connections)
+      × (queue_number line < queues_of_interface * length inputs.chip.nis)
+
+  lines-fit : (u : ℕ) → u < length inputs.app.uses → All Fits (lines_of inputs u)
+  lines-fit u known =
+      let number : UseId = record { 0 = u } in
+      let tables = tables_of inputs.chip inputs.app (groups_of inputs.app) inputs.plan number in
+      let kept = keep_promises inputs.chip inputs.app inputs.plan accepted.design number known in
+      lines-all (λ row. IsRowOf inputs.chip inputs.app row × HasNumbers row) Fits
+      (λ row shape other one two.
+      let ni = two.0.ni in
+      let queue = two.1.queue in
+      (one.0.conn, omega arith))
+      tables.rows tables.shapes (λ k d within. (kept.known k d within, kept.numbered k d within))
+
+  pub all-fit : All (All Fits) (all_lines inputs)
+  all-fit k d within =
+      let count = length-map-range_with_len (lines_of inputs) 0 (length inputs.app.uses) in
+      let known : k < length inputs.app.uses = omega (arith, count) in
+      subst (λ (lines : List Line). All Fits lines)
+      (sym (get_or-map-range_with_len (lines_of inputs) 0 (length inputs.app.uses) k k d known
+      (omega arith))) (lines-fit k known)
+
+  -- No switch has a long lag.
+  short : (u : ℕ) → u < length inputs.app.uses → (one : Granted) (side : Side)
+      → Contains (granted_in inputs.app (groups_of inputs.app) inputs.plan u) one
+      → path_delay inputs.chip.links (grant_on one side).path ≤ max_path_delay
+  short u known one side has =
+      (shape_in_range inputs.chip inputs.app accepted.design.chip_is accepted.design.app_is one
+      (is_reserved inputs.chip inputs.app inputs.plan accepted.design u known one has)
+      side).most_links
+
+  below : (xs : List ℕ) (n : ℕ) → ((x : ℕ) → Contains xs x → x ≤ n) → greatest xs ≤ n
+  below [] n all = omega arith
+  below (x ∷ xs) n all =
+      let first = all x (Contains-here x xs) in
+      let rest = below xs n (λ y has. all y (Contains-there x xs y has)) in
+      omega arith
+
+  pub lag-short : (u v : ℕ) → u < length inputs.app.uses
+      → lag_of inputs.chip inputs.app (groups_of inputs.app) inputs.plan u v ≤ max_path_delay
+  lag-short u v known =
+      let groups = groups_of inputs.app in
+      let all = granted_in inputs.app groups inputs.plan u in
+      let delays = λ (one : Granted). path_delay inputs.chip.links one.fwd.path
+      ∷ path_delay inputs.chip.links one.back.path ∷ [] in
+      below (delays_in inputs.chip (changing groups u v all)) max_path_delay (λ x has.
+      let (one, is_in, here) = flat_map-Contains delays (changing groups u v all) x has in
+      let (given, goes) = filter-Contains
+      (λ (other : Granted). not (is_kept groups u v other.conn.0)) all one is_in in
+      let fwd = short u known one Fwd given in
+      let back = short u known one Back given in
+      elim (Contains-cases (path_delay inputs.chip.links one.fwd.path)
+      (path_delay inputs.chip.links one.back.path ∷ []) x here) [
+        | inl same ↦ omega arith
+        | inr later ↦ elim (Contains-cases (path_delay inputs.chip.links one.back.path) [] x later) [
+          | inl same ↦ omega arith
+          | inr none ↦ Contains-nil none
+        ]
+      ])

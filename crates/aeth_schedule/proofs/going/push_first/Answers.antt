@@ -1,0 +1,27 @@
+use Rattle.std.proofs.Common.{arith, refl}
+use Rattle.std.specs.Prelude.{None}
+use Rattle.std.proofs.lemmas.List.{append-nil}
+use Rattle.aeth_schedule.specs.Goings.{going_by}
+use Rattle.aeth_schedule.specs.Lines.{lines_at}
+use Rattle.aeth_schedule.proofs.GoingLemmas.{going-early, going-late}
+use Rattle.aeth_schedule.proofs.going.push_first.Goals as goal
+
+-- There is no cycle.
+pub returns-then-task-eq0 : goal.returns-then-task-eq0
+returns-then-task-eq0 c =
+    let task = c.args.task.now in
+    rw (
+      going-late (going_by task.setting.groups.now task.setting.spans.now task.setting.all.now
+          task.words.now task.cycles None c.args.to.0 c.args.later.now) task.cycles 0
+          (lines_at task.setting.all.now c.args.to.0) (λ line. refl) (omega arith),
+      append-nil c.args.list.now.items,
+    ) refl
+
+-- All go in the first.
+pub returns : goal.returns
+returns c =
+    let task = c.args.task.now in
+    rw (going-early (going_by task.setting.groups.now task.setting.spans.now task.setting.all.now
+    task.words.now task.cycles None c.args.to.0 c.args.later.now) task.cycles 0
+    (lines_at task.setting.all.now c.args.to.0) (λ line. refl) (omega arith))
+    (rw c.lines_in.ensures at c.push_each.ensures)

@@ -1,0 +1,15 @@
+//! What a run does to tables and queues, cycle by cycle, and when its sessions go: made before the
+//! first cycle.
+#![tactic(auto)]
+
+mod going;
+mod lines;
+mod placing;
+mod rooms;
+mod schedule;
+mod switching;
+mod timed;
+
+pub use going::Going;
+pub use placing::{number_of, values};
+pub use schedule::Schedule;
