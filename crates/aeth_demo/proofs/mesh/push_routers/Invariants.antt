@@ -1,0 +1,12 @@
+use Rattle.std.proofs.Common.{◌≡◌, ◌++◌}
+use Rattle.aeth_demo.specs.Mesh.{router_links}
+use Rattle.aeth_demo.specs.Limits.{mesh_routers}
+use Rattle.aeth_demo.specs.Pieces.{texts_below}
+use Rattle.aeth_demo.proofs.Loops.{texts_from}
+use Rattle.aeth_demo.proofs.mesh.push_routers.Given as goal
+
+-- What is there and what is still to come is the whole.
+abbrev pub invariant-loop-k : goal.invariant-loop-k
+invariant-loop-k l =
+    l.text.items ++ texts_from router_links mesh_routers l.k
+    ≡ l.fn.text.items ++ texts_below router_links mesh_routers
