@@ -1,4 +1,5 @@
 // The words of the run.
+ghost use Rattle.aeth_demo.specs.Draws.{generator_modulus};
 ghost use Rattle.aeth_demo.specs.Limits.{demo_words};
 ghost use Rattle.aeth_demo.specs.Pieces.{texts_below};
 ghost use Rattle.aeth_demo.specs.Traces.{word_row, word_text, words_from};
@@ -18,7 +19,7 @@ const WORDS: u32 = 10_000;
 /// The file of words that are drawn from a number on.
 #[tactic(auto, unfolding(crate::specs::Traces::words_from))]
 pub(crate) fn words_from(alloc: Global, x: u32) -> Result<Vec<u8>, NoMemory>
-    requires { x < 2147483648 }
+    requires { x < generator_modulus }
     ensures { IfOk result (λ text. text.items ≡ words_from x) }
 {
     let mut text = Vec::new(alloc);
@@ -29,7 +30,7 @@ pub(crate) fn words_from(alloc: Global, x: u32) -> Result<Vec<u8>, NoMemory>
 
 // Appends all words.
 fn push_words(text: &mut Vec<u8>, first: u32) -> Result<(), NoMemory>
-    requires { first < 2147483648 }
+    requires { first < generator_modulus }
     ensures { OnOk result (text.new.items
         ≡ text.old.items ++ texts_below (word_text first) demo_words) }
 {

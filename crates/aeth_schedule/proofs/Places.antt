@@ -12,6 +12,7 @@ use Rattle.aeth_base.proofs.Ranges.{range_with_len-more}
 use Rattle.aeth_base.specs.declared.ids.Channel.{Channel}
 use Rattle.aeth_base.specs.declared.ids.Side.TheVariants.{Back, Fwd}
 use Rattle.aeth_trace.specs.Channels.{is_channel}
+use Rattle.aeth_trace.specs.Limits.{max_rows}
 use Rattle.aeth_trace.specs.Words.{words_on}
 use Rattle.aeth_trace.specs.declared.words.WordRow.{WordRow}
 use Rattle.aeth_schedule.specs.Values.{values_of, values_on, values_with}
@@ -55,8 +56,8 @@ values-count words n = rw (
 ) refl
 
 -- The channels of so many connections have no more words than twice so often the most rows.
-pub values-few : (words : List WordRow) (n : ℕ) → length words ≤ 1000000
-    → length (values_of words n) ≤ n * 2000000
+pub values-few : (words : List WordRow) (n : ℕ) → length words ≤ max_rows
+    → length (values_of words n) ≤ n * (2 * max_rows)
 values-few words zero few = omega arith
 values-few words (suc n) few =
     let before = values-few words n few in

@@ -1,5 +1,5 @@
 use Rattle.std.proofs.Common.{◌≡◌, ◌<◌, ◌++◌, ℕ, List}
-use Rattle.aeth_demo.specs.Draws.{number_after}
+use Rattle.aeth_demo.specs.Draws.{generator_modulus, number_after}
 use Rattle.aeth_demo.specs.Limits.{demo_words}
 use Rattle.aeth_demo.specs.Traces.{word_text}
 use Rattle.aeth_demo.specs.Pieces.{texts_below}
@@ -9,7 +9,7 @@ use Rattle.aeth_demo.proofs.traces.push_words.Given as goal
 -- The number after so many draws, and the words: what is there and what is still to come.
 pub record Drawing (first i x : ℕ) (before text : List ℕ) : Type 0 where
   pub number : x ≡ number_after first i
-  pub below : x < 2147483648
+  pub below : x < generator_modulus
   pub words : text ++ texts_from (word_text first) demo_words i
       ≡ before ++ texts_below (word_text first) demo_words
 
