@@ -68,7 +68,7 @@ module _ (chip : ChipData) (rooms : List ℕ) where
       length-append (interfaces ++ routers) (made_stages chip.links (length chip.links))
       ∙ omega arith
 
-  part-at : (i : ℕ) (part : Part) → slice_get (new_parts chip rooms) i ≡ Some part
+  pub part-at : (i : ℕ) (part : Part) → slice_get (new_parts chip rooms) i ≡ Some part
       → Made chip rooms i part
   part-at i part at =
       let size = length-interfaces in
@@ -291,7 +291,7 @@ module _ (chip : ChipData) (is_chip : IsChip chip) (rooms : List ℕ) where
             (i, part.0, part.1, ap (sends_by (frame_of part.0)) (sym same) ∙ sends)
       ]
 
-  made-at : (i : ℕ) (frame : Frame) → slice_get (map frame_of (new_parts chip rooms)) i ≡ Some frame
+  pub made-at : (i : ℕ) (frame : Frame) → slice_get (map frame_of (new_parts chip rooms)) i ≡ Some frame
       → (part : Part) × (Made chip rooms i part) × (frame ≡ frame_of part)
   made-at i frame at =
       let made = from-map frame_of (new_parts chip rooms) i frame at in

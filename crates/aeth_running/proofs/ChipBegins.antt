@@ -1,0 +1,150 @@
+-- The components of a chip are empty at first.
+use Rattle.std.proofs.Common.{◌≡◌, ◌<◌, ◌∙◌, ℕ, ◌*◌, refl, sym, ap, subst, arith, inl, inr}
+use Rattle.std.proofs.Common.{List, [], ◌∷◌, Option, Some, None, get_or, length, map, replicate, slice_get}
+use Rattle.std.specs.List.{slice_index_or}
+use Rattle.std.proofs.lemmas.Bool.{cases_lt}
+use Rattle.std.proofs.lemmas.List.{get_or-map, get_or-replicate, get_or_past, length-map, length-replicate}
+use Rattle.std.proofs.lemmas.Option.{slice_get-get_or, unwrap_or-slice_get}
+use Rattle.aeth_chip.specs.Chip.{ChipData, IsChip}
+use Rattle.aeth_chip.specs.Wires.{wires_of}
+use Rattle.aeth_clocked.specs.Wires.{flit_on}
+use Rattle.aeth_clocked.specs.declared.flit.Flit.{Flit}
+use Rattle.aeth_ni.specs.Limits.{queues_of_interface}
+use Rattle.aeth_ni.specs.Queue.{empty_queue}
+use Rattle.aeth_router.specs.Router.{RouterState, entering_wires, new_router}
+use Rattle.aeth_router.specs.Stage.{StageState}
+use Rattle.aeth_router.specs.declared.part.Part.{Part}
+use Rattle.aeth_router.specs.declared.part.Part.TheVariants.{Router, Stage}
+use Rattle.aeth_components.proofs.MadeLemmas.{IsInterface, IsRouter, IsStage, IsWired-new, length-new_parts, part-at}
+use Rattle.aeth_components.specs.Components.{first_components}
+use Rattle.aeth_components.specs.Frames.{IsWired, frame_of}
+use Rattle.aeth_components.specs.Making.{made_interface, made_stage, new_parts}
+use Rattle.aeth_components.specs.Switching.{entry_in, entry_of}
+use Rattle.aeth_components.specs.View.{queue_in}
+use Rattle.aeth_components.specs.declared.lane.Lane.{Lane}
+use Rattle.aeth_refinement.specs.Fabric.{Fabric, Passage}
+use Rattle.aeth_fabric.specs.Wiring.{fabric_on}
+use Rattle.aeth_running.proofs.ChipFrames.{framed, queues-are}
+use Rattle.aeth_invariant.specs.Beginning.{AreEmpty, HasRoom}
+use Rattle.aeth_invariant.specs.Framed.{IsFramed}
+use Rattle.aeth_running.specs.OnChip.{HaveRooms, IsOver, rooms_at}
+
+-- A list of nothing has nothing anywhere.
+nothing-at : {X : Type 0} (none : Option X) (size i : ℕ) → get_or (replicate size none) i none ≡ none
+nothing-at none size i = elim (cases_lt i size) [
+  | inl within ↦ get_or-replicate size i none none within
+  | inr past ↦
+      let count = length-replicate size none in
+      get_or_past (replicate size none) i none (omega (arith, past, count))
+]
+
+no-flit : (size l : ℕ) → flit_on (replicate size None) l ≡ None
+no-flit size l = unwrap_or-slice_get (replicate size None) l None ∙ nothing-at None size l
+
+no-flits : (f : ℕ → Option Flit) → ((x : ℕ) → f x ≡ None) → (xs : List ℕ)
+    → replicate (length xs) None ≡ map f xs
+no-flits f none [] = refl
+no-flits f none (x ∷ xs) =
+    ap (λ (flits : List (Option Flit)). None ∷ flits) (no-flits f none xs)
+    ∙ ap (λ (flit : Option Flit). flit ∷ map f xs) (sym (none x))
+
+module _ (chip : ChipData) (is_chip : IsChip chip) (rooms : List ℕ)
+    (rooms_are : length rooms ≡ queues_of_interface * length chip.nis) where
+  abbrev parts : List Part
+  parts = new_parts chip rooms
+
+  abbrev wires : List (Option Flit)
+  wires = replicate (wires_of chip.links) None
+
+  router-empty : (i : ℕ) (router : RouterState) → slice_get parts i ≡ Some (Router router)
+      → router.held ≡ map (flit_on wires) router.incoming
+  router-empty i router at = elim (part-at chip rooms i (Router router) at) [
+    | IsInterface small is ↦ absurd (cc is)
+    | IsRouter r small place is ↦
+        let same : router ≡ new_router (record { 0 = r }) chip.links = cc is in
+        ap (λ (s : RouterState). s.held) same
+        ∙ no-flits (flit_on wires) (no-flit (wires_of chip.links))
+        (entering_wires (record { 0 = r }) chip.links)
+        ∙ ap (λ (s : RouterState). map (flit_on wires) s.incoming) (sym same)
+    | IsStage k small place stage ↦
+        let same : Router router ≡ made_stage chip.links stage.link stage.place = stage.is in
+        absurd (cc same)
+  ]
+
+  stage-empty : (i : ℕ) (own : StageState) → slice_get parts i ≡ Some (Stage own)
+      → own.held ≡ flit_on wires own.input.0
+  stage-empty i own at = elim (part-at chip rooms i (Stage own) at) [
+    | IsInterface small is ↦ absurd (cc is)
+    | IsRouter r small place is ↦ absurd (cc is)
+    | IsStage k small place stage ↦
+        let made : Stage own ≡ made_stage chip.links stage.link stage.place = stage.is in
+        let none : own.held ≡ None = cc made in
+        none ∙ sym (no-flit (wires_of chip.links) own.input.0)
+  ]
+
+  -- No slot has an entry.
+  entry-of : (n x : ℕ) → entry_of parts n x ≡ None
+  entry-of n x =
+      let cases : (o : Option Part) → slice_get parts n ≡ o → entry_in x o ≡ None = elim [
+        | None ↦ λ at. refl
+        | Some part ↦ λ at. elim (part-at chip rooms n part at) [
+          | IsInterface small is ↦
+              ap (λ (p : Part). entry_in x (Some p)) is ∙ nothing-at None chip.slots x
+          | IsRouter r small place is ↦ ap (λ (p : Part). entry_in x (Some p)) is
+          | IsStage k small place stage ↦ ap (λ (p : Part). entry_in x (Some p)) stage.is
+        ]
+      ] in
+      cases (slice_get parts n) refl
+
+  -- The interface of a number stands at its place.
+  pub interface-part : (n : ℕ) → n < length chip.nis
+      → slice_get parts n ≡ Some (made_interface chip rooms n)
+  interface-part n within =
+      let count = length-new_parts chip rooms in
+      let default = made_interface chip rooms n in
+      let at = slice_get-get_or parts n default (omega (arith, within, count)) in
+      elim (part-at chip rooms n (get_or parts n default) at) [
+        | IsInterface small is ↦ at ∙ ap (λ (p : Part). Some p) is
+        | IsRouter r small place is ↦ absurd (omega (arith, within, place))
+        | IsStage k small place stage ↦ absurd (omega (arith, within, place))
+      ]
+
+  module _ (count : ℕ) (passage : ℕ → Passage) (opposite : ℕ → ℕ)
+      (over : IsOver (fabric_on chip count passage opposite) chip)
+      (enough : HaveRooms (fabric_on chip count passage opposite) rooms) where
+    abbrev fabric : Fabric
+    fabric = fabric_on chip count passage opposite
+
+    has-room : (lanes : List Lane) (words : List ℕ) (c : ℕ) → c < fabric.count
+        → HasRoom fabric (first_components chip rooms lanes words) c
+    has-room lanes words c h =
+        let n = (fabric.passage c).ni in
+        let q = (fabric.passage c).queue in
+        let own = rooms_at rooms n in
+        let size = queues-are chip is_chip rooms rooms_are n (over.ni c h) in
+        let same = length-map own empty_queue in
+        let small = over.queue c h in
+        record {
+          room = slice_index_or own q 0;
+          is = ap (queue_in q) (interface-part n (over.ni c h))
+              ∙ get_or-map empty_queue own q 0 (empty_queue 0) (omega (arith, size, same, small));
+          enough = enough c h;
+        }
+
+    pub empty : (lanes : List Lane) (words : List ℕ)
+        → ((number : ℕ) (lane : Lane) → slice_get lanes number ≡ Some lane → lane.fin ≡ 0)
+        → AreEmpty fabric (first_components chip rooms lanes words)
+    empty lanes words closed =
+        let frames = map frame_of parts in
+        let size : length wires ≡ wires_of chip.links =
+        length-replicate (wires_of chip.links) None in
+        record {
+          wired = subst (IsWired frames) (sym size) (IsWired-new chip is_chip rooms);
+          framed = subst (IsFramed fabric frames) (sym size)
+              (framed chip is_chip rooms rooms_are count passage opposite over);
+          latched = record { routers = router-empty; stages = stage-empty };
+          wires = no-flit (wires_of chip.links);
+          entries = entry-of;
+          queues = has-room lanes words;
+          lanes = closed;
+        }

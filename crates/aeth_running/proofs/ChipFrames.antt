@@ -1,0 +1,287 @@
+-- The components of a chip are those of a fabric on it.
+use Rattle.std.proofs.Common.{◌≡◌, ◌≤◌, ◌<◌, ◌∙◌, ℕ, suc, ◌+◌, ◌*◌, ◌-◌, refl, sym, ap, subst, arith, true}
+use Rattle.std.proofs.Common.{List, Option, Some, None, drop, get_or, length, map, replicate, slice_get}
+use Rattle.std.specs.Prelude.{◌==◌, slice_index, slice_range}
+use Rattle.std.proofs.lemmas.Bool.{eqb-true}
+use Rattle.std.proofs.lemmas.List.{length-drop, length-map, length-replicate, length-take}
+use Rattle.std.proofs.lemmas.Option.{slice_get-get_or, slice_get_within}
+use Rattle.aeth_base.specs.declared.ids.LinkId.{LinkId}
+use Rattle.aeth_base.specs.declared.ids.NiId.{NiId}
+use Rattle.aeth_chip.proofs.NodeLemmas.{numbers_from-once, same_node-true}
+use Rattle.aeth_chip.proofs.WireLemmas.{have_delays, wire_at-below, wires_of-split}
+use Rattle.aeth_chip.specs.Chip.{ChipData, IsChip}
+use Rattle.aeth_chip.specs.Nodes.{begins_at, receives_on, sends_on}
+use Rattle.aeth_chip.specs.Wires.{wire_at, wires_of}
+use Rattle.aeth_chip.specs.declared.node.Link.{Link}
+use Rattle.aeth_chip.specs.declared.node.Node.{Node}
+use Rattle.aeth_chip.specs.declared.node.Node.TheVariants.{Ni, Router}
+use Rattle.aeth_ni.specs.Limits.{queues_of_interface}
+use Rattle.aeth_ni.specs.Queue.{QueueState, empty_queue}
+use Rattle.aeth_router.proofs.LinkLemmas.{is_among-at, passes-from_is_among, position-at}
+use Rattle.aeth_router.specs.Router.{entering_wires, is_among, last_wire}
+use Rattle.aeth_router.specs.declared.part.Part.{Part}
+use Rattle.aeth_components.proofs.MadeLemmas.{IsInterface, IsRouter, IsStage, IsWired-new, length-new_parts, made-at}
+use Rattle.aeth_components.proofs.MadeParts.{StageAt}
+use Rattle.aeth_components.specs.Frames.{Frame, InterfaceFrame, frame_of, sends_by}
+use Rattle.aeth_components.specs.Making.{made_interface, made_router, made_stage, new_parts}
+use Rattle.aeth_report.specs.Routes.{port_of}
+use Rattle.aeth_fabric.proofs.WiredLemmas.{port_at}
+use Rattle.aeth_fabric.proofs.WireEnds.{first-starts, further-starts}
+use Rattle.aeth_fabric.proofs.WirePlaces.{place_of-is}
+use Rattle.aeth_refinement.specs.Fabric.{AtInterface, AtRouter, AtStage, Fabric, Passage}
+use Rattle.aeth_fabric.specs.Wiring.{fabric_on, node_end, place_of, start_in, start_of}
+use Rattle.aeth_running.specs.OnChip.{IsOver}
+use Rattle.aeth_invariant.specs.Framed.{HasSession, IsFramed, IsFrom, IsFromRouter, IsFromStage}
+
+module _ (chip : ChipData) (is_chip : IsChip chip) (rooms : List ℕ)
+    (rooms_are : length rooms ≡ queues_of_interface * length chip.nis) where
+  abbrev frames : List Frame
+  frames = map frame_of (new_parts chip rooms)
+
+  abbrev links : List Link
+  links = chip.links
+
+  -- The entries and the queues of an interface at first.
+  abbrev entries : ℕ → List (Option ℕ)
+  entries slots = replicate slots None
+
+  abbrev rooms-of : ℕ → List QueueState
+  rooms-of n = map empty_queue
+      (slice_range rooms (n * queues_of_interface) (n * queues_of_interface + queues_of_interface))
+
+  -- The component that sends on a wire.
+  data Sender (l : ℕ) : Type 0 where
+    ByInterface : (n : ℕ) → start_of chip.links l ≡ AtInterface n → IsFrom frames n l → Sender l
+    ByRouter : (r : ℕ) → start_of chip.links l ≡ AtRouter r
+        → IsFromRouter frames (entering_wires (record { 0 = r }) chip.links)
+        (port_of chip.links (record { 0 = l })) l → Sender l
+    ByStage : (m : ℕ) → start_of chip.links l ≡ AtStage m → IsFromStage frames m l → Sender l
+
+  -- A first wire starts where its link begins.
+  starts-at : (l : ℕ) (link : Link) → slice_get links l ≡ Some link
+      → start_of links l ≡ node_end link.from
+  starts-at l link at =
+      first-starts links (have_delays chip is_chip) l link at
+
+  by-interface : (i l : ℕ) (frame : Frame) → slice_get frames i ≡ Some frame → i < length chip.nis
+      → frame ≡ frame_of (made_interface chip rooms i) → sends_by frame l ≡ true → Sender l
+  by-interface i l frame at within is sends =
+      let node : Node = Ni (record { 0 = i }) in
+      let single = is_chip.single (record { 0 = i }) within in
+      let own : (slice_index (sends_on node links) 0 == l) ≡ true =
+      ap (λ (f : Frame). sends_by f l) (sym is) ∙ sends in
+      let wire : slice_index (sends_on node links) 0 ≡ l =
+      eqb-true (slice_index (sends_on node links) 0) l own in
+      let leaving : single.leaving.0 ≡ l =
+      sym (ap (λ (ls : List ℕ). slice_index ls 0) single.sends) ∙ wire in
+      let among = is_among-at (sends_on node links) 0 l
+      (ap (λ (ls : List ℕ). slice_get ls 0) single.sends ∙ ap (λ n. Some n) leaving) in
+      let passes = passes-from_is_among (begins_at node) links l among in
+      let from = same_node-true passes.0.from node passes.2 in
+      ByInterface i (starts-at l passes.0 passes.1 ∙ ap node_end from) (record {
+        number = record { 0 = i };
+        leaving = record { 0 = slice_index (sends_on node links) 0 };
+        entering = record { 0 = last_wire links (slice_index (receives_on node links) 0) };
+        slots = length (entries chip.slots);
+        queues = length (rooms-of i);
+        face = at ∙ ap (λ (f : Frame). Some f) is;
+        sends = wire;
+      })
+
+  by-router : (r i l : ℕ) (frame : Frame) → slice_get frames i ≡ Some frame
+      → frame ≡ frame_of (made_router chip r) → sends_by frame l ≡ true → Sender l
+  by-router r i l frame at is sends =
+      let node : Node = Router (record { 0 = r }) in
+      let among : is_among (sends_on node links) l ≡ true =
+      ap (λ (f : Frame). sends_by f l) (sym is) ∙ sends in
+      let passes = passes-from_is_among (begins_at node) links l among in
+      let from = same_node-true passes.0.from node passes.2 in
+      let port = port_at links l passes.0 (record { 0 = r }) passes.1 from in
+      ByRouter r (starts-at l passes.0 passes.1 ∙ ap node_end from) (record {
+        place = i;
+        outgoing = sends_on node links;
+        face = at ∙ ap (λ (f : Frame). Some f) is;
+        sends = position-at (sends_on node links) (port_of links (record { 0 = l })) l
+            (numbers_from-once (begins_at node) 0 links) port;
+      })
+
+  by-stage : (k i l : ℕ) (frame : Frame) (part : Part) → slice_get frames i ≡ Some frame
+      → frame ≡ frame_of part → StageAt links k part → sends_by frame l ≡ true → Sender l
+  by-stage k i l frame part at is stage sends =
+      let same : frame ≡ frame_of (made_stage links stage.link stage.place) =
+      is ∙ ap frame_of stage.is in
+      let own : (wire_at links stage.link (stage.place + 1) == l) ≡ true =
+      ap (λ (f : Frame). sends_by f l) (sym same) ∙ sends in
+      let wire = eqb-true (wire_at links stage.link (stage.place + 1)) l own in
+      let short = stage.short in
+      let next : suc stage.place ≡ stage.place + 1 = omega arith in
+      ByStage (wire_at links stage.link stage.place)
+      (ap (start_of links) (sym (ap (wire_at links stage.link) next ∙ wire))
+      ∙ further-starts links (have_delays chip is_chip) stage.link stage.place stage.found stage.at
+      (omega (arith, short)))
+      (record {
+        place = i;
+        input = record { 0 = wire_at links stage.link stage.place };
+        output = record { 0 = wire_at links stage.link (stage.place + 1) };
+        face = at ∙ ap (λ (f : Frame). Some f) same;
+        reads = refl;
+        sends = wire;
+      })
+
+  sender-of : (l : ℕ) → l < wires_of links → Sender l
+  sender-of l within =
+      let owner = (IsWired-new chip is_chip rooms).owned l within in
+      let made = made-at chip is_chip rooms owner.0 owner.1 owner.2 in
+      elim made.1 [
+        | IsInterface small is ↦
+            by-interface owner.0 l owner.1 owner.2 small (made.2 ∙ ap frame_of is) owner.3
+        | IsRouter r small place is ↦
+            by-router r owner.0 l owner.1 owner.2 (made.2 ∙ ap frame_of is) owner.3
+        | IsStage k small place stage ↦
+            by-stage k owner.0 l owner.1 made.0 owner.2 made.2 stage owner.3
+      ]
+
+  -- The interface of a number stands at its place.
+  pub face-at : (n : ℕ) → n < length chip.nis
+      → slice_get frames n ≡ Some (frame_of (made_interface chip rooms n))
+  face-at n within =
+      let count = length-new_parts chip rooms in
+      let size = length-map (new_parts chip rooms) frame_of in
+      let default = frame_of (made_interface chip rooms n) in
+      let at = slice_get-get_or frames n default (omega (arith, within, count, size)) in
+      let made = made-at chip is_chip rooms n (get_or frames n default) at in
+      elim made.1 [
+        | IsInterface small is ↦
+            at ∙ ap (λ (f : Frame). Some f) (made.2 ∙ ap frame_of is)
+        | IsRouter r small place is ↦ absurd (omega (arith, within, place))
+        | IsStage k small place stage ↦ absurd (omega (arith, within, place))
+      ]
+
+  slots-are : (n : ℕ) (number : NiId) (leaving entering : LinkId) (slots queues : ℕ)
+      → slice_get frames n ≡ Some (InterfaceFrame number leaving entering slots queues)
+      → slots ≡ chip.slots
+  slots-are n number leaving entering slots queues at =
+      let made = made-at chip is_chip rooms n _ at in
+      elim made.1 [
+        | IsInterface small is ↦
+            let same : InterfaceFrame number leaving entering slots queues
+            ≡ frame_of (made_interface chip rooms n) = made.2 ∙ ap frame_of is in
+            let none : Option ℕ = None in
+            let size : slots ≡ length (entries chip.slots) = cc same in
+            size ∙ length-replicate chip.slots none
+        | IsRouter r small place is ↦
+            let same : InterfaceFrame number leaving entering slots queues
+            ≡ frame_of (made_router chip r) = made.2 ∙ ap frame_of is in
+            absurd (cc same)
+        | IsStage k small place stage ↦
+            let same : InterfaceFrame number leaving entering slots queues
+            ≡ frame_of (made_stage links stage.link stage.place) =
+            made.2 ∙ ap frame_of stage.is in
+            absurd (cc same)
+      ]
+
+  -- What is no wire starts at a stage of its own.
+  past-wires : (l : ℕ) → wires_of links ≤ l → start_of links l ≡ AtStage l
+  past-wires l past =
+      let delays = have_delays chip is_chip in
+      let cases : (o : Option (ℕ × ℕ)) → place_of links l ≡ o → start_of links l ≡ AtStage l = elim [
+        | None ↦ λ is. ap (start_in links l) is
+        | Some p ↦ λ is.
+            let of = place_of-is links delays l p is in
+            let below = wire_at-below links delays p.0 p.1 of.link of.is_link
+            (slice_get_within links p.0 of.link of.is_link) of.short in
+            let wire = of.is in
+            let split = wires_of-split links delays in
+            absurd (omega (arith, past, below, wire, split))
+      ] in
+      cases (place_of links l) refl
+
+  -- As many queues as an interface has.
+  pub queues-are : (n : ℕ) → n < length chip.nis → length (rooms-of n) ≡ queues_of_interface
+  queues-are n within =
+      let from = n * queues_of_interface in
+      let some = slice_range rooms from (from + queues_of_interface) in
+      let all = length-map some empty_queue in
+      let first = length-take ((from + queues_of_interface) - from) (drop from rooms) in
+      let left = length-drop from rooms in
+      omega (arith, all, first, left, within, rooms_are)
+
+  module _ (count : ℕ) (passage : ℕ → Passage) (opposite : ℕ → ℕ)
+      (over : IsOver (fabric_on chip count passage opposite) chip) where
+    abbrev fabric : Fabric
+    fabric = fabric_on chip count passage opposite
+
+    -- An interface with a session's queue.
+    session-at : (c : ℕ) → c < fabric.count → HasSession fabric frames c
+    session-at c h =
+        let n = (fabric.passage c).ni in
+        let node : Node = Ni (record { 0 = n }) in
+        let queue = over.queue c h in
+        let queues = queues-are n (over.ni c h) in
+        record {
+          number = record { 0 = n };
+          leaving = record { 0 = slice_index (sends_on node links) 0 };
+          entering = record { 0 = last_wire links (slice_index (receives_on node links) 0) };
+          slots = length (entries chip.slots);
+          queues = length (rooms-of n);
+          face = face-at n (over.ni c h);
+          within = omega (arith, queue, queues);
+          enters = refl;
+        }
+
+    interface-at : (l n : ℕ) → l < wires_of links → fabric.start l ≡ AtInterface n
+        → IsFrom frames n l
+    interface-at l n within starts = elim (sender-of l within) [
+      | ByInterface m start from ↦
+          let same : AtInterface m ≡ AtInterface n = sym start ∙ starts in
+          let number : m ≡ n = cc same in
+          subst (λ k. IsFrom frames k l) number from
+      | ByRouter r start from ↦
+          let same : AtRouter r ≡ AtInterface n = sym start ∙ starts in
+          absurd (cc same)
+      | ByStage m start from ↦
+          let same : AtStage m ≡ AtInterface n = sym start ∙ starts in
+          absurd (cc same)
+    ]
+
+    router-at : (l r : ℕ) → l < wires_of links → fabric.start l ≡ AtRouter r
+        → IsFromRouter frames (fabric.incoming r) (fabric.port l) l
+    router-at l r within starts = elim (sender-of l within) [
+      | ByInterface m start from ↦
+          let same : AtInterface m ≡ AtRouter r = sym start ∙ starts in
+          absurd (cc same)
+      | ByRouter q start from ↦
+          let same : AtRouter q ≡ AtRouter r = sym start ∙ starts in
+          let number : q ≡ r = cc same in
+          subst (λ k. IsFromRouter frames (entering_wires (record { 0 = k }) links)
+          (port_of links (record { 0 = l })) l) number from
+      | ByStage m start from ↦
+          let same : AtStage m ≡ AtRouter r = sym start ∙ starts in
+          absurd (cc same)
+    ]
+
+    stage-at : (l m : ℕ) → l < wires_of links → fabric.start l ≡ AtStage m
+        → IsFromStage frames m l
+    stage-at l m within starts = elim (sender-of l within) [
+      | ByInterface n start from ↦
+          let same : AtInterface n ≡ AtStage m = sym start ∙ starts in
+          absurd (cc same)
+      | ByRouter r start from ↦
+          let same : AtRouter r ≡ AtStage m = sym start ∙ starts in
+          absurd (cc same)
+      | ByStage k start from ↦
+          let same : AtStage k ≡ AtStage m = sym start ∙ starts in
+          let number : k ≡ m = cc same in
+          subst (λ n. IsFromStage frames n l) number from
+    ]
+
+    pub framed : IsFramed fabric frames (wires_of links)
+    framed = record {
+      slots = λ n number leaving entering slots queues at.
+          slots-are n number leaving entering slots queues at;
+      session = session-at;
+      interface = interface-at;
+      router = router-at;
+      stage = stage-at;
+      past = past-wires;
+    }

@@ -1,0 +1,2 @@
+pub mod ChipFrames
+pub mod ChipBegins
