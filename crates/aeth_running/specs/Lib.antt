@@ -1,1 +1,4 @@
-pub mod OnChip
+pub mod FirstLog
+pub mod Network
+pub mod Running
+pub mod Told

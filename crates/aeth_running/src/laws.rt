@@ -1,24 +1,116 @@
-//! What holds of the components of accepted inputs, over the definitions alone.
-ghost use Rattle.std.specs.Prelude.{◌≡◌, ◌*◌, ℕ, List, Some, length, slice_get};
-ghost use Rattle.aeth_chip.specs.Chip.{ChipData, IsChip};
-ghost use Rattle.aeth_ni.specs.Limits.{queues_of_interface};
-ghost use Rattle.aeth_components.specs.Components.{first_components};
-ghost use Rattle.aeth_components.specs.declared.lane.Lane.{Lane};
-ghost use Rattle.aeth_refinement.specs.Fabric.{Passage};
-ghost use Rattle.aeth_fabric.specs.Wiring.{fabric_on};
-ghost use Rattle.aeth_invariant.specs.Beginning.{AreEmpty};
-ghost use Rattle.aeth_running.specs.OnChip.{HaveRooms, IsOver};
+//! What holds of the network of accepted inputs, over the definitions alone.
+ghost use Rattle.std.specs.Prelude.{◌≡◌, ℕ, Some, length, ◌≤◌, ◌<◌, ◌+◌, ◌-◌, None};
+ghost use Rattle.aeth_refinement.specs.Fabric.{AtRouter, Owns, flow_at, server_at};
+ghost use Rattle.aeth_refinement.specs.Carried.{IsPassed, words_from};
+ghost use Rattle.aeth_accepted.specs.Inputs.{AreAccepted, Inputs, run_of};
+ghost use Rattle.aeth_fabric.specs.Fabric.{fabric_of};
+ghost use Rattle.aeth_running.specs.Network.{first_network, played};
+ghost use Rattle.aeth_running.specs.Running.{IsRunning};
+ghost use Rattle.aeth_running.specs.Told.{network_log};
+ghost use Rattle.aeth_report.specs.RunLog.{log_of};
+ghost use Rattle.std.specs.Option.{option_to_list};
+ghost use Rattle.aeth_base.specs.declared.ids.LinkId.{LinkId};
+ghost use Rattle.aeth_chip.specs.Paths.{delay_of};
+ghost use Rattle.aeth_chip.specs.Wires.{wire_at};
+ghost use Rattle.aeth_clocked.specs.Wires.{flit_on};
+ghost use Rattle.aeth_clocked.specs.declared.flit.Flit.{Flit};
+ghost use Rattle.aeth_ni.specs.Component.{Arrival, arrival_of};
+ghost use Rattle.aeth_server.specs.PrivateServer.{landed, taken};
+ghost use Rattle.aeth_report.specs.Carries.{carries};
+ghost use Rattle.aeth_components.specs.View.{queue_of};
 
-/// The components of a chip, as they are made, are those of a fabric over its interfaces, and empty:
-/// where no channel was ever open, and each queue has room for what lands there.
-pub fn chips_begin()
-    ensures { (chip : ChipData) → IsChip chip → (rooms : List ℕ)
-        → length rooms ≡ queues_of_interface * length chip.nis
-        → (count : ℕ) (passage : ℕ → Passage) (opposite : ℕ → ℕ)
-        → IsOver (fabric_on chip count passage opposite) chip
-        → HaveRooms (fabric_on chip count passage opposite) rooms
-        → (lanes : List Lane) (words : List ℕ)
-        → ((number : ℕ) (lane : Lane) → slice_get lanes number ≡ Some lane → lane.fin ≡ 0)
-        → AreEmpty (fabric_on chip count passage opposite)
-        (first_components chip rooms lanes words) }
-{}
+/// The network of accepted inputs runs before each cycle, and behind the last.
+pub fn networks_run()
+    ensures { (inputs : Inputs) → AreAccepted inputs → (t : ℕ) → t ≤ inputs.cycles
+        → IsRunning inputs t (played t (first_network inputs)).components }
+{
+    aeth_stimuli::laws::chips_begin();
+    aeth_stimuli::laws::sessions_go();
+    aeth_stimuli::laws::sessions_are_apart();
+    aeth_stimuli::laws::words_are_placed();
+    aeth_events::laws::fabrics_are_over_chips();
+    aeth_events::laws::events_are_events();
+    aeth_events::laws::stimuli_are_stimuli();
+    aeth_tables::laws::switches();
+    aeth_fabric::laws::runs_have_fabrics();
+    aeth_invariant::laws::runs_begin();
+    aeth_invariant::laws::components_are_prepared();
+    aeth_invariant::laws::cycles_are_cycles();
+    aeth_invariant::laws::cycles_keep_running();
+    aeth_invariant::laws::flits_are_counted();
+    aeth_invariant::laws::sessions_are_told();
+    aeth_invariant::laws::landings_are_noted();
+}
+
+/// The wires of the network of accepted inputs carry in each cycle what the run of the private servers
+/// says. The first wire of a link has the one flit that the link carries in that cycle, or none. Each
+/// further wire has what the link carried as many cycles before, and nothing before that. Before the
+/// first cycle no wire has a flit.
+pub fn networks_carry()
+    ensures first { (inputs : Inputs) → AreAccepted inputs → (l t : ℕ) → t < inputs.cycles
+        → l < length inputs.chip.links
+        → option_to_list (flit_on (played (t + 1) (first_network inputs)).components.wires l)
+        ≡ carries (run_of inputs) l t }
+    ensures behind { (inputs : Inputs) → AreAccepted inputs → (link : LinkId) (k : ℕ)
+        → k < delay_of inputs.chip.links link → (t : ℕ) → t + k < inputs.cycles
+        → option_to_list (flit_on (played (t + k + 1) (first_network inputs)).components.wires
+        (wire_at inputs.chip.links link.0 k))
+        ≡ carries (run_of inputs) link.0 t }
+    ensures early { (inputs : Inputs) → AreAccepted inputs → (link : LinkId) (k : ℕ)
+        → k < delay_of inputs.chip.links link → (t : ℕ) → t < k → t < inputs.cycles
+        → flit_on (played (t + 1) (first_network inputs)).components.wires
+        (wire_at inputs.chip.links link.0 k) ≡ None }
+    ensures empty { (inputs : Inputs) → AreAccepted inputs → (l : ℕ)
+        → flit_on (played 0 (first_network inputs)).components.wires l ≡ None }
+{
+    networks_run();
+    aeth_fabric::laws::runs_have_fabrics();
+    aeth_fabric::laws::fabrics_carry();
+    aeth_refinement::laws::wires_carry();
+}
+
+/// The network of accepted inputs loses nothing. In each cycle a flit on a wire that ends at a router
+/// names one of its ports, and no other flit that comes there names that port. No flit on a wire has a
+/// payload count of 3. No receive queue ever holds more words than the buffer of the session that lands
+/// there, and it holds all of its words that have landed and were not taken, in their order.
+pub fn networks_lose_nothing()
+    ensures passed { (inputs : Inputs) → AreAccepted inputs → (t : ℕ) → t < inputs.cycles
+        → (m r : ℕ) (flit : Flit) → (fabric_of inputs).end m ≡ AtRouter r
+        → flit_on (played (t + 1) (first_network inputs)).components.wires m ≡ Some flit
+        → IsPassed (fabric_of inputs)
+        (flit_on (played (t + 1) (first_network inputs)).components.wires) m r flit }
+    ensures read { (inputs : Inputs) → AreAccepted inputs → (t : ℕ) → t < inputs.cycles
+        → (l : ℕ) (flit : Flit)
+        → flit_on (played (t + 1) (first_network inputs)).components.wires l ≡ Some flit
+        → (arrival : Arrival) × (arrival_of (Some flit) ≡ Some arrival) }
+    ensures room { (inputs : Inputs) → AreAccepted inputs → (t : ℕ) → t ≤ inputs.cycles
+        → (c : ℕ) → c < (fabric_of inputs).count → Owns (fabric_of inputs) c t
+        → length (queue_of (played t (first_network inputs)).components.parts
+        ((fabric_of inputs).passage c).ni ((fabric_of inputs).passage c).queue).received
+        ≤ (server_at (fabric_of inputs) ((fabric_of inputs).opposite c)).buffer }
+    ensures kept { (inputs : Inputs) → AreAccepted inputs → (t : ℕ) → t ≤ inputs.cycles
+        → (c : ℕ) → c < (fabric_of inputs).count → Owns (fabric_of inputs) c t
+        → let d = (fabric_of inputs).opposite c in
+        (queue_of (played t (first_network inputs)).components.parts
+        ((fabric_of inputs).passage c).ni ((fabric_of inputs).passage c).queue).received
+        ≡ words_from (flow_at (fabric_of inputs) d).values (taken (server_at (fabric_of inputs) d) t)
+        (landed (server_at (fabric_of inputs) d) (t + 1) - taken (server_at (fabric_of inputs) d) t) }
+{
+    networks_run();
+    aeth_fabric::laws::runs_have_fabrics();
+    aeth_refinement::laws::no_flit_is_lost();
+    aeth_refinement::laws::queues_fit();
+}
+
+/// The log of the network of accepted inputs is that of their run: each word lands in the cycle in which it
+/// does on the private server of its session, whatever all other channels do, and each link carries as many
+/// flits.
+pub fn networks_log()
+    ensures { (inputs : Inputs) → AreAccepted inputs → network_log inputs ≡ log_of (run_of inputs) }
+{
+    networks_run();
+    aeth_stimuli::laws::sessions_go();
+    aeth_stimuli::laws::sessions_are_apart();
+    aeth_accepted::laws::runs_are_sound();
+    aeth_fabric::laws::fabrics_carry();
+}

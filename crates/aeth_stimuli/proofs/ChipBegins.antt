@@ -24,10 +24,10 @@ use Rattle.aeth_components.specs.View.{queue_in}
 use Rattle.aeth_components.specs.declared.lane.Lane.{Lane}
 use Rattle.aeth_refinement.specs.Fabric.{Fabric, Passage}
 use Rattle.aeth_fabric.specs.Wiring.{fabric_on}
-use Rattle.aeth_running.proofs.ChipFrames.{framed, queues-are}
+use Rattle.aeth_stimuli.proofs.ChipFrames.{framed, queues-are}
 use Rattle.aeth_invariant.specs.Beginning.{AreEmpty, HasRoom}
 use Rattle.aeth_invariant.specs.Framed.{IsFramed}
-use Rattle.aeth_running.specs.OnChip.{HaveRooms, IsOver, rooms_at}
+use Rattle.aeth_stimuli.specs.OnChip.{HaveRooms, IsOver, rooms_at}
 
 -- A list of nothing has nothing anywhere.
 nothing-at : {X : Type 0} (none : Option X) (size i : ℕ) → get_or (replicate size none) i none ≡ none

@@ -30,7 +30,7 @@ use Rattle.aeth_fabric.proofs.WireEnds.{first-starts, further-starts}
 use Rattle.aeth_fabric.proofs.WirePlaces.{place_of-is}
 use Rattle.aeth_refinement.specs.Fabric.{AtInterface, AtRouter, AtStage, Fabric, Passage}
 use Rattle.aeth_fabric.specs.Wiring.{fabric_on, node_end, place_of, start_in, start_of}
-use Rattle.aeth_running.specs.OnChip.{IsOver}
+use Rattle.aeth_stimuli.specs.OnChip.{IsOver}
 use Rattle.aeth_invariant.specs.Framed.{HasSession, IsFramed, IsFrom, IsFromRouter, IsFromStage}
 
 module _ (chip : ChipData) (is_chip : IsChip chip) (rooms : List ℕ)

@@ -1,0 +1,177 @@
+-- The network of accepted inputs before the first cycle: its components run, and no channel has a
+-- session.
+use Rattle.std.proofs.Common.{◌≡◌, ◌≤◌, ◌<◌, ◌∙◌, ◌*◌, ℕ, List, [], ◌∷◌, Some, Option, None, get_or}
+use Rattle.std.proofs.Common.{length, replicate}
+use Rattle.std.proofs.Common.{filter, slice_get, refl, sym, ap, arith}
+use Rattle.std.specs.Prelude.{nat_lt}
+use Rattle.std.specs.List.{flat_map}
+use Rattle.std.proofs.lemmas.Bool.{le-ltb}
+use Rattle.std.proofs.lemmas.List.{get_or-replicate, length-map, length-replicate}
+use Rattle.std.proofs.lemmas.List.Elements.{All-replicate}
+use Rattle.std.proofs.lemmas.List.FromFn.{length-map-range_with_len}
+use Rattle.std.proofs.lemmas.Option.{same_Some, slice_get-get_or, slice_get_within}
+use Rattle.aeth_chip.specs.Chip.{IsChip}
+use Rattle.aeth_chip.specs.Wires.{wires_of}
+use Rattle.aeth_chip.proofs.WireLemmas.{have_delays, wires_of-split}
+use Rattle.aeth_clocked.specs.declared.flit.Flit.{Flit}
+use Rattle.aeth_ni.specs.Limits.{queues_of_interface}
+use Rattle.aeth_trace.specs.Channels.{channel_number}
+use Rattle.aeth_trace.specs.Limits.{usual_pull}
+use Rattle.aeth_trace.specs.Receivers.{pulls_on}
+use Rattle.aeth_trace.specs.declared.receivers.PullRow.{PullRow}
+use Rattle.aeth_components.proofs.MadeLemmas.{length-new_parts}
+use Rattle.aeth_components.proofs.PartLemmas.{frames-switched}
+use Rattle.aeth_components.specs.Changes.{switched}
+use Rattle.aeth_components.specs.Components.{ComponentsState, IsComponents, first_components}
+use Rattle.aeth_components.specs.Frames.{frame_of}
+use Rattle.aeth_components.specs.Lanes.{IsLane}
+use Rattle.aeth_components.specs.Making.{new_parts}
+use Rattle.aeth_components.specs.declared.lane.Lane.{Lane}
+use Rattle.aeth_refinement.specs.Accepted.{IsAccepted}
+use Rattle.aeth_accepted.specs.Inputs.{Inputs, run_of}
+use Rattle.aeth_fabric.specs.Fabric.{fabric_of, opposite_in, passage_of, placed_at, placed_of}
+use Rattle.aeth_schedule.specs.Lines.{all_lines}
+use Rattle.aeth_schedule.specs.Rooms.{room_at, rooms_of}
+use Rattle.aeth_schedule.specs.Switching.{loaded_of}
+use Rattle.aeth_schedule.specs.Values.{values_of}
+use Rattle.aeth_invariant.specs.Beginning.{AreEmpty}
+use Rattle.aeth_invariant.specs.Events.{AreEvents}
+use Rattle.aeth_invariant.specs.Running.{Runs}
+use Rattle.aeth_running.proofs.ChannelNumbers.{channel-within}
+use Rattle.aeth_running.proofs.ChannelRows.{last_pull}
+use Rattle.aeth_running.proofs.ChannelStates.{Unused}
+use Rattle.aeth_running.proofs.NetworkLaws.{BeginningLaws}
+use Rattle.aeth_running.proofs.NetworkSteps.{Plays}
+use Rattle.aeth_running.specs.Network.{first_network}
+use Rattle.aeth_stimuli.specs.Loaded.{loaded_components, no_lane}
+use Rattle.aeth_stimuli.specs.OnChip.{HaveRooms, IsOver}
+use Rattle.aeth_running.specs.Running.{IsRunning}
+use Rattle.aeth_stimuli.specs.Sessions.{channel_of}
+
+-- What stands at a place of a list of one item.
+replicate-at : {X : Type 0} (size i : ℕ) (x y : X) → slice_get (replicate size x) i ≡ Some y → x ≡ y
+replicate-at size i x y at =
+    let within = slice_get_within (replicate size x) i y at in
+    let count = length-replicate size x in
+    sym (get_or-replicate size i x x (omega (arith, within, count)))
+    ∙ same_Some (get_or (replicate size x) i x) y
+    (sym (slice_get-get_or (replicate size x) i x within) ∙ at)
+
+at-replicate : {X : Type 0} (size i : ℕ) (x : X) → i < size
+    → slice_get (replicate size x) i ≡ Some x
+at-replicate size i x within =
+    let count = length-replicate size x in
+    slice_get-get_or (replicate size x) i x (omega (arith, within, count))
+    ∙ ap (λ y. Some y) (get_or-replicate size i x x within)
+
+-- There are no rows before the first cycle.
+none-below : {X : Type 0} (n : X → ℕ) (xs : List X) → filter (λ x. nat_lt (n x) 0) xs ≡ []
+none-below n [] = refl
+none-below n (x ∷ xs) = rw (le-ltb (n x) 0 (omega arith)) (none-below n xs)
+
+module _ (inputs : Inputs) where
+  abbrev lanes : List Lane
+  lanes = replicate (2 * length inputs.app.connections) no_lane
+
+  abbrev words : List ℕ
+  words = values_of inputs.words (length inputs.app.connections)
+
+  abbrev made : ComponentsState
+  made = first_components inputs.chip (rooms_of inputs) lanes words
+
+  rooms-are : length (rooms_of inputs) ≡ queues_of_interface * length inputs.chip.nis
+  unfolding rooms_of
+  rooms-are = length-map-range_with_len (room_at (flat_map (λ lines. lines) (all_lines inputs))) 0
+      (queues_of_interface * length inputs.chip.nis)
+
+  module _ (laws : BeginningLaws) (is_chip : IsChip inputs.chip) (ok : IsAccepted (fabric_of inputs))
+      (is-over : IsOver (fabric_of inputs) inputs.chip)
+      (have-rooms : HaveRooms (fabric_of inputs) (rooms_of inputs))
+      (loaded-are : AreEvents (fabric_of inputs) 0 (loaded_of inputs)) where
+    begins : AreEmpty (fabric_of inputs) made
+    begins = laws.chips_begin inputs.chip is_chip (rooms_of inputs) rooms-are
+        (length (placed_of (run_of inputs)))
+        (λ c. passage_of (run_of inputs) (placed_at (run_of inputs) c))
+        (opposite_in (run_of inputs)) is-over have-rooms lanes words
+        (λ number lane at. sym (ap (λ (one : Lane). one.fin)
+        (replicate-at (2 * length inputs.app.connections) number no_lane lane at)))
+
+    runs : Runs (fabric_of inputs) (channel_of inputs) 0 (λ c. 0) (loaded_components inputs)
+    runs = laws.runs_begin (fabric_of inputs) ok (channel_of inputs) (loaded_of inputs) made begins
+        loaded-are
+
+    parts-some : 1 ≤ length (loaded_components inputs).parts
+    parts-some =
+        let parts = new_parts inputs.chip (rooms_of inputs) in
+        let after = switched (loaded_of inputs) parts in
+        let same = ap length (frames-switched (loaded_of inputs) parts) in
+        let one = length-map after frame_of in
+        let two = length-map parts frame_of in
+        let count = length-new_parts inputs.chip (rooms_of inputs) in
+        let some = is_chip.some_nis in
+        omega (arith, same, one, two, count, some)
+
+    no-lane : IsLane (length words) (length (loaded_components inputs).parts) no_lane
+    no-lane =
+        let some = parts-some in
+        record {
+          sender = record { part = omega (arith, some); queue = omega arith };
+          receiver = record { part = omega (arith, some); queue = omega arith };
+          taken = omega arith;
+          landed = omega arith;
+          handed = omega arith;
+          within = omega arith;
+        }
+
+    sound : IsComponents (loaded_components inputs)
+    sound =
+        let zero_count : ℕ = 0 in
+        let links = length-replicate (length inputs.chip.links) zero_count in
+        let none : Option Flit = None in
+        let wires = length-replicate (wires_of inputs.chip.links) none in
+        let split = wires_of-split inputs.chip.links (have_delays inputs.chip is_chip) in
+        let few = is_chip.few_links in
+        record {
+          wired = runs.wired;
+          lanes = All-replicate (IsLane (length words) (length (loaded_components inputs).parts))
+              (2 * length inputs.app.connections) no_lane no-lane;
+          landings = length-replicate (length words) 0;
+          flits = omega (arith, links, wires, split);
+          few = omega (arith, links, few);
+        }
+
+    first-running : IsRunning inputs 0 (loaded_components inputs)
+    first-running = record {
+      handed = λ c. 0;
+      runs = runs;
+      sound = sound;
+      frames = refl;
+      words = refl;
+      lanes = length-replicate (2 * length inputs.app.connections) no_lane;
+      links = length-replicate (length inputs.chip.links) 0;
+      flits = λ l count at. sym (replicate-at (length inputs.chip.links) l 0 count at);
+      notes = λ c i u known going soon. absurd (omega (arith, soon));
+      told = λ c latest. let gone = latest.gone in absurd (omega (arith, gone));
+      last = λ c latest. let gone = latest.gone in absurd (omega (arith, gone));
+    }
+
+    pub first-plays : Plays inputs (first_network inputs)
+    unfolding first_network
+    first-plays = record {
+      stimuli_are = refl;
+      log_is = refl;
+      running = first-running;
+      channels = λ channel known.
+          let within = channel-within channel (length inputs.app.connections) known in
+          record {
+            lane = no_lane;
+            until = 0;
+            at = at-replicate (2 * length inputs.app.connections) (channel_number channel) no_lane
+                within;
+            until_at = at-replicate (2 * length inputs.app.connections) (channel_number channel) 0
+                within;
+            pull_is = ap (last_pull usual_pull) (sym (none-below (λ (row : PullRow). row.cycle)
+                (pulls_on inputs.pulls channel)));
+            stands = Unused (λ c h on soon. absurd (omega (arith, soon))) refl;
+          };
+    }

@@ -1,0 +1,179 @@
+-- The rows of a session's log before anything has landed: those of the words that it accepts within
+-- the run.
+use Rattle.std.proofs.Common.{◌≡◌, ◌≤◌, ◌<◌, ◌∙◌, ℕ, zero, suc, ◌+◌, ◌*◌, ◌-◌, ◌&&◌, List, drop}
+use Rattle.std.proofs.Common.{filter, length, map, max, min, take, refl, sym, ap, inl, inr, arith}
+use Rattle.std.specs.Prelude.{nat_le, nat_lt, slice_index}
+use Rattle.std.specs.List.Sorted.{IsNonDecreasingBy}
+use Rattle.std.proofs.lemmas.Bool.{cases_lt, le-leb, le-ltb, lt-leb, lt-ltb}
+use Rattle.std.proofs.lemmas.List.{get_or-take, length-map, take-map}
+use Rattle.std.proofs.lemmas.List.Kept.{IsNonDecreasingBy-filter}
+use Rattle.aeth_base.specs.declared.ids.Channel.{Channel}
+use Rattle.aeth_server.specs.ChannelShape.{shape_of}
+use Rattle.aeth_server.specs.FinishTimes.{due_cycle, finish_time}
+use Rattle.aeth_server.specs.PrivateServer.{accepted, arrived}
+use Rattle.aeth_server.specs.Shape.{Shape, channel_latency}
+use Rattle.aeth_trace.specs.Channels.{is_channel}
+use Rattle.aeth_trace.specs.Words.{words_on}
+use Rattle.aeth_trace.specs.declared.words.WordRow.{WordRow}
+use Rattle.aeth_report.specs.Flows.{close_at, server_of, values_of, words_in}
+use Rattle.aeth_report.specs.RunLog.{due_of}
+use Rattle.aeth_report.specs.declared.log.Landing.{Landing}
+use Rattle.aeth_report.specs.declared.session.Session.{Session}
+use Rattle.aeth_report.proofs.AlikeLemmas.{filter-map}
+use Rattle.aeth_accepted.specs.Inputs.{AreAccepted, Inputs, run_of}
+use Rattle.aeth_schedule.specs.Values.{before_of}
+use Rattle.aeth_schedule.specs.declared.going.Going.{Going}
+use Rattle.aeth_running.specs.FirstLog.{first_row, rows_of}
+use Rattle.aeth_stimuli.specs.Sessions.{SessionGoing, as_going, going_of}
+use Rattle.aeth_running.proofs.InOrder.{below, below-both, below-first, between-are, between-count}
+use Rattle.aeth_running.proofs.InOrder.{none-below}
+
+-- The first i words are done as they are by themselves.
+finish-first : (size rate latency n : ℕ) (arrivals : List ℕ) (i : ℕ) → i ≤ n
+    → finish_time size rate latency (take n arrivals) i ≡ finish_time size rate latency arrivals i
+finish-first size rate latency n arrivals zero few = refl
+finish-first size rate latency n arrivals (suc i) few =
+    let rest = finish-first size rate latency n arrivals i (omega arith) in
+    let here = get_or-take n arrivals i 0 (omega arith) in
+    λ q. max (rate * (here q + latency)) (rest q) + size
+
+module _ (words : List WordRow) (channel : Channel) where
+  abbrev cycle_of : WordRow → ℕ
+  cycle_of row = row.cycle
+
+  abbrev own : List WordRow
+  own = words_on words channel
+
+  -- A cycle is no later than another where it comes before the next.
+  at-most : (c t : ℕ) → nat_le c t ≡ nat_lt c (suc t)
+  at-most c t = elim (cases_lt t c) [
+    | inl more ↦ lt-leb c t more ∙ sym (le-ltb c (suc t) (omega arith))
+    | inr few ↦ le-leb c t few ∙ sym (lt-ltb c (suc t) (omega arith))
+  ]
+
+  -- So many of a channel's words are offered before a cycle.
+  pub before-is : (t : ℕ) → before_of words channel t
+      ≡ length (filter (below cycle_of t) (words_on words channel))
+  before-is zero = sym (ap length (none-below cycle_of 0 own (λ k d within. omega arith)))
+  before-is (suc t) = λ q. length (filter (λ (row : WordRow). at-most row.cycle t q) own)
+
+module _ (inputs : Inputs) (accepted_are : AreAccepted inputs) (channel : Channel)
+    (session : Session) where
+  abbrev until : ℕ
+  until = (close_at inputs.cycles session).until
+
+  abbrev cycle : WordRow → ℕ
+  cycle row = row.cycle
+
+  abbrev rows : List WordRow
+  rows = words_in (run_of inputs) channel session
+
+  ordered : IsNonDecreasingBy cycle (words_on inputs.words channel)
+  ordered = IsNonDecreasingBy-filter cycle (λ (row : WordRow). is_channel channel row.channel)
+      inputs.words accepted_are.words.order
+
+  rows-ordered : IsNonDecreasingBy cycle rows
+  rows-ordered = IsNonDecreasingBy-filter cycle
+      (λ (row : WordRow). nat_le session.go row.cycle && nat_lt row.cycle until)
+      (words_on inputs.words channel) ordered
+
+  -- The words that the session accepts within the run.
+  abbrev within : List WordRow
+  within = filter (below cycle inputs.cycles) rows
+
+  abbrev counted : ℕ
+  counted = before_of inputs.words channel (min until inputs.cycles)
+      - before_of inputs.words channel session.go
+
+  between : filter (below cycle (min until inputs.cycles))
+      (filter (λ (row : WordRow). nat_le session.go row.cycle) (words_on inputs.words channel))
+      ≡ within
+  between = below-both cycle session.go until inputs.cycles (words_on inputs.words channel)
+
+  counted-is : counted ≡ length within
+  counted-is =
+      (λ q. before-is inputs.words channel (min until inputs.cycles) q
+      - before-is inputs.words channel session.go q)
+      ∙ sym (between-count cycle session.go (min until inputs.cycles) (words_on inputs.words channel))
+      ∙ ap length between
+
+  -- They stand side by side among the channel's words, and first among those of the session.
+  taken-are : take counted (drop (before_of inputs.words channel session.go)
+      (words_on inputs.words channel)) ≡ take counted rows
+  taken-are =
+      let all = words_on inputs.words channel in
+      (λ q. take (before-is inputs.words channel (min until inputs.cycles) q
+      - before-is inputs.words channel session.go q)
+      (drop (before-is inputs.words channel session.go q) all))
+      ∙ between-are cycle session.go (min until inputs.cycles) all ordered
+      ∙ between
+      ∙ below-first cycle inputs.cycles rows rows-ordered
+      ∙ ap (λ n. take n rows) (sym counted-is)
+
+  -- The cycles of the session's words are those that its server accepts.
+  accepted-are : accepted (server_of (run_of inputs) channel session) ≡ map cycle rows
+  accepted-are = filter-map (λ a. nat_le session.go a && nat_lt a until) cycle
+      (words_on inputs.words channel)
+
+  counted-arrived : counted ≡ arrived (server_of (run_of inputs) channel session) inputs.cycles
+  counted-arrived =
+      counted-is
+      ∙ sym (length-map within cycle)
+      ∙ ap length (sym (filter-map (λ a. nat_lt a inputs.cycles) cycle rows))
+      ∙ (λ q. length (filter (λ a. nat_lt a inputs.cycles) (sym accepted-are q)))
+
+  module _ (going : Going) (is : as_going going ≡ going_of inputs channel session) where
+    -- So many words are offered to the session within the run.
+    pub count-is : going.count ≡ arrived (server_of (run_of inputs) channel session) inputs.cycles
+    count-is = ap (λ (g : SessionGoing). g.count) is ∙ counted-arrived
+
+    -- They are the first of all that it accepts.
+    pub rows-are : rows_of inputs.words going
+        ≡ take going.count (words_in (run_of inputs) channel session)
+    rows-are =
+        let count : going.count ≡ counted = ap (λ (g : SessionGoing). g.count) is in
+        let before : going.before ≡ before_of inputs.words channel session.go =
+        ap (λ (g : SessionGoing). g.before) is in
+        let same : going.channel ≡ channel = ap (λ (g : SessionGoing). g.channel) is in
+        (λ q. take (count q) (drop (before q) (words_on inputs.words (same q))))
+        ∙ taken-are ∙ ap (λ n. take n rows) (sym count)
+
+    -- What a log tells of the word behind the first k, as of which nothing has landed.
+    abbrev pub told_row : ℕ → Landing
+    told_row k =
+        let server = server_of (run_of inputs) channel session in
+        record {
+          offered = slice_index (accepted server) k;
+          landed = 0;
+          due = due_of server (k + 1);
+          value = slice_index (values_of (run_of inputs) channel session) k;
+        }
+
+    pub first-row-is : (k : ℕ) → k < going.count → first_row inputs.words going k ≡ told_row k
+    first-row-is k inside =
+        let server = server_of (run_of inputs) channel session in
+        let value = λ (row : WordRow). row.value in
+        let shape : shape_of going.shape ≡ server.shape = ap (λ (g : SessionGoing). g.shape) is in
+        let cycles : map cycle (rows_of inputs.words going) ≡ take going.count (accepted server) =
+        ap (λ (list : List WordRow). map cycle list) rows-are
+        ∙ sym (take-map cycle going.count rows)
+        ∙ ap (λ (list : List ℕ). take going.count list) (sym accepted-are) in
+        let values : map value (rows_of inputs.words going) ≡ take going.count (map value rows) =
+        ap (λ (list : List WordRow). map value list) rows-are
+        ∙ sym (take-map value going.count rows) in
+        let offered : slice_index (map cycle (rows_of inputs.words going)) k
+        ≡ slice_index (accepted server) k =
+        ap (λ (list : List ℕ). slice_index list k) cycles
+        ∙ get_or-take going.count (accepted server) k 0 inside in
+        let valued : slice_index (map value (rows_of inputs.words going)) k
+        ≡ slice_index (map value rows) k =
+        ap (λ (list : List ℕ). slice_index list k) values
+        ∙ get_or-take going.count (map value rows) k 0 inside in
+        let finish = λ (s : Shape) (list : List ℕ). due_cycle s.rate
+        (finish_time s.size s.rate (channel_latency s) list (k + 1)) in
+        let due : finish (shape_of going.shape) (map cycle (rows_of inputs.words going))
+        ≡ finish server.shape (accepted server) =
+        (λ q. finish (shape q) (cycles q))
+        ∙ ap (due_cycle server.shape.rate) (finish-first server.shape.size server.shape.rate
+        (channel_latency server.shape) going.count (accepted server) (k + 1) (omega arith)) in
+        λ q. record { offered = offered q; landed = 0; due = due q; value = valued q }

@@ -1,0 +1,284 @@
+-- Lists in the order of a number: what is below a number comes first.
+use Rattle.std.proofs.Common.{◌≡◌, ◌≤◌, ◌∙◌, ℕ, suc, ◌+◌, ◌-◌, Bool, true, List, []}
+use Rattle.std.proofs.Common.{◌∷◌, ◌++◌, All, Some, drop, filter, length, map, min, slice_get, take}
+use Rattle.std.proofs.Common.{refl, sym, ap, inl, inr, arith}
+use Rattle.std.specs.Prelude.{◌==◌, ◌&&◌, nat_le, nat_lt}
+use Rattle.std.specs.List.Sorted.{IsNonDecreasingBy}
+use Rattle.std.proofs.lemmas.Bool.{cases_Bool, cases_lt, cases_order, eq-eqb, le-leb, le-ltb, lt-leb}
+use Rattle.std.proofs.lemmas.Bool.{lt-ltb}
+use Rattle.std.proofs.lemmas.Bool.{ne_eqb}
+use Rattle.std.proofs.lemmas.List.Elements.{filter_passes}
+use Rattle.std.proofs.lemmas.List.Kept.{IsNonDecreasingBy-filter}
+use Rattle.std.proofs.lemmas.Option.{get_or_from_slice_get, slice_get_within}
+
+-- Two filters in either order.
+pub filter-filter : {X : Type 0} (p q : X → Bool) (xs : List X)
+    → filter p (filter q xs) ≡ filter q (filter p xs)
+filter-filter p q [] = refl
+filter-filter {X} p q (x ∷ xs) =
+    let rest = filter-filter p q xs in
+    elim (cases_Bool (p x)) [
+      | inl one ↦ elim (cases_Bool (q x)) [
+        | inl other ↦ rw (one, other, one) (ap (λ (ys : List X). x ∷ ys) rest)
+        | inr other ↦ rw (one, other) rest
+      ]
+      | inr one ↦ elim (cases_Bool (q x)) [
+        | inl other ↦ rw (one, other, one) rest
+        | inr other ↦ rw (one, other) rest
+      ]
+    ]
+
+-- A filter once more keeps all.
+pub filter-again : {X : Type 0} (test : X → Bool) (xs : List X)
+    → filter test (filter test xs) ≡ filter test xs
+filter-again test [] = refl
+filter-again {X} test (x ∷ xs) =
+    let rest = filter-again test xs in
+    elim (cases_Bool (test x)) [
+      | inl is ↦ rw (is, is) (ap (λ (ys : List X). x ∷ ys) rest)
+      | inr isnt ↦ rw isnt rest
+    ]
+
+-- What it keeps passes the test.
+pub passes-at : {X : Type 0} (test : X → Bool) (xs : List X) (i : ℕ) (x : X)
+    → slice_get (filter test xs) i ≡ Some x → test x ≡ true
+passes-at test xs i x at =
+    let kept = filter test xs in
+    ap test (sym (get_or_from_slice_get kept i x x at))
+    ∙ filter_passes test xs i x (slice_get_within kept i x at)
+
+-- What a filter keeps is shown in the same way where the test passes.
+pub map-kept : {X Y : Type 0} (f g : X → Y) (test : X → Bool) (xs : List X)
+    → ((x : X) → test x ≡ true → f x ≡ g x) → map f (filter test xs) ≡ map g (filter test xs)
+map-kept f g test [] same = refl
+map-kept {X} {Y} f g test (x ∷ xs) same =
+    let rest = map-kept f g test xs same in
+    elim (cases_Bool (test x)) [
+      | inl is ↦ rw is ((λ q. same x is q ∷ map f (filter test xs))
+          ∙ ap (λ (ys : List Y). g x ∷ ys) rest)
+      | inr isnt ↦ rw isnt rest
+    ]
+
+module _ {X : Type 0} (number : X → ℕ) where
+  -- Whether an item is below a number.
+  abbrev pub below : ℕ → X → Bool
+  below t x = nat_lt (number x) t
+
+  -- The first of a list in order is the least.
+  pub head-least : (x : X) (xs : List X) → IsNonDecreasingBy number (x ∷ xs)
+      → All (λ y. number x ≤ number y) xs
+  head-least x xs order k default within = order 0 (suc k) default (omega arith) (omega arith)
+
+  -- And the others are in order.
+  pub tail-ordered : (x : X) (xs : List X) → IsNonDecreasingBy number (x ∷ xs)
+      → IsNonDecreasingBy number xs
+  tail-ordered x xs order i j default up within =
+      order (suc i) (suc j) default (omega arith) (omega arith)
+
+  -- Where all are at least a number, none is below it.
+  pub none-below : (t : ℕ) (xs : List X) → All (λ y. t ≤ number y) xs → filter (below t) xs ≡ []
+  none-below t [] all = refl
+  none-below t (x ∷ xs) all =
+      let here = all 0 x (omega arith) in
+      rw (le-ltb (number x) t here) (none-below t xs (λ k d within. all (suc k) d (omega arith)))
+
+  -- What is below the next number.
+  pub below-next : (t : ℕ) (xs : List X) → IsNonDecreasingBy number xs
+      → filter (below (t + 1)) xs ≡ filter (below t) xs ++ filter (λ x. number x == t) xs
+  below-next t [] order = refl
+  below-next t (x ∷ xs) order =
+      let rest = below-next t xs (tail-ordered x xs order) in
+      elim (cases_order (number x) t) [
+        | inl same ↦
+            let least = head-least x xs order in
+            let none = none-below t xs (λ k d within. let up = least k d within in omega arith) in
+            let here = filter (λ y. number y == t) xs in
+            rw (
+              lt-ltb (number x) (t + 1) (omega arith),
+              le-ltb (number x) t (omega arith),
+              eq-eqb (number x) t same,
+              none,
+            ) (ap (λ (ys : List X). x ∷ ys) (rest ∙ ap (λ (ys : List X). ys ++ here) none))
+        | inr (inl less) ↦ rw (
+          lt-ltb (number x) (t + 1) (omega arith),
+          lt-ltb (number x) t less,
+          ne_eqb (number x) t (λ e. absurd (omega arith)),
+        ) (ap (λ (ys : List X). x ∷ ys) rest)
+        | inr (inr more) ↦ rw (
+          le-ltb (number x) (t + 1) (omega arith),
+          le-ltb (number x) t (omega arith),
+          ne_eqb (number x) t (λ e. absurd (omega arith)),
+        ) rest
+      ]
+
+  -- What is below a number is below each greater one.
+  pub below-wider : (a b : ℕ) (xs : List X) → a ≤ b
+      → filter (below a) (filter (below b) xs) ≡ filter (below a) xs
+  below-wider a b [] less = refl
+  below-wider a b (x ∷ xs) less =
+      let rest = below-wider a b xs less in
+      elim (cases_lt (number x) a) [
+        | inl under ↦ rw (
+          lt-ltb (number x) b (omega arith),
+          lt-ltb (number x) a under,
+        ) (ap (λ (ys : List X). x ∷ ys) rest)
+        | inr over ↦ elim (cases_Bool (nat_lt (number x) b)) [
+          | inl is ↦ rw (is, le-ltb (number x) a over) rest
+          | inr isnt ↦ rw (isnt, le-ltb (number x) a over) rest
+        ]
+      ]
+
+  -- What is below a number comes first, and then the rest.
+  pub below-first : (t : ℕ) (xs : List X) → IsNonDecreasingBy number xs
+      → filter (below t) xs ≡ take (length (filter (below t) xs)) xs
+  below-first t [] order = refl
+  below-first t (x ∷ xs) order = elim (cases_lt (number x) t) [
+    | inl less ↦ rw (lt-ltb (number x) t less)
+        (ap (λ (ys : List X). x ∷ ys) (below-first t xs (tail-ordered x xs order)))
+    | inr more ↦
+        let least = head-least x xs order in
+        rw (
+          le-ltb (number x) t more,
+          none-below t xs (λ k d within. let up = least k d within in omega arith),
+        ) refl
+  ]
+
+  -- What isn't below it is what follows.
+  pub rest-behind : (t : ℕ) (xs : List X) → IsNonDecreasingBy number xs
+      → filter (λ x. nat_le t (number x)) xs ≡ drop (length (filter (below t) xs)) xs
+  rest-behind t [] order = refl
+  rest-behind t (x ∷ xs) order = elim (cases_lt (number x) t) [
+    | inl less ↦ rw (lt-ltb (number x) t less, lt-leb t (number x) less)
+        (rest-behind t xs (tail-ordered x xs order))
+    | inr more ↦
+        let least = head-least x xs order in
+        let none = none-below t xs (λ k d within. let up = least k d within in omega arith) in
+        let rest = rest-behind t xs (tail-ordered x xs order) in
+        rw (le-ltb (number x) t more, le-leb t (number x) more, none)
+        (ap (λ (ys : List X). x ∷ ys) (rest ∙ ap (λ (ys : List X). drop (length ys) xs) none))
+  ]
+
+  -- How many are from a number on and below another.
+  abbrev pub between : ℕ → ℕ → List X → ℕ
+  between a b xs = length (filter (below b) (filter (λ x. nat_le a (number x)) xs))
+
+  between-up : (a b : ℕ) (xs : List X) → a ≤ b
+      → between a b xs + length (filter (below a) xs) ≡ length (filter (below b) xs)
+  between-up a b [] up = omega arith
+  between-up a b (x ∷ xs) up =
+      let rest = between-up a b xs up in
+      elim (cases_lt (number x) a) [
+        | inl less ↦ rw (
+          lt-leb a (number x) less,
+          lt-ltb (number x) a less,
+          lt-ltb (number x) b (omega arith),
+        ) (omega arith)
+        | inr more ↦ elim (cases_lt (number x) b) [
+          | inl within ↦ rw (
+            le-leb a (number x) more,
+            le-ltb (number x) a more,
+            lt-ltb (number x) b within,
+          ) (omega arith)
+          | inr past ↦ rw (
+            le-leb a (number x) more,
+            le-ltb (number x) a more,
+            le-ltb (number x) b past,
+          ) rest
+        ]
+      ]
+
+  between-down : (a b : ℕ) (xs : List X) → b ≤ a
+      → (between a b xs ≡ 0) × (length (filter (below b) xs) ≤ length (filter (below a) xs))
+  between-down a b [] down = (refl, omega arith)
+  between-down a b (x ∷ xs) down =
+      let (none, fewer) = between-down a b xs down in
+      elim (cases_lt (number x) b) [
+        | inl less ↦ rw (
+          lt-leb a (number x) (omega arith),
+          lt-ltb (number x) a (omega arith),
+          lt-ltb (number x) b less,
+        ) (none, omega arith)
+        | inr past ↦ elim (cases_lt (number x) a) [
+          | inl within ↦ rw (
+            lt-leb a (number x) within,
+            lt-ltb (number x) a within,
+            le-ltb (number x) b past,
+          ) (none, omega arith)
+          | inr more ↦ rw (
+            le-leb a (number x) more,
+            le-ltb (number x) a more,
+            le-ltb (number x) b past,
+          ) (none, fewer)
+        ]
+      ]
+
+  -- The count of the ones is the difference of two counts.
+  pub between-count : (a b : ℕ) (xs : List X)
+      → between a b xs ≡ length (filter (below b) xs) - length (filter (below a) xs)
+  between-count a b xs = elim (cases_lt a b) [
+    | inl up ↦ let all = between-up a b xs (omega arith) in omega arith
+    | inr down ↦ let (none, fewer) = between-down a b xs down in omega arith
+  ]
+
+  -- Those of a list in order stand side by side.
+  pub between-are : (a b : ℕ) (xs : List X) → IsNonDecreasingBy number xs
+      → take (length (filter (below b) xs) - length (filter (below a) xs))
+      (drop (length (filter (below a) xs)) xs)
+      ≡ filter (below b) (filter (λ x. nat_le a (number x)) xs)
+  between-are a b xs order =
+      let behind = rest-behind a xs order in
+      let sorted = IsNonDecreasingBy-filter number (λ x. nat_le a (number x)) xs order in
+      ap (λ (ys : List X). take (length (filter (below b) xs) - length (filter (below a) xs)) ys)
+      (sym behind)
+      ∙ ap (λ n. take n (filter (λ x. nat_le a (number x)) xs)) (sym (between-count a b xs))
+      ∙ sym (below-first b (filter (λ x. nat_le a (number x)) xs) sorted)
+
+  -- Behind what is below a number nothing is.
+  pub past-below : (t : ℕ) (xs : List X) → IsNonDecreasingBy number xs → (j : ℕ) (x : X)
+      → slice_get xs j ≡ Some x → length (filter (below t) xs) ≤ j → t ≤ number x
+  past-below t [] order j x at past = absurd (cc at)
+  past-below t (y ∷ ys) order j x at past = elim (cases_lt (number y) t) [
+    | inr more ↦
+        let within = slice_get_within (y ∷ ys) j x at in
+        let same = ap number (get_or_from_slice_get (y ∷ ys) j x x at) in
+        let up = order 0 j x (omega arith) within in
+        omega arith
+    | inl less ↦
+        let behind : suc (length (filter (below t) ys)) ≤ j = rw (lt-ltb (number y) t less) at past in
+        let rest : (k : ℕ) → j ≡ suc k → t ≤ number x = λ k is.
+        past-below t ys (tail-ordered y ys order) k x
+        (sym (ap (slice_get (y ∷ ys)) is) ∙ at) (omega arith) in
+        rest (j - 1) (omega arith)
+  ]
+
+  -- Those from a number on and below two others.
+  pub below-both : (a b c : ℕ) (xs : List X)
+      → filter (below (min b c)) (filter (λ x. nat_le a (number x)) xs)
+      ≡ filter (below c) (filter (λ x. nat_le a (number x) && nat_lt (number x) b) xs)
+  below-both a b c [] = refl
+  below-both a b c (x ∷ xs) =
+      let rest = below-both a b c xs in
+      elim (cases_lt (number x) a) [
+        | inl less ↦ rw (lt-leb a (number x) less) rest
+        | inr more ↦ elim (cases_lt (number x) b) [
+          | inr past ↦ rw (
+            le-leb a (number x) more,
+            le-ltb (number x) b past,
+            le-ltb (number x) (min b c) (omega arith),
+          ) rest
+          | inl within ↦ elim (cases_lt (number x) c) [
+            | inl inside ↦ rw (
+              le-leb a (number x) more,
+              lt-ltb (number x) b within,
+              lt-ltb (number x) (min b c) (omega arith),
+              lt-ltb (number x) c inside,
+            ) (ap (λ (ys : List X). x ∷ ys) rest)
+            | inr outside ↦ rw (
+              le-leb a (number x) more,
+              lt-ltb (number x) b within,
+              le-ltb (number x) (min b c) (omega arith),
+              le-ltb (number x) c outside,
+            ) rest
+          ]
+        ]
+      ]

@@ -1,0 +1,194 @@
+-- What a cycle of components keeps of a channel: all but how many words were handed on, have landed and
+-- were taken. And what holds of all components still does.
+use Rattle.std.proofs.Common.{◌≡◌, ◌∙◌, ℕ, List, [], ◌∷◌, Option, Some, None, fold, length, map}
+use Rattle.std.proofs.Common.{slice_get}
+use Rattle.std.proofs.Common.{refl, sym, ap, subst, inl, inr, arith}
+use Rattle.std.specs.Prelude.{option_map}
+use Rattle.std.specs.List.{All, range_with_len}
+use Rattle.std.proofs.Math.Seq.{map-set_same}
+use Rattle.std.proofs.lemmas.Bool.{cases_Bool}
+use Rattle.std.proofs.lemmas.List.{length-map}
+use Rattle.std.proofs.lemmas.List.Elements.{All-map}
+use Rattle.std.proofs.lemmas.Option.{get_or_from_slice_get, slice_get-map}
+use Rattle.aeth_clocked.specs.declared.flit.Flit.{Flit}
+use Rattle.aeth_router.specs.declared.part.Part.{Part}
+use Rattle.aeth_components.proofs.CountingLemmas.{IsLane-counted, counted-closed, counted-open}
+use Rattle.aeth_components.proofs.CountingLemmas.{length-flits_counted, length-notes}
+use Rattle.aeth_components.proofs.FrameLemmas.{frames-absorb, frames-after, from-map}
+use Rattle.aeth_components.proofs.FrameLemmas.{length-wires_driven}
+use Rattle.aeth_components.proofs.PartLemmas.{frames-switched}
+use Rattle.aeth_components.proofs.TurnLemmas.{All-turns, IsLane-pulled, IsLane-refilled}
+use Rattle.aeth_components.proofs.TurnLemmas.{frames-pulled}
+use Rattle.aeth_components.proofs.TurnLemmas.{frames-refilled, frames-turns, pulled-closed}
+use Rattle.aeth_components.proofs.TurnLemmas.{pulled-open}
+use Rattle.aeth_components.proofs.TurnLemmas.{refilled-closed, refilled-open}
+use Rattle.aeth_components.specs.Components.{ComponentsState, Cycle, IsComponents, driven_from}
+use Rattle.aeth_components.specs.Components.{frames_of}
+use Rattle.aeth_components.specs.Components.{latched_of, moment_of, ready_of, switched_from}
+use Rattle.aeth_components.specs.Counting.{counted}
+use Rattle.aeth_components.specs.Frames.{Frame, IsWired, frame_of}
+use Rattle.aeth_components.specs.Lanes.{IsLane, is_open}
+use Rattle.aeth_components.specs.Phases.{Moment, in_turn, pulled, refilled, turned, turned_at}
+use Rattle.aeth_components.specs.declared.event.Event.{Event}
+use Rattle.aeth_components.specs.declared.lane.Lane.{Lane}
+use Rattle.aeth_running.specs.Network.{state_behind}
+
+-- A channel but for these counts.
+abbrev pub kept_of : Lane → Lane
+kept_of lane = record lane { handed = 0; landed = 0; taken = 0 }
+
+module _ (turn : List Part → Lane → List Part × Lane)
+    (same : (parts : List Part) (lane : Lane) → kept_of (turn parts lane).1 ≡ kept_of lane) where
+  kept-turned : (moment : Moment) (number : ℕ) (found : Option Lane)
+      → slice_get moment.lanes number ≡ found
+      → map kept_of (turned_at turn moment number found).lanes ≡ map kept_of moment.lanes
+  kept-turned moment number None at = refl
+  kept-turned moment number (Some lane) at =
+      map-set_same kept_of moment.lanes number (turn moment.parts lane).1 lane
+      (same moment.parts lane
+      ∙ ap kept_of (sym (get_or_from_slice_get moment.lanes number lane lane at)))
+
+  kept-turns : (numbers : List ℕ) (moment : Moment)
+      → map kept_of (fold (turned turn) moment numbers).lanes ≡ map kept_of moment.lanes
+  kept-turns [] moment = refl
+  kept-turns (number ∷ numbers) moment =
+      kept-turns numbers (turned turn moment number)
+      ∙ kept-turned moment number (slice_get moment.lanes number) refl
+
+kept-refilled : (words : List ℕ) (t : ℕ) (parts : List Part) (lane : Lane)
+    → kept_of (refilled words t parts lane).1 ≡ kept_of lane
+kept-refilled words t parts lane = elim (cases_Bool (is_open lane t)) [
+  | inl is ↦ ap (λ (done : List Part × Lane). kept_of done.1) (refilled-open words t parts lane is)
+  | inr not ↦
+      ap (λ (done : List Part × Lane). kept_of done.1) (refilled-closed words t parts lane not)
+]
+
+kept-pulled : (t : ℕ) (parts : List Part) (lane : Lane)
+    → kept_of (pulled t parts lane).1 ≡ kept_of lane
+kept-pulled t parts lane = elim (cases_Bool (is_open lane t)) [
+  | inl is ↦ ap (λ (done : List Part × Lane). kept_of done.1) (pulled-open t parts lane is)
+  | inr not ↦ ap (λ (done : List Part × Lane). kept_of done.1) (pulled-closed t parts lane not)
+]
+
+kept-counted : (t : ℕ) (parts : List Part) (lanes : List Lane)
+    → map kept_of (map (counted t parts) lanes) ≡ map kept_of lanes
+kept-counted t parts [] = refl
+kept-counted t parts (lane ∷ lanes) =
+    let one : kept_of (counted t parts lane) ≡ kept_of lane =
+    elim (cases_Bool (is_open lane t)) [
+      | inl is ↦ ap kept_of (counted-open t parts lane is)
+      | inr not ↦ ap kept_of (counted-closed t parts lane not)
+    ] in
+    ap (λ (x : Lane). x ∷ map kept_of (map (counted t parts) lanes)) one
+    ∙ ap (λ (xs : List Lane). kept_of lane ∷ xs) (kept-counted t parts lanes)
+
+module _ (words : List ℕ) (events : List Event) (t : ℕ) (wires : List (Option Flit))
+    (moment : Moment) where
+  abbrev drove : Moment
+  drove = driven_from t (ready_of words events t moment)
+
+  kept-latched : map kept_of (latched_of words events t wires moment).lanes ≡ map kept_of moment.lanes
+  kept-latched =
+      kept-turns (pulled t) (kept-pulled t) (range_with_len 0 (length drove.lanes)) drove
+      ∙ kept-turns (refilled words t) (kept-refilled words t)
+      (range_with_len 0 (length moment.lanes)) (switched_from events moment)
+
+  frames-latched : map frame_of (latched_of words events t wires moment).parts
+      ≡ map frame_of moment.parts
+  frames-latched =
+      frames-absorb (in_turn (pulled t) drove).parts wires
+      ∙ frames-turns (pulled t) (frames-pulled t) (range_with_len 0 (length drove.lanes)) drove
+      ∙ frames-after (ready_of words events t moment).parts t
+      ∙ frames-turns (refilled words t) (frames-refilled words t)
+      (range_with_len 0 (length moment.lanes)) (switched_from events moment)
+      ∙ frames-switched events moment.parts
+
+  -- Sound channels are so in each phase.
+  lanes-latched : (count : ℕ) → All (IsLane (length words) count) moment.lanes
+      → All (IsLane (length words) count) (latched_of words events t wires moment).lanes
+  lanes-latched count all =
+      All-turns (pulled t) (IsLane (length words) count) (IsLane-pulled (length words) t count)
+      (range_with_len 0 (length drove.lanes)) drove
+      (All-turns (refilled words t) (IsLane (length words) count) (IsLane-refilled words t count)
+      (range_with_len 0 (length moment.lanes)) (switched_from events moment) all)
+
+module _ (events : List Event) (t : ℕ) (old : ComponentsState) where
+  abbrev new : ComponentsState
+  new = state_behind events t old
+
+  abbrev latched : Moment
+  latched = latched_of old.words events t new.wires (moment_of old)
+
+  -- A cycle's channels, but for their counts.
+  pub lanes-kept : map kept_of (state_behind events t old).lanes ≡ map kept_of old.lanes
+  lanes-kept =
+      kept-counted t latched.parts latched.lanes
+      ∙ kept-latched old.words events t new.wires (moment_of old)
+
+  pub frames-kept : frames_of (state_behind events t old) ≡ frames_of old
+  frames-kept = frames-latched old.words events t new.wires (moment_of old)
+
+  pub length-kept : length (state_behind events t old).lanes ≡ length old.lanes
+  length-kept =
+      sym (length-map new.lanes kept_of) ∙ ap length lanes-kept ∙ length-map old.lanes kept_of
+
+  pub wires-kept : length (state_behind events t old).wires ≡ length old.wires
+  wires-kept =
+      length-wires_driven (ready_of old.words events t (moment_of old)).parts (length old.wires) t
+
+  pub flits-kept : length (state_behind events t old).flits ≡ length old.flits
+  flits-kept = length-flits_counted new.wires old.flits
+
+  parts-kept : length (state_behind events t old).parts ≡ length old.parts
+  parts-kept = sym (length-map new.parts frame_of) ∙ ap length frames-kept
+      ∙ length-map old.parts frame_of
+
+  -- So it is a cycle of the components.
+  pub cycle-behind : Cycle events t old (state_behind events t old)
+  cycle-behind = record {
+    wires = refl;
+    parts = refl;
+    lanes = refl;
+    words = refl;
+    landings = refl;
+    flits = refl;
+    frames = frames-kept;
+    size = parts-kept;
+    count = length-kept;
+  }
+
+  -- And what holds of components still holds.
+  pub components-kept : IsComponents old → IsComponents (state_behind events t old)
+  components-kept before =
+      let count = length old.parts in
+      let words = length old.words in
+      let sound = lanes-latched old.words events t new.wires (moment_of old) count before.lanes in
+      let few = before.flits in
+      let fewer = before.few in
+      let size = flits-kept in
+      let wires = wires-kept in
+      record {
+        wired = subst (λ (frames : List Frame). IsWired frames (length new.wires)) (sym frames-kept)
+            (subst (IsWired (frames_of old)) (sym wires-kept) before.wired);
+        lanes = subst (λ n. All (IsLane words n) new.lanes) (sym parts-kept)
+            (All-map (IsLane words count) (counted t latched.parts) latched.lanes
+            (λ place default within. IsLane-counted words t count latched.parts _
+            (sound place default within)));
+        landings = length-notes t latched.parts latched.lanes old.landings ∙ before.landings;
+        flits = omega (arith, few, size, wires);
+        few = omega (arith, fewer, size);
+      }
+
+-- A channel before a cycle stands behind it, but for its counts.
+pub record IsBehind (lanes : List Lane) (number : ℕ) (before : Lane) : Type 0 where
+  pub lane : Lane
+  pub at : slice_get lanes number ≡ Some lane
+  pub same : kept_of before ≡ kept_of lane
+
+pub lane-behind : (old new : List Lane) → map kept_of new ≡ map kept_of old → (number : ℕ)
+    (lane : Lane) → slice_get old number ≡ Some lane → IsBehind new number lane
+lane-behind old new same number lane at =
+    let (after, there, kept) = from-map kept_of new number (kept_of lane)
+    (ap (λ (xs : List Lane). slice_get xs number) same
+    ∙ slice_get-map kept_of old number ∙ ap (option_map kept_of) at) in
+    record { lane = after; at = there; same = kept }

@@ -1,0 +1,140 @@
+-- The network of accepted inputs runs, before each cycle and behind the last.
+use Rattle.std.proofs.Common.{◌≡◌, ◌≤◌, ◌<◌, ◌∙◌, ◌+◌, ◌*◌, ℕ, zero, suc, Some, filter, length, map}
+use Rattle.std.proofs.Common.{slice_get}
+use Rattle.std.proofs.Common.{refl, ap, subst, arith}
+use Rattle.std.specs.Prelude.{nat_lt, Option, unwrap_or}
+use Rattle.aeth_base.specs.declared.ids.Channel.{Channel}
+use Rattle.aeth_trace.specs.Channels.{channel_number}
+use Rattle.aeth_components.specs.Components.{frames_of}
+use Rattle.aeth_report.specs.Flows.{sessions_in}
+use Rattle.aeth_report.specs.declared.session.Close.{Close}
+use Rattle.aeth_report.specs.declared.session.Session.{Session}
+use Rattle.aeth_refinement.specs.Accepted.{IsAccepted}
+use Rattle.aeth_refinement.specs.Carried.{words_from}
+use Rattle.aeth_refinement.specs.Fabric.{flow_at, server_at}
+use Rattle.aeth_accepted.specs.Inputs.{AreAccepted, Inputs, run_of}
+use Rattle.aeth_accepted.proofs.SoundRuns.{AreSpans}
+use Rattle.aeth_fabric.specs.Fabric.{fabric_of}
+use Rattle.aeth_schedule.specs.Goings.{goings_of}
+use Rattle.aeth_schedule.specs.Rooms.{rooms_of}
+use Rattle.aeth_schedule.specs.Switching.{loaded_of}
+use Rattle.aeth_schedule.specs.Values.{values_of}
+use Rattle.aeth_invariant.specs.Events.{AreEvents}
+use Rattle.aeth_invariant.specs.Places.{ArePlaced}
+use Rattle.aeth_running.proofs.FabricSessions.{goes-first, ordered, past_of, session-number}
+use Rattle.aeth_running.proofs.FirstNetworks.{first-plays}
+use Rattle.aeth_running.proofs.GoingSessions.{GoesNow, goes-now}
+use Rattle.aeth_running.proofs.NetworkLaws.{BeginningLaws, CycleLaws}
+use Rattle.aeth_running.proofs.NetworkSteps.{Plays, plays-on}
+use Rattle.aeth_running.specs.FirstLog.{first_log}
+use Rattle.aeth_stimuli.specs.Stimuli.{goings_over}
+use Rattle.aeth_events.specs.Events.{events_in}
+use Rattle.aeth_running.specs.Network.{first_network, played, stepped}
+use Rattle.aeth_stimuli.specs.Loaded.{loaded_components}
+use Rattle.aeth_stimuli.specs.OnChip.{HaveRooms, IsOver}
+use Rattle.aeth_running.specs.Running.{IsRunning}
+use Rattle.aeth_stimuli.specs.Sessions.{IsBefore, as_going, first_of, going_of}
+use Rattle.aeth_stimuli.specs.Stimuli.{AreStimuli, stimuli_of}
+
+-- What a network is given stays, and so do its log and its count of cycles.
+module _ (inputs : Inputs) where
+  pub stimuli-of : (t : ℕ) → (played t (first_network inputs)).stimuli ≡ stimuli_of inputs
+  unfolding played first_network stepped
+  stimuli-of zero = refl
+  stimuli-of (suc t) = stimuli-of t
+
+  pub log-of : (t : ℕ) → (played t (first_network inputs)).log ≡ first_log inputs
+  unfolding played first_network stepped
+  log-of zero = refl
+  log-of (suc t) = log-of t
+
+  pub time-is : (t : ℕ) → (played t (first_network inputs)).time ≡ t
+  unfolding played first_network stepped
+  time-is zero = refl
+  time-is (suc t) = let before = time-is t in omega (arith, before)
+
+module _ (begin : BeginningLaws) (laws : CycleLaws)
+    (fabrics : (inputs : Inputs) → AreAccepted inputs → IsAccepted (fabric_of inputs))
+    (spans : (inputs : Inputs) (accepted : AreAccepted inputs) → AreSpans inputs accepted)
+    (goings-are : (inputs : Inputs) → AreAccepted inputs → (channel : Channel)
+    → channel.conn.0 < length inputs.app.connections
+    → map as_going (goings_over (channel_number channel) (goings_of inputs))
+    ≡ map (going_of inputs channel) (filter (λ session. nat_lt session.go inputs.cycles)
+    (sessions_in (run_of inputs) channel.conn.0)))
+    (sessions-apart : (inputs : Inputs) → AreAccepted inputs → (c i j : ℕ) (one other : Session)
+    → c < length inputs.app.connections → i < j
+    → slice_get (sessions_in (run_of inputs) c) i ≡ Some one
+    → slice_get (sessions_in (run_of inputs) c) j ≡ Some other → IsBefore one other)
+    (words-placed : (inputs : Inputs) → AreAccepted inputs
+    → ArePlaced (fabric_of inputs) (first_of inputs)
+    (length (values_of inputs.words (length inputs.app.connections))))
+    (values-placed : (inputs : Inputs) → AreAccepted inputs → (c : ℕ) → c < (fabric_of inputs).count
+    → words_from (values_of inputs.words (length inputs.app.connections)) (first_of inputs c)
+    (length (flow_at (fabric_of inputs) c).values)
+    ≡ (flow_at (fabric_of inputs) c).values)
+    (events-are : (inputs : Inputs) → AreAccepted inputs → (t : ℕ) → t < inputs.cycles
+    → AreEvents (fabric_of inputs) (t + 1) (events_in (stimuli_of inputs) t))
+    (loaded-are : (inputs : Inputs) → AreAccepted inputs
+    → AreEvents (fabric_of inputs) 0 (loaded_of inputs))
+    (is-over : (inputs : Inputs) → AreAccepted inputs → IsOver (fabric_of inputs) inputs.chip)
+    (have-rooms : (inputs : Inputs) → AreAccepted inputs
+    → HaveRooms (fabric_of inputs) (rooms_of inputs))
+    (stimuli-are : (inputs : Inputs) → AreAccepted inputs
+    → AreStimuli (2 * length inputs.app.connections)
+    (length (values_of inputs.words (length inputs.app.connections)))
+    (frames_of (loaded_components inputs)) (stimuli_of inputs))
+    (inputs : Inputs) (accepted : AreAccepted inputs) where
+  abbrev apart : (c i j : ℕ) (one other : Session) → c < length inputs.app.connections → i < j
+      → slice_get (sessions_in (run_of inputs) c) i ≡ Some one
+      → slice_get (sessions_in (run_of inputs) c) j ≡ Some other → IsBefore one other
+  apart = sessions-apart inputs accepted
+
+  ok : IsAccepted (fabric_of inputs)
+  ok = fabrics inputs accepted
+
+  -- No two sessions of a connection go in one cycle.
+  go-apart : (channel : Channel) → channel.conn.0 < length inputs.app.connections → (i j : ℕ)
+      (one other : Session) → i < j
+      → slice_get (sessions_in (run_of inputs) channel.conn.0) i ≡ Some one
+      → slice_get (sessions_in (run_of inputs) channel.conn.0) j ≡ Some other
+      → one.go ≡ other.go → ⊥
+  go-apart channel known i j one other less here there same =
+      let before = apart channel.conn.0 i j one other known less here there in
+      let found = session-number inputs channel i one known here in
+      let first = goes-first inputs accepted (spans inputs accepted) ok found.number found.known in
+      let go : (server_at (fabric_of inputs) found.number).go ≡ one.go =
+      ap (λ (session : Session). session.go) found.session_is in
+      let finish : (server_at (fabric_of inputs) found.number).finish ≡ before.closed.fin =
+      ap (λ (session : Session). (unwrap_or session.close (past_of inputs.cycles session.go)).fin)
+      found.session_is
+      ∙ ap (λ (close : Option Close). (unwrap_or close (past_of inputs.cycles one.go)).fin) before.is in
+      let order = before.order in
+      omega (arith, first, go, finish, order, same)
+
+  goes : (t : ℕ) → t < inputs.cycles → (channel : Channel)
+      → channel.conn.0 < length inputs.app.connections → GoesNow inputs t channel
+  goes t early channel known = goes-now inputs t channel early known
+      (goings-are inputs accepted channel known) (go-apart channel known)
+
+  -- From each cycle to the next.
+  plays-next : (t : ℕ) → Plays inputs (played t (first_network inputs))
+      → (played t (first_network inputs)).time ≡ t → t < inputs.cycles
+      → Plays inputs (stepped (played t (first_network inputs)))
+  plays-next t plays time early =
+      plays-on inputs laws ok accepted.pulls.order accepted.cycles (words-placed inputs accepted)
+      (values-placed inputs accepted) (stimuli-are inputs accepted).lanes (ordered inputs apart)
+      (goes-first inputs accepted (spans inputs accepted) ok) goes (events-are inputs accepted)
+      (played t (first_network inputs)) plays (omega (arith, time, early))
+
+  pub plays-by : (t : ℕ) → t ≤ inputs.cycles → Plays inputs (played t (first_network inputs))
+  unfolding played
+  plays-by zero within = first-plays inputs begin accepted.design.chip_is ok
+      (is-over inputs accepted) (have-rooms inputs accepted) (loaded-are inputs accepted)
+  plays-by (suc t) within =
+      plays-next t (plays-by t (omega (arith, within))) (time-is inputs t) (omega (arith, within))
+
+  -- So its components run.
+  pub running : (t : ℕ) → t ≤ inputs.cycles
+      → IsRunning inputs t (played t (first_network inputs)).components
+  running t within = subst (λ (n : ℕ). IsRunning inputs n (played t (first_network inputs)).components)
+      (time-is inputs t) (plays-by t within).running

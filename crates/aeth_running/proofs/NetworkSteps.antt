@@ -1,0 +1,224 @@
+-- A network that runs on accepted inputs: its components run, and each channel has its latest session.
+-- One more cycle keeps this.
+use Rattle.std.proofs.Common.{◌≡◌, ◌≤◌, ◌<◌, ◌∙◌, ◌+◌, ℕ, List, Some, length, slice_get}
+use Rattle.std.proofs.Common.{refl, sym, ap, subst, arith}
+use Rattle.std.specs.List.{All}
+use Rattle.std.specs.List.Sorted.{IsNonDecreasingBy}
+use Rattle.std.proofs.lemmas.List.{length-map}
+use Rattle.std.proofs.lemmas.Option.{same_Some}
+use Rattle.aeth_base.specs.Limits.{max_cycles}
+use Rattle.aeth_base.specs.declared.ids.Channel.{Channel}
+use Rattle.aeth_trace.specs.Channels.{channel_number}
+use Rattle.aeth_components.specs.Components.{IsComponents, frames_of}
+use Rattle.aeth_components.specs.Frames.{frame_of}
+use Rattle.aeth_components.specs.Lanes.{IsLane}
+use Rattle.aeth_components.specs.declared.lane.Lane.{Lane}
+use Rattle.aeth_refinement.specs.Accepted.{IsAccepted}
+use Rattle.aeth_refinement.specs.Carried.{words_from}
+use Rattle.aeth_refinement.specs.Fabric.{IsGoing, flow_at, server_at}
+use Rattle.aeth_accepted.specs.Inputs.{Inputs, run_of}
+use Rattle.aeth_fabric.specs.Fabric.{fabric_of, placed_at}
+use Rattle.aeth_schedule.specs.Goings.{goings_of}
+use Rattle.aeth_schedule.specs.Values.{values_of}
+use Rattle.aeth_schedule.specs.declared.going.Going.{Going}
+use Rattle.aeth_invariant.specs.Events.{AreEvents}
+use Rattle.aeth_invariant.specs.Places.{ArePlaced}
+use Rattle.aeth_invariant.specs.Running.{Prepares}
+use Rattle.aeth_running.proofs.ChannelStates.{HasChannel, StandsAt, Unused, Used}
+use Rattle.aeth_running.proofs.FabricSessions.{Before, Behind, Ordered, Same, placed-known}
+use Rattle.aeth_running.proofs.GoingSessions.{GoesNow}
+use Rattle.aeth_running.proofs.KeptLanes.{lane-behind, lanes-kept}
+use Rattle.aeth_running.proofs.NetworkLaws.{CycleLaws}
+use Rattle.aeth_running.proofs.Preparing.{prepares}
+use Rattle.aeth_running.proofs.ReadyChannels.{IsReady, ready}
+use Rattle.aeth_running.proofs.ReadySound.{ready-sound}
+use Rattle.aeth_running.proofs.RunningCycles.{running-on}
+use Rattle.aeth_running.specs.FirstLog.{first_log}
+use Rattle.aeth_events.specs.Events.{events_in}
+use Rattle.aeth_running.specs.Network.{NetworkState, ready_in}
+use Rattle.aeth_stimuli.specs.Loaded.{loaded_components}
+use Rattle.aeth_running.specs.Network.{state_behind}
+use Rattle.aeth_running.specs.Network.{stepped}
+use Rattle.aeth_running.specs.Running.{IsLatest, IsRunning}
+use Rattle.aeth_stimuli.specs.Sessions.{channel_of, first_of}
+use Rattle.aeth_stimuli.specs.Stimuli.{Stimuli, stimuli_of}
+
+-- A network of these inputs that runs.
+pub record Plays (inputs : Inputs) (network : NetworkState) : Type 0 where
+  pub stimuli_are : network.stimuli ≡ stimuli_of inputs
+  pub log_is : network.log ≡ first_log inputs
+  pub running : IsRunning inputs network.time network.components
+  pub channels : (channel : Channel) → channel.conn.0 < length inputs.app.connections
+      → HasChannel inputs network.time network channel
+
+-- What a cycle keeps of a channel's state.
+stands-same : (inputs : Inputs) (t : ℕ) (channel : Channel) (until : ℕ) (one other : Lane)
+    → one.accepted ≡ other.accepted → one.first ≡ other.first
+    → StandsAt inputs t channel until one → StandsAt inputs t channel until other
+stands-same inputs t channel until one other accepts first (Unused none zero_until) =
+    Unused none zero_until
+stands-same inputs t channel until one other accepts first (Used c latest on until_is is place) =
+    Used c latest on until_is (sym accepts ∙ is) (sym first ∙ place)
+
+module _ (inputs : Inputs) (laws : CycleLaws) (ok : IsAccepted (fabric_of inputs))
+    (order : IsNonDecreasingBy (λ row. row.cycle) inputs.pulls) (short : inputs.cycles ≤ max_cycles)
+    (words-placed : ArePlaced (fabric_of inputs) (first_of inputs)
+    (length (values_of inputs.words (length inputs.app.connections))))
+    (values-placed : (c : ℕ) → c < (fabric_of inputs).count
+    → words_from (values_of inputs.words (length inputs.app.connections)) (first_of inputs c)
+    (length (flow_at (fabric_of inputs) c).values)
+    ≡ (flow_at (fabric_of inputs) c).values)
+    (goings-sound : All (λ going.
+    IsLane (length (values_of inputs.words (length inputs.app.connections)))
+    (length (frames_of (loaded_components inputs))) going.lane) (goings_of inputs))
+    (ordered : (c d : ℕ) → c < (fabric_of inputs).count → d < (fabric_of inputs).count
+    → channel_of inputs c ≡ channel_of inputs d → Ordered inputs c d)
+    (goes-first : (c : ℕ) → c < (fabric_of inputs).count
+    → (server_at (fabric_of inputs) c).go < (server_at (fabric_of inputs) c).finish)
+    (goes : (t : ℕ) → t < inputs.cycles → (channel : Channel)
+    → channel.conn.0 < length inputs.app.connections → GoesNow inputs t channel)
+    (events-are : (t : ℕ) → t < inputs.cycles
+    → AreEvents (fabric_of inputs) (t + 1) (events_in (stimuli_of inputs) t)) where
+  -- Two sessions that are the latest of a channel are one.
+  latest-same : (t c d : ℕ) → IsLatest inputs t c → IsLatest inputs t d
+      → channel_of inputs d ≡ channel_of inputs c → d ≡ c
+  latest-same t c d one two on =
+      let low = one.last d two.known two.gone on in
+      let high = two.last c one.known one.gone (sym on) in
+      let first = goes-first c one.known in
+      let second = goes-first d two.known in
+      elim (ordered c d one.known two.known (sym on)) [
+        | Same same ↦ sym same
+        | Before over ↦ absurd (omega (arith, over, low, first))
+        | Behind over ↦ absurd (omega (arith, over, high, second))
+      ]
+
+  module _ (network : NetworkState) (plays : Plays inputs network)
+      (early : network.time < inputs.cycles) where
+    abbrev t : ℕ
+    t = network.time
+
+    before : (channel : Channel) → channel.conn.0 < length inputs.app.connections → Lane
+    before channel known = (plays.channels channel known).lane
+
+    before-at : (channel : Channel) (known : channel.conn.0 < length inputs.app.connections)
+        → slice_get network.components.lanes (channel_number channel) ≡ Some (before channel known)
+    unfolding before
+    before-at channel known = (plays.channels channel known).at
+
+    readies : (channel : Channel) (known : channel.conn.0 < length inputs.app.connections)
+        → IsReady inputs t channel network (before channel known)
+    unfolding before
+    readies channel known = ready inputs t channel early order (goes t early channel known) network
+        plays.stimuli_are refl (plays.channels channel known)
+
+    then-prepares : Prepares (fabric_of inputs) (channel_of inputs) t network.components
+        (ready_in network)
+    then-prepares =
+        let words = sym plays.running.words in
+        prepares inputs t early network
+        (subst (λ (all : List ℕ). (c : ℕ) → c < (fabric_of inputs).count
+        → words_from all (first_of inputs c) (length (flow_at (fabric_of inputs) c).values)
+        ≡ (flow_at (fabric_of inputs) c).values) words values-placed)
+        plays.running.lanes before before-at readies ordered goes-first
+
+    parts-same : length (frames_of (loaded_components inputs)) ≡ length network.components.parts
+    parts-same = ap length (sym plays.running.frames)
+        ∙ length-map network.components.parts frame_of
+
+    then-sound : IsComponents (ready_in network)
+    then-sound =
+        let words = sym plays.running.words in
+        ready-sound inputs ok t network
+        (subst (λ (all : List ℕ). ArePlaced (fabric_of inputs) (first_of inputs) (length all)) words
+        words-placed)
+        (subst (λ (all : List ℕ). All (λ (going : Going).
+        IsLane (length all) (length network.components.parts) going.lane) (goings_of inputs)) words
+        (subst (λ (n : ℕ). All (λ (going : Going).
+        IsLane (length (values_of inputs.words (length inputs.app.connections))) n going.lane)
+        (goings_of inputs)) parts-same goings-sound))
+        plays.running.lanes before before-at readies plays.running.sound
+
+    -- The first word of the latest session is at its place.
+    stands-first : (c : ℕ) → IsLatest inputs (t + 1) c → (until : ℕ) (lane : Lane)
+        → StandsAt inputs (t + 1) (placed_at (run_of inputs) c).channel until lane
+        → lane.first ≡ first_of inputs c
+    stands-first c latest until lane (Unused none zero_until) =
+        absurd (none c latest.known refl latest.gone)
+    stands-first c latest until lane (Used d other on until_is accepts first) =
+        first ∙ ap (first_of inputs) (latest-same (t + 1) c d latest other on)
+
+    firsts : (c : ℕ) → IsLatest inputs (t + 1) c → (lane : Lane)
+        → slice_get (ready_in network).lanes (channel_of inputs c) ≡ Some lane
+        → lane.first ≡ first_of inputs c
+    firsts c latest lane at =
+        let channel = (placed_at (run_of inputs) c).channel in
+        let one = readies channel (placed-known inputs c latest.known) in
+        let same : one.lane ≡ lane = same_Some one.lane lane (sym one.at ∙ at) in
+        sym (ap (λ (other : Lane). other.first) same)
+        ∙ stands-first c latest one.until_now one.lane one.stands
+
+    -- A session in use is the latest of its channel.
+    latest-going : (c : ℕ) → c < (fabric_of inputs).count → IsGoing (fabric_of inputs) c t
+        → IsLatest inputs (t + 1) c
+    latest-going c h going =
+        let from = going.goes in
+        let unfinished = going.unfinished in
+        record {
+          known = h;
+          gone = omega (arith, from);
+          last = λ d known soon on.
+              let first = goes-first d known in
+              elim (ordered c d h known (sym on)) [
+                | Same same ↦
+                    let go = ap (λ (n : ℕ). (server_at (fabric_of inputs) n).go) same in
+                    omega (arith, go)
+                | Before over ↦ absurd (omega (arith, over, soon, unfinished))
+                | Behind over ↦ omega (arith, over, first)
+              ];
+        }
+
+    then-runs : IsRunning inputs (t + 1)
+        (state_behind (events_in network.stimuli network.time) network.time (ready_in network))
+    then-runs =
+        let size = plays.running.sound.landings in
+        let words = ap (λ (all : List ℕ). length all) plays.running.words in
+        running-on inputs laws ok t (omega (arith, early, short)) network.components (ready_in network)
+        (events_in network.stimuli network.time) plays.running then-prepares then-sound
+        (subst (λ (all : Stimuli). AreEvents (fabric_of inputs) (t + 1)
+        (events_in all network.time)) (sym plays.stimuli_are) (events-are t early))
+        (subst (ArePlaced (fabric_of inputs) (first_of inputs)) (sym (size ∙ words)) words-placed)
+        goes-first firsts
+        (λ c lane h going at. firsts c (latest-going c h going) lane at)
+
+    -- Each channel behind the cycle.
+    then-channel : (channel : Channel) → channel.conn.0 < length inputs.app.connections
+        → HasChannel inputs (network.time + 1) (stepped network) channel
+    unfolding stepped
+    then-channel channel known =
+        let one = readies channel known in
+        let events = events_in network.stimuli network.time in
+        let kept = lane-behind (ready_in network).lanes
+        (state_behind events network.time (ready_in network)).lanes
+        (lanes-kept events network.time (ready_in network)) (channel_number channel) one.lane one.at in
+        let same = kept.same in
+        record {
+          lane = kept.lane;
+          until = one.until_now;
+          at = kept.at;
+          until_at = one.until_at;
+          pull_is = sym (ap (λ (lane : Lane). lane.pull) same) ∙ one.pull_is;
+          stands = stands-same inputs (t + 1) channel one.until_now one.lane kept.lane
+              (ap (λ (lane : Lane). lane.accepted) same) (ap (λ (lane : Lane). lane.first) same)
+              one.stands;
+        }
+
+    -- So the network runs on.
+    pub plays-on : Plays inputs (stepped network)
+    unfolding stepped
+    plays-on = record {
+      stimuli_are = plays.stimuli_are;
+      log_is = plays.log_is;
+      running = then-runs;
+      channels = then-channel;
+    }

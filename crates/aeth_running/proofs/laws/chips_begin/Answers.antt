@@ -1,6 +1,0 @@
-use Rattle.aeth_running.proofs.ChipBegins.{empty}
-use Rattle.aeth_running.proofs.laws.chips_begin.Goals as goal
-
--- Component by component.
-pub returns : goal.returns
-returns c = empty

@@ -1,0 +1,138 @@
+-- A network, cycle by cycle.
+--
+--   NetworkState      a network: what it is given, its components, and what a log is made of
+--   state_behind      the components once a cycle is done, with these events
+--   goings_in, offers_in, takes_in      what a cycle brings
+--   untils_in, lanes_in, outside_in      sessions go, words are accepted, and receivers take
+--   stepped, played      a network behind one cycle, and behind so many
+--   first_network      the network of inputs before the first cycle
+-- This project's own.
+use Rattle.std.specs.Prelude.{ℕ, zero, suc, ◌+◌, ◌*◌, ◌==◌, nat_lt, if◌then◌else◌, List, [], ◌++◌}
+use Rattle.std.specs.Prelude.{filter, fold, length, map, replicate, slice_index, slice_set}
+use Rattle.std.specs.List.{slice_index_or}
+use Rattle.aeth_trace.specs.Channels.{channel_number}
+use Rattle.aeth_report.specs.Log.{LogData}
+use Rattle.aeth_components.specs.Components.{ComponentsState, components_of, latched_of, moment_of}
+use Rattle.aeth_components.specs.Components.{ready_of, wires_driven}
+use Rattle.aeth_components.specs.Counting.{counted, flits_counted, noted}
+use Rattle.aeth_components.specs.Lanes.{with_lane}
+use Rattle.aeth_components.specs.declared.event.Event.{Event}
+use Rattle.aeth_components.specs.declared.lane.Lane.{Lane}
+use Rattle.aeth_accepted.specs.Inputs.{Inputs}
+use Rattle.aeth_schedule.specs.declared.going.Going.{Going}
+use Rattle.aeth_stimuli.specs.Loaded.{loaded_components, no_lane}
+use Rattle.aeth_stimuli.specs.Stimuli.{Offer, Stimuli, Take, stimuli_of}
+use Rattle.aeth_events.specs.Events.{events_in}
+use Rattle.aeth_running.specs.FirstLog.{first_log}
+
+-- A network: what it is given; its components; for each channel until when the session that went last
+-- accepts words, and how many words were offered outside of all sessions; for each session that has
+-- gone how its channel stood before; the log, of which nothing has landed; and the cycles done.
+pub record NetworkState : Type 0 where
+  pub stimuli : Stimuli
+  pub components : ComponentsState
+  pub untils : List ℕ
+  pub outside : List ℕ
+  pub replaced : List Lane
+  pub log : LogData
+  pub time : ℕ
+
+-- The components once a cycle is done, with these events.
+abbrev pub state_behind : List Event → ℕ → ComponentsState → ComponentsState
+state_behind events cycle old =
+    let ready = ready_of old.words events cycle (moment_of old) in
+    let wires = wires_driven ready.parts (length old.wires) cycle in
+    let latched = latched_of old.words events cycle wires (moment_of old) in
+    components_of latched.parts wires (map (counted cycle latched.parts) latched.lanes) old.words
+    (fold (noted cycle latched.parts) old.landings latched.lanes) (flits_counted wires old.flits)
+
+-- What a cycle brings beside its events: the sessions that go, the words that are offered, and the rows
+-- of receivers.
+abbrev pub goings_in : Stimuli → ℕ → List Going
+goings_in all t = filter (λ going. going.lane.go == t) all.schedule.goings
+
+abbrev pub offers_in : Stimuli → ℕ → List Offer
+offers_in all t = filter (λ offer. offer.cycle == t) all.offers
+
+abbrev pub takes_in : Stimuli → ℕ → List Take
+takes_in all t = filter (λ take. take.cycle == t) all.takes
+
+-- A session goes: its channel accepts words until it stops, and begins anew. Its receiver takes words
+-- as before.
+abbrev pub until_with : List ℕ → Going → List ℕ
+until_with untils going = slice_set untils (channel_number going.channel) going.until
+
+abbrev pub gone_with : List Lane → Going → List Lane
+gone_with lanes going =
+    with_lane (channel_number going.channel) (λ lane. record going.lane { pull = lane.pull }) lanes
+
+-- A word that is offered in cycle t is accepted by the session of its channel, or it is outside of all.
+abbrev pub accepted_with : ℕ → List ℕ → List Lane → Offer → List Lane
+accepted_with t untils lanes offer =
+    if nat_lt t (slice_index untils offer.number)
+    then with_lane offer.number (λ lane. record lane { accepted = lane.accepted + 1 }) lanes
+    else lanes
+
+abbrev pub outside_with : ℕ → List ℕ → List ℕ → Offer → List ℕ
+outside_with t untils outside offer =
+    if nat_lt t (slice_index untils offer.number) then outside
+    else slice_set outside offer.number (slice_index outside offer.number + 1)
+
+-- A receiver takes words as a row says.
+abbrev pub taking_with : List Lane → Take → List Lane
+taking_with lanes take = with_lane take.number (λ lane. record lane { pull = take.pull }) lanes
+
+module _ (all : Stimuli) (t : ℕ) where
+  -- Until when channels accept words in a cycle.
+  abbrev pub untils_in : List ℕ → List ℕ
+  untils_in untils = fold until_with untils (goings_in all t)
+
+  -- The channels in a cycle: sessions that go have gone, words that are offered are accepted, and
+  -- receivers take as their rows say.
+  abbrev pub lanes_in : List ℕ → List Lane → List Lane
+  lanes_in untils lanes =
+      fold taking_with
+      (fold (accepted_with t untils) (fold gone_with lanes (goings_in all t)) (offers_in all t))
+      (takes_in all t)
+
+  -- The words that are outside of all sessions, with those of the cycle.
+  abbrev pub outside_in : List ℕ → List ℕ → List ℕ
+  outside_in untils outside = fold (outside_with t untils) outside (offers_in all t)
+
+-- The components, once they are given what a cycle brings but for its events.
+abbrev pub ready_in : NetworkState → ComponentsState
+ready_in old = record old.components {
+  lanes = lanes_in old.stimuli old.time (untils_in old.stimuli old.time old.untils)
+      old.components.lanes;
+}
+
+-- A network behind one more cycle.
+unfoldable pub stepped : NetworkState → NetworkState
+stepped old =
+    let untils = untils_in old.stimuli old.time old.untils in
+    record old {
+      components = state_behind (events_in old.stimuli old.time) old.time (ready_in old);
+      untils = untils;
+      outside = outside_in old.stimuli old.time untils old.outside;
+      replaced = old.replaced
+          ++ map (λ going. slice_index_or old.components.lanes (channel_number going.channel) no_lane)
+          (goings_in old.stimuli old.time);
+      time = old.time + 1;
+    }
+
+-- Behind so many.
+unfoldable pub played : ℕ → NetworkState → NetworkState
+played zero all = all
+played (suc cycles) all = stepped (played cycles all)
+
+-- The network of inputs before the first cycle.
+unfoldable pub first_network : Inputs → NetworkState
+first_network inputs = record {
+  stimuli = stimuli_of inputs;
+  components = loaded_components inputs;
+  untils = replicate (2 * length inputs.app.connections) 0;
+  outside = replicate (2 * length inputs.app.connections) 0;
+  replaced = [];
+  log = first_log inputs;
+  time = 0;
+}

@@ -1,0 +1,190 @@
+-- What accepted inputs give fits the components of their chip.
+use Rattle.std.proofs.Common.{◌≤◌, ◌<◌, ◌+◌, ◌*◌, ℕ, All, List, Option, ap, arith, count_by}
+use Rattle.std.proofs.Common.{filter, length, subst, sym}
+use Rattle.std.specs.Prelude.{nat_lt}
+use Rattle.std.specs.List.Sorted.{IsNonDecreasingBy}
+use Rattle.std.proofs.lemmas.List.{length-map}
+use Rattle.std.proofs.lemmas.List.Elements.{All-filter, All-map, All-weaker}
+use Rattle.aeth_base.specs.declared.ids.Side.{Side}
+use Rattle.aeth_base.specs.declared.ids.Side.TheVariants.{Back, Fwd}
+use Rattle.aeth_base.specs.declared.ids.UseId.{UseId}
+use Rattle.aeth_group.specs.Members.{groups_of}
+use Rattle.aeth_ni.specs.declared.row.ChannelRow.{ChannelRow}
+use Rattle.aeth_trace.specs.Channels.{channel_number}
+use Rattle.aeth_trace.specs.declared.receivers.PullRow.{PullRow}
+use Rattle.aeth_trace.specs.declared.switches.SwitchRow.{SwitchRow}
+use Rattle.aeth_trace.specs.declared.words.WordRow.{WordRow}
+use Rattle.aeth_trace.proofs.OrderLemmas.{rise-filter}
+use Rattle.aeth_report.specs.Sessions.{Switch}
+use Rattle.aeth_tables.specs.Promises.{HasNumbers}
+use Rattle.aeth_tables.specs.TableText.{IsRowOf}
+use Rattle.aeth_tables.specs.Tables.{tables_of}
+use Rattle.aeth_tables.proofs.PromiseLaws.{keep_promises}
+use Rattle.aeth_components.specs.Components.{frames_of}
+use Rattle.aeth_components.specs.Frames.{Frame, frame_of}
+use Rattle.aeth_components.specs.Lanes.{IsEnd, IsLane}
+use Rattle.aeth_components.specs.Making.{new_parts}
+use Rattle.aeth_components.proofs.MadeLemmas.{length-new_parts}
+use Rattle.aeth_components.proofs.PartLemmas.{frames-switched}
+use Rattle.aeth_accepted.specs.Inputs.{AreAccepted, Inputs}
+use Rattle.aeth_schedule.specs.Goings.{goings_of}
+use Rattle.aeth_schedule.specs.Lines.{all_lines, end_of, lines_at}
+use Rattle.aeth_schedule.specs.Rooms.{rooms_of}
+use Rattle.aeth_schedule.specs.Switching.{loaded_of}
+use Rattle.aeth_schedule.specs.Values.{values_of}
+use Rattle.aeth_schedule.specs.declared.lines.Line.{Line}
+use Rattle.aeth_schedule.proofs.LineLemmas.{line-at, lines-all}
+use Rattle.aeth_stimuli.specs.Loaded.{loaded_components}
+use Rattle.aeth_stimuli.specs.Stimuli.{Offer, Take, is_offered_in, offer_of, stimuli_of, take_of}
+use Rattle.aeth_stimuli.proofs.GoingLists.{by, goings-all}
+use Rattle.aeth_stimuli.proofs.OfferedWords.{offered-few, rise-map}
+use Rattle.aeth_stimuli.proofs.WordPlaces.{window-placed}
+
+-- The number of a channel of one of so many connections.
+number-known : (c : ℕ) (side : Side) (connections : ℕ) → c < connections
+    → channel_number (record { conn = record { 0 = c }; side = side }) < 2 * connections
+number-known c Fwd connections known = omega arith
+number-known c Back connections known = omega arith
+
+module _ (inputs : Inputs) (accepted : AreAccepted inputs) where
+  -- How many connections there are, how many words, and how many components.
+  abbrev connections : ℕ
+  connections = length inputs.app.connections
+
+  abbrev words : ℕ
+  words = length (values_of inputs.words (length inputs.app.connections))
+
+  abbrev parts : ℕ
+  parts = length (frames_of (loaded_components inputs))
+
+  -- The interfaces of the chip are among the components.
+  interfaces-first : length inputs.chip.nis ≤ parts
+  interfaces-first =
+      let made = new_parts inputs.chip (rooms_of inputs) in
+      let kept = ap (λ (frames : List Frame). length frames)
+      (frames-switched (loaded_of inputs) made) in
+      let size = length-map made frame_of in
+      let count = length-new_parts inputs.chip (rooms_of inputs) in
+      omega (arith, kept, size, count)
+
+  -- ---- the lines of use cases
+
+  -- A line names a connection, and sends and lands at queues of interfaces.
+  pub record Fits (line : Line) : Type 0 where
+    pub known : line.row.channel.conn.0 < length inputs.app.connections
+    pub sender : IsEnd (length (frames_of (loaded_components inputs))) (end_of line.row)
+    pub receiver : IsEnd (length (frames_of (loaded_components inputs))) line.receiver
+
+  -- A row's queue is one of an interface of the chip.
+  end-fits : (row : ChannelRow) → IsRowOf inputs.chip inputs.app row → HasNumbers row
+      → IsEnd (length (frames_of (loaded_components inputs))) (end_of row)
+  end-fits row is numbers =
+      let ni = is.ni in
+      record { part = omega (arith, ni, interfaces-first); queue = numbers.queue }
+
+  lines-fit : (u : ℕ) → u < length inputs.app.uses → All Fits (lines_at (all_lines inputs) u)
+  lines-fit u known =
+      let number : UseId = record { 0 = u } in
+      let tables = tables_of inputs.chip inputs.app (groups_of inputs.app) inputs.plan number in
+      let kept = keep_promises inputs.chip inputs.app inputs.plan accepted.design number known in
+      subst (λ (lines : List Line). All Fits lines) (sym (line-at inputs accepted u known))
+      (lines-all (λ row. IsRowOf inputs.chip inputs.app row × HasNumbers row) Fits
+      (λ row shape other one two. record {
+        known = one.0.conn;
+        sender = end-fits row one.0 one.1;
+        receiver = end-fits other two.0 two.1;
+      })
+      tables.rows tables.shapes (λ k d within. (kept.known k d within, kept.numbered k d within)))
+
+  -- ---- the sessions
+
+  -- Each is of a connection of the application.
+  pub goings-known : All (λ going. going.channel.conn.0 < length inputs.app.connections)
+      (goings_of inputs)
+  goings-known = goings-all inputs accepted Fits
+      (λ going. going.channel.conn.0 < length inputs.app.connections) lines-fit
+      (λ opening u rows line fits. fits.known)
+
+  -- So its channel has a number.
+  pub goings-numbered : All (λ going. channel_number going.channel < 2 * connections)
+      (goings_of inputs)
+  goings-numbered = All-weaker (λ going. going.channel.conn.0 < connections)
+      (λ going. channel_number going.channel < 2 * connections)
+      (λ going known. number-known going.channel.conn.0 going.channel.side connections known)
+      (goings_of inputs) goings-known
+
+  -- The session of a line's channel that comes with a use case, as it stands when it goes: nothing of
+  -- it is done.
+  lane-fits : (opening : Option Switch) (u : ℕ) (rows : List SwitchRow) (line : Line) → Fits line
+      → IsLane words parts (by inputs accepted opening u rows line).lane
+  lane-fits opening u rows line fits =
+      let going = by inputs accepted opening u rows line in
+      let placed = window-placed inputs.words connections line.row.channel fits.known
+      going.lane.go going.until in
+      record {
+        sender = fits.sender;
+        receiver = fits.receiver;
+        taken = omega arith;
+        landed = omega arith;
+        handed = omega arith;
+        within = omega (arith, placed);
+      }
+
+  -- It has room for the words that it accepts within the run.
+  room-fits : (opening : Option Switch) (u : ℕ) (rows : List SwitchRow) (line : Line) → Fits line
+      → (by inputs accepted opening u rows line).lane.first
+      + count_by (is_offered_in (by inputs accepted opening u rows line)) (stimuli_of inputs).offers
+      ≤ words
+  room-fits opening u rows line fits =
+      let going = by inputs accepted opening u rows line in
+      let placed = window-placed inputs.words connections line.row.channel fits.known
+      going.lane.go going.until in
+      let few = offered-few going inputs.cycles inputs.words in
+      omega (arith, placed, few)
+
+  pub goings-lanes : All (λ going. IsLane words parts going.lane) (goings_of inputs)
+  goings-lanes = goings-all inputs accepted Fits (λ going. IsLane words parts going.lane) lines-fit
+      lane-fits
+
+  pub goings-room : All (λ going. going.lane.first
+      + count_by (is_offered_in going) (stimuli_of inputs).offers ≤ words) (goings_of inputs)
+  goings-room = goings-all inputs accepted Fits
+      (λ going. going.lane.first
+      + count_by (is_offered_in going) (stimuli_of inputs).offers ≤ words) lines-fit
+      room-fits
+
+  -- ---- the rows of traces
+
+  -- Words are offered to channels of the application, in the order of cycles.
+  pub offers-known : All (λ offer. offer.number < 2 * connections) (stimuli_of inputs).offers
+  offers-known =
+      let within = λ (row : WordRow). nat_lt row.cycle inputs.cycles in
+      All-map (λ offer. offer.number < 2 * connections) offer_of (filter within inputs.words)
+      (All-filter within (λ row. channel_number row.channel < 2 * connections) inputs.words
+      (All-weaker (λ row. row.channel.conn.0 < connections)
+      (λ row. channel_number row.channel < 2 * connections)
+      (λ row known. number-known row.channel.conn.0 row.channel.side connections known)
+      inputs.words accepted.words.known))
+
+  pub offers-ordered : IsNonDecreasingBy (λ offer. offer.cycle) (stimuli_of inputs).offers
+  offers-ordered =
+      let within = λ (row : WordRow). nat_lt row.cycle inputs.cycles in
+      rise-map (λ (offer : Offer). offer.cycle) offer_of (filter within inputs.words)
+      (rise-filter (λ (row : WordRow). row.cycle) within inputs.words accepted.words.order)
+
+  -- So do receivers take.
+  pub takes-known : All (λ take. take.number < 2 * connections) (stimuli_of inputs).takes
+  takes-known =
+      let within = λ (row : PullRow). nat_lt row.cycle inputs.cycles in
+      All-map (λ take. take.number < 2 * connections) take_of (filter within inputs.pulls)
+      (All-filter within (λ row. channel_number row.channel < 2 * connections) inputs.pulls
+      (All-weaker (λ row. row.channel.conn.0 < connections)
+      (λ row. channel_number row.channel < 2 * connections)
+      (λ row known. number-known row.channel.conn.0 row.channel.side connections known)
+      inputs.pulls accepted.pulls.known))
+
+  pub takes-ordered : IsNonDecreasingBy (λ take. take.cycle) (stimuli_of inputs).takes
+  takes-ordered =
+      let within = λ (row : PullRow). nat_lt row.cycle inputs.cycles in
+      rise-map (λ (take : Take). take.cycle) take_of (filter within inputs.pulls)
+      (rise-filter (λ (row : PullRow). row.cycle) within inputs.pulls accepted.pulls.order)

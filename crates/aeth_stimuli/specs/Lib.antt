@@ -1,0 +1,4 @@
+pub mod Loaded
+pub mod OnChip
+pub mod Sessions
+pub mod Stimuli

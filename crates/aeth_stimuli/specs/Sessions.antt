@@ -1,0 +1,87 @@
+-- The sessions of a run, as they go.
+--
+--   SessionGoing, as_going      a session with its shape in numbers
+--   going_of      the session of a channel as it goes
+--   channel_of, first_of      the channel of a session of the fabric, and the place of its first word
+--   IsBefore      one session is done before another goes
+-- This project's own.
+use Rattle.std.specs.Prelude.{◌≡◌, ◌≤◌, ℕ, ◌+◌, ◌-◌, Some, min}
+use Rattle.aeth_base.specs.declared.ids.Channel.{Channel}
+use Rattle.aeth_server.specs.ChannelShape.{shape_of}
+use Rattle.aeth_server.specs.Shape.{Shape}
+use Rattle.aeth_trace.specs.Channels.{channel_number}
+use Rattle.aeth_report.specs.Channels.{opposite}
+use Rattle.aeth_report.specs.Design.{shape_at}
+use Rattle.aeth_report.specs.Flows.{close_at}
+use Rattle.aeth_report.specs.declared.session.Close.{Close}
+use Rattle.aeth_report.specs.declared.session.Session.{Session}
+use Rattle.aeth_refinement.specs.Fabric.{server_at}
+use Rattle.aeth_components.specs.declared.lane.Lane.{Lane}
+use Rattle.aeth_accepted.specs.Inputs.{Inputs, design_of, row_at, run_of}
+use Rattle.aeth_fabric.specs.Fabric.{fabric_of, placed_at}
+use Rattle.aeth_schedule.specs.Lines.{end_of}
+use Rattle.aeth_schedule.specs.Values.{before_of, start_of}
+use Rattle.aeth_schedule.specs.declared.going.Going.{Going}
+
+-- A session that goes, as `Going` has it, but for its shape, which is in numbers.
+pub record SessionGoing : Type 0 where
+  pub channel : Channel
+  pub shape : Shape
+  pub until : ℕ
+  pub before : ℕ
+  pub count : ℕ
+  pub lane : Lane
+
+abbrev pub as_going : Going → SessionGoing
+as_going going = record {
+  channel = going.channel;
+  shape = shape_of going.shape;
+  until = going.until;
+  before = going.before;
+  count = going.count;
+  lane = going.lane;
+}
+
+module _ (inputs : Inputs) where
+  -- The session of a channel as it goes: it sends from the queue of the channel's row in its group, and
+  -- lands where the opposite channel sends from.
+  abbrev pub going_of : Channel → Session → SessionGoing
+  going_of channel session =
+      let close = close_at inputs.cycles session in
+      let before = before_of inputs.words channel session.go in
+      record {
+        channel = channel;
+        shape = shape_at (design_of inputs) channel session.group.0;
+        until = close.until;
+        before = before;
+        count = before_of inputs.words channel (min close.until inputs.cycles) - before;
+        lane = record {
+          sender = end_of (row_at (design_of inputs) session.group.0 channel);
+          receiver = end_of (row_at (design_of inputs) session.group.0 (opposite channel));
+          go = session.go;
+          fin = close.fin;
+          first = start_of inputs.words channel + before;
+          accepted = 0;
+          pull = 0;
+          handed = 0;
+          landed = 0;
+          taken = 0;
+        };
+      }
+
+  -- The number of the channel of a session, by its number in the fabric, and the place of its first
+  -- word among those of all.
+  abbrev pub channel_of : ℕ → ℕ
+  channel_of c = channel_number (placed_at (run_of inputs) c).channel
+
+  abbrev pub first_of : ℕ → ℕ
+  first_of c =
+      let channel = (placed_at (run_of inputs) c).channel in
+      start_of inputs.words channel
+      + before_of inputs.words channel (server_at (fabric_of inputs) c).go
+
+-- A session is closed, and finishes no later than another one goes.
+pub record IsBefore (one other : Session) : Type 0 where
+  pub closed : Close
+  pub is : one.close ≡ Some closed
+  pub order : closed.fin ≤ other.go

@@ -1,0 +1,4 @@
+//! The network of accepted inputs, cycle by cycle.
+#![tactic(auto)]
+
+pub mod laws;
