@@ -1,8 +1,9 @@
 -- Laws of routers that hold no flit, which a network need not step.
-use Rattle.std.proofs.Common.{◌≡◌, ℕ, zero, suc, refl, sym, ap, inl, inr}
+use Rattle.std.proofs.Common.{◌≡◌, ℕ, zero, suc, refl, sym, ap, ◌∙◌, inl, inr}
 use Rattle.std.proofs.Common.{true, List, [], ◌∷◌, length, map, replicate}
 use Rattle.std.proofs.Common.{Option, Some, None, slice_get}
-use Rattle.std.specs.Prelude.{◌==◌, option_and_then, position}
+use Rattle.std.specs.Prelude.{◌==◌, is_none, option_and_then, position}
+use Rattle.std.specs.List.{list_all}
 use Rattle.std.proofs.lemmas.Bool.{cases_Bool}
 use Rattle.aeth_clocked.specs.declared.flit.Flit.{Flit}
 use Rattle.aeth_clocked.specs.Wires.{Drives, flit_on}
@@ -25,6 +26,28 @@ pub emitted_on-idle : (outgoing : List ℕ) (count link : ℕ)
     → emitted_on outgoing (replicate count None) link ≡ None
 emitted_on-idle outgoing count link =
     sole-idle count (position (λ other. other == link) outgoing)
+
+-- Where each place is empty, none is held.
+pub held-idle : (held : List (Option Flit)) → list_all (λ flit. is_none flit) held ≡ true
+    → held ≡ replicate (length held) None
+held-idle [] idle = refl
+held-idle (None ∷ held) idle = ap (λ (rest : List (Option Flit)). None ∷ rest) (held-idle held idle)
+held-idle (Some flit ∷ held) idle = absurd (cc idle)
+
+-- So its outgoing links are just empty then.
+pub Drives-cleared : (outgoing : List ℕ) (held : List (Option Flit)) (old new : List (Option Flit))
+    → held ≡ replicate (length held) None
+    → Drives (is_among outgoing) (λ _. None) old new
+    → Drives (is_among outgoing) (emitted_on outgoing held) old new
+Drives-cleared outgoing held old new idle drives =
+    record {
+      links = drives.links;
+      at = λ link within.
+          let none : emitted_on outgoing held link ≡ None =
+          ap (λ held. emitted_on outgoing held link) idle
+          ∙ emitted_on-idle outgoing (length held) link in
+          rw none (drives.at link within);
+    }
 
 -- It drives wires that are empty on its outgoing links by leaving them.
 pub Drives-idle : (outgoing : List ℕ) (count : ℕ) (wires : List (Option Flit))

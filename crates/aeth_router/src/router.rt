@@ -1,6 +1,6 @@
 // A router: flits latched in one cycle and driven in the next.
 
-ghost use Rattle.std.specs.Prelude.{◌≡◌, ◌<◌, IfOk, length, map};
+ghost use Rattle.std.specs.Prelude.{◌≡◌, ◌<◌, IfOk, length, map, slice_set};
 ghost use Rattle.aeth_chip.specs.Nodes.{sends_on};
 ghost use Rattle.aeth_clocked.specs.Wires.{AreLinks, flit_on};
 ghost use Rattle.aeth_router.specs.Router.{is_among, last_wire, new_router, numbers_of};
@@ -9,7 +9,7 @@ ghost use Rattle.aeth_router.specs.Router.{router_after, router_absorb};
 ghost use Rattle.aeth_router.specs.Agreement.{router_absorb-agrees};
 ghost use Rattle.std.proofs.Common.{refl};
 
-use crate::traffic::emit;
+use crate::traffic::{clear, emit, is_idle};
 use aeth_base::{LinkId, NoMemory, RouterId};
 use aeth_chip::{Chip, Node};
 use aeth_clocked::{Clocked, Flit, Wires};
@@ -78,8 +78,12 @@ impl Clocked for Router {
     ghost absorb = { router_absorb };
 
     fn drive(&mut self, _cycle: u64, wires: &mut Wires) {
-        emit(&self.outgoing, &self.held, wires);
-        self.held.fill(None);
+        if is_idle(&self.held) {
+            clear(&self.outgoing, wires);
+        } else {
+            emit(&self.outgoing, &self.held, wires);
+            self.held.fill(None);
+        }
     }
 
     fn latch(&mut self, wires: &Wires) {
@@ -138,6 +142,18 @@ fn take_in(held: &mut [Option<Flit>], incoming: &[LinkId], wires: &Wires)
     ensures { held.new ≡ map (flit_on wires.now) (numbers_of incoming.now) }
 {
     for place in 0..incoming.len() {
-        held[place] = wires.get(incoming[place]);
+        hold(held, place, wires.get(incoming[place]));
+    }
+}
+
+// Holds what is there at a place. Nothing more is copied where there is no flit.
+fn hold(held: &mut [Option<Flit>], place: usize, flit: Option<Flit>)
+    requires { place < length held.old }
+    ensures { held.new ≡ slice_set held.old place flit }
+{
+    if let Some(flit) = flit {
+        held[place] = Some(flit);
+    } else {
+        held[place] = None;
     }
 }

@@ -1,6 +1,7 @@
 // What the flits that a router holds put on its output links.
 
-ghost use Rattle.std.specs.Prelude.{◌≡◌, ◌++◌, ◌∷◌, [], List, Option, length};
+ghost use Rattle.std.specs.Prelude.{◌≡◌, ◌++◌, ◌∷◌, [], List, None, Option, is_none, length};
+ghost use Rattle.std.specs.List.{list_all};
 ghost use Rattle.aeth_clocked.specs.Wires.{AreLinks, Drives};
 ghost use Rattle.aeth_clocked.specs.declared.flit.Flit.{Flit};
 ghost use Rattle.aeth_router.specs.Ports.{flits_for, sole};
@@ -60,6 +61,23 @@ pub(crate) fn emit(outgoing: &[LinkId], held: &[Option<Flit>], wires: &mut Wires
         let flit = carried_on(&table, place);
         wires.put(outgoing[place], flit);
     }
+}
+
+/// Empties each outgoing link: what a router does that holds no flit.
+pub(crate) fn clear(outgoing: &[LinkId], wires: &mut Wires)
+    requires { AreLinks (is_among (numbers_of outgoing.now)) (length wires.old) }
+    ensures { Drives (is_among (numbers_of outgoing.now)) (λ _. None) wires.old wires.new }
+{
+    for link in outgoing {
+        wires.put(*link, None);
+    }
+}
+
+/// Whether no flit is held.
+pub(crate) fn is_idle(held: &[Option<Flit>]) -> bool
+    ensures { result ≡ list_all (λ flit. is_none flit) held.now }
+{
+    held.iter().all(|flit| flit.is_none())
 }
 
 // What goes to each port.

@@ -15,7 +15,8 @@ loop-place-preserved c =
     let within = c.loop-place-test.true in
     let places = c.requires.places in
     let size : length c.loop-place.held ≡ length c.args.held.now = c.loop-place.auto.held in
-    held-more c.args.wires.now c.loop-place.held (numbers_of c.args.incoming.now)
+    rw c.hold.ensures
+    (held-more c.args.wires.now c.loop-place.held (numbers_of c.args.incoming.now)
     c.loop-place.place _ c.get.result
     (numbers_of-at c.args.incoming.now c.loop-place.place (record { 0 = 0 }) within) (omega arith)
-    c.get.ensures c.loop-place.invariant
+    c.get.ensures c.loop-place.invariant)
