@@ -1,8 +1,10 @@
 pub mod AloneLemmas
+mod BusyLemmas
 pub mod CountingLemmas
 mod CycleLemmas
 pub mod FrameLemmas
 mod LaneLemmas
+mod MarkLemmas
 pub mod MadeParts
 pub mod MadeLemmas
 pub mod NoteLemmas

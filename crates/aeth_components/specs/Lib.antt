@@ -1,4 +1,5 @@
 pub mod Alone
+pub mod Busy
 pub mod Changes
 pub mod Components
 pub mod Counting

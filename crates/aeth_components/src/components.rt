@@ -4,13 +4,15 @@ ghost use Rattle.std.specs.Prelude.{◌≡◌, ◌≤◌, ◌<◌, ◌*◌, ◌+
 ghost use Rattle.std.specs.Prelude.{replicate, slice_get, slice_set};
 ghost use Rattle.aeth_base.specs.Limits.{max_cycles};
 ghost use Rattle.aeth_ni.specs.Limits.{queues_of_interface};
+ghost use Rattle.aeth_components.specs.Busy.{AreMarked};
 ghost use Rattle.aeth_components.specs.Changes.{switched};
-ghost use Rattle.aeth_components.specs.Components.{Cycle, IsComponents, components_of, first_components};
+ghost use Rattle.aeth_components.specs.Components.{Cycle, first_components};
 ghost use Rattle.aeth_components.specs.Components.{Runs, frames_of, part_count};
 ghost use Rattle.aeth_components.specs.Events.{IsDoable};
 ghost use Rattle.aeth_components.specs.Frames.{IsWired, frame_of};
 ghost use Rattle.aeth_components.specs.Lanes.{IsLane, with_lane};
 
+use crate::busy::{all_marked, mark};
 use crate::counting::{count, tally};
 use crate::cycle::{drive, latch};
 use crate::event::Event;
@@ -35,21 +37,23 @@ pub struct Components {
     parts: Vec<Part>,
     wires: Wires,
     lanes: Vec<Lane>,
+    busy: Vec<u64>,
     words: Vec<u32>,
     landings: Vec<u32>,
     flits: Vec<u32>,
 }
 
 impl Model for Components {
-    ghost use Rattle.aeth_components.specs.Components.{ComponentsState, IsComponents, components_of};
+    ghost use Rattle.aeth_components.specs.Busy.{IsKept};
+    ghost use Rattle.aeth_components.specs.Components.{ComponentsState, components_of};
 
     ghost Value = { ComponentsState };
 
     ghost view = { λ all. components_of all.parts.items all.wires all.lanes.items all.words.items
         all.landings.items all.flits.items };
 
-    ghost invariant = { λ all. IsComponents (components_of all.parts.items all.wires
-        all.lanes.items all.words.items all.landings.items all.flits.items) };
+    ghost invariant = { λ all. IsKept (components_of all.parts.items all.wires
+        all.lanes.items all.words.items all.landings.items all.flits.items) all.busy.items };
 }
 
 impl Components {
@@ -74,12 +78,14 @@ impl Components {
         let _ = chip.slots();
         let parts = parts_of(alloc, chip, rooms)?;
         let wires = Wires::new(alloc, chip.wires())?;
+        let busy = all_marked(alloc, lanes.len())?;
         let landings = vec![in alloc; 0; words.len()]?;
         let flits = vec![in alloc; 0; chip.links() as usize]?;
         Ok(Components {
             parts,
             wires,
             lanes,
+            busy,
             words,
             landings,
             flits,
@@ -128,6 +134,7 @@ impl Components {
         ensures { self.new ≡ record self.old { lanes = slice_set self.old.lanes channel lane } }
     {
         self.lanes[channel] = lane;
+        mark(&mut self.busy, channel);
     }
 
     /// So many words of a channel's session are accepted.
@@ -175,12 +182,19 @@ impl Components {
             &mut self.parts,
             &mut self.wires,
             &mut self.lanes,
+            &mut self.busy,
             &self.words,
             order,
             cycle,
             events,
         );
-        count(&self.parts, &mut self.lanes, &mut self.landings, cycle);
+        count(
+            &self.parts,
+            &mut self.lanes,
+            &self.busy,
+            &mut self.landings,
+            cycle,
+        );
         tally(&mut self.flits, &self.wires);
     }
 }
@@ -190,6 +204,7 @@ fn run(
     parts: &mut [Part],
     wires: &mut Wires,
     lanes: &mut [Lane],
+    busy: &mut [u64],
     words: &[u32],
     order: &Order,
     cycle: u32,
@@ -197,16 +212,18 @@ fn run(
 )
     requires wired { IsWired (map frame_of parts.old) (length wires.old) }
     requires lanes { All (IsLane (length words.now) (length parts.old)) lanes.old }
+    requires marked { AreMarked busy.old lanes.old }
     requires order { length order.now ≡ length parts.old }
     requires events { All (IsDoable (map frame_of parts.old)) events.now }
     ensures runs { Runs words.now events.now cycle wires.old wires.new
         (record { parts = parts.old; lanes = lanes.old })
         (record { parts = parts.new; lanes = lanes.new }) }
     ensures lanes { All (IsLane (length words.now) (length parts.new)) lanes.new }
+    ensures marked { AreMarked busy.new lanes.new }
 {
     switch(parts, events);
-    refill(parts, lanes, words, cycle);
+    refill(parts, lanes, busy, words, cycle);
     drive(parts, order, cycle, wires);
-    take(parts, lanes, words, cycle);
+    take(parts, lanes, busy, words, cycle);
     latch(parts, order, wires);
 }

@@ -1,9 +1,11 @@
 // What is counted behind a cycle: the words that have landed, and the flits on links.
 
 ghost use Rattle.std.specs.Prelude.{◌≡◌, ◌<◌, ◌≤◌, ◌+◌, ◌^◌, All, fold, length, map};
+ghost use Rattle.aeth_components.specs.Busy.{AreMarked};
 ghost use Rattle.aeth_components.specs.Counting.{counted, flits_counted, noted, written_over};
 ghost use Rattle.aeth_components.specs.Lanes.{IsLane};
 
+use crate::busy::next;
 use crate::lane::Lane;
 use crate::parts::brought;
 use aeth_base::LinkId;
@@ -11,14 +13,23 @@ use aeth_clocked::Wires;
 use aeth_router::Part;
 
 // Counts what has landed, and notes the cycle.
-pub(crate) fn count(parts: &[Part], lanes: &mut [Lane], landings: &mut [u32], cycle: u32)
+pub(crate) fn count(
+    parts: &[Part],
+    lanes: &mut [Lane],
+    busy: &[u64],
+    landings: &mut [u32],
+    cycle: u32,
+)
     requires cycle { cycle + 1 < 2 ^ 32 }
     requires lanes { All (IsLane (length landings.old) (length parts.now)) lanes.old }
+    requires marked { AreMarked busy.now lanes.old }
     ensures lanes { lanes.new ≡ map (counted cycle parts.now) lanes.old }
     ensures landings { landings.new ≡ fold (noted cycle parts.now) landings.old lanes.old }
 {
-    for number in 0..lanes.len() {
+    let mut number = next(busy, 0, lanes.len());
+    'turns: while number < lanes.len() {
         count_one(parts, &mut lanes[number], landings, cycle);
+        number = next(busy, number + 1, lanes.len());
     }
 }
 

@@ -1,6 +1,7 @@
 //! The components of a network, the sessions of its channels, and what one cycle makes of them.
 #![tactic(auto)]
 
+mod busy;
 mod components;
 mod counting;
 mod cycle;

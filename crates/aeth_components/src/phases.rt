@@ -1,12 +1,14 @@
 // The phases of a cycle that change single components: switching, refilling, and taking.
 
 ghost use Rattle.std.specs.Prelude.{◌≡◌, ◌<◌, ◌^◌, All, length, map};
+ghost use Rattle.aeth_components.specs.Busy.{AreMarked};
 ghost use Rattle.aeth_components.specs.Changes.{switched};
 ghost use Rattle.aeth_components.specs.Events.{IsDoable};
 ghost use Rattle.aeth_components.specs.Frames.{frame_of};
 ghost use Rattle.aeth_components.specs.Lanes.{IsLane};
 ghost use Rattle.aeth_components.specs.Phases.{in_turn, pulled, refilled};
 
+use crate::busy::{next, unmark};
 use crate::event::Event;
 use crate::lane::Lane;
 use crate::parts::{draw, hand, meet};
@@ -24,14 +26,24 @@ pub(crate) fn switch(parts: &mut [Part], events: &[Event])
 }
 
 // Each channel in its turn hands its accepted words to its source queue.
-pub(crate) fn refill(parts: &mut [Part], lanes: &mut [Lane], words: &[u32], cycle: u32)
-    requires { All (IsLane (length words.now) (length parts.old)) lanes.old }
-    ensures { record { parts = parts.new; lanes = lanes.new }
+pub(crate) fn refill(
+    parts: &mut [Part],
+    lanes: &mut [Lane],
+    busy: &[u64],
+    words: &[u32],
+    cycle: u32,
+)
+    requires lanes { All (IsLane (length words.now) (length parts.old)) lanes.old }
+    requires marked { AreMarked busy.now lanes.old }
+    ensures turns { record { parts = parts.new; lanes = lanes.new }
         ≡ in_turn (refilled words.now cycle)
         (record { parts = parts.old; lanes = lanes.old }) }
+    ensures marked { AreMarked busy.now lanes.new }
 {
-    for number in 0..lanes.len() {
+    let mut number = next(busy, 0, lanes.len());
+    'turns: while number < lanes.len() {
         refill_one(parts, &mut lanes[number], words, cycle);
+        number = next(busy, number + 1, lanes.len());
     }
 }
 
@@ -50,14 +62,37 @@ fn refill_one(parts: &mut [Part], lane: &mut Lane, words: &[u32], cycle: u32)
 }
 
 // Each receiver in its turn takes.
-pub(crate) fn take(parts: &mut [Part], lanes: &mut [Lane], words: &[u32], cycle: u32)
-    requires { All (IsLane (length words.now) (length parts.old)) lanes.old }
-    ensures { record { parts = parts.new; lanes = lanes.new }
+pub(crate) fn take(
+    parts: &mut [Part],
+    lanes: &mut [Lane],
+    busy: &mut [u64],
+    words: &[u32],
+    cycle: u32,
+)
+    requires lanes { All (IsLane (length words.now) (length parts.old)) lanes.old }
+    requires marked { AreMarked busy.old lanes.old }
+    ensures turns { record { parts = parts.new; lanes = lanes.new }
         ≡ in_turn (pulled cycle)
         (record { parts = parts.old; lanes = lanes.old }) }
+    ensures marked { AreMarked busy.new lanes.new }
 {
-    for number in 0..lanes.len() {
+    let mut number = next(busy, 0, lanes.len());
+    'turns: while number < lanes.len() {
         take_one(parts, &mut lanes[number], words, cycle);
+        settle(busy, lanes, number);
+        number = next(busy, number + 1, lanes.len());
+    }
+}
+
+// Marks a channel no more where it is idle.
+fn settle(busy: &mut [u64], lanes: &[Lane], number: usize)
+    requires number { number < length lanes.now }
+    requires marked { AreMarked busy.old lanes.now }
+    ensures { AreMarked busy.new lanes.now }
+{
+    let lane = &lanes[number];
+    if lane.handed <= lane.landed && lane.landed <= lane.taken && lane.accepted <= lane.handed {
+        unmark(busy, number);
     }
 }
 

@@ -15,7 +15,7 @@ is_ready : (c : goal.After-refill)
     ≡ ready_of c.args.words.now c.args.events.now c.args.cycle
     (record { parts = c.args.parts.now; lanes = c.args.lanes.now })
 is_ready c =
-    c.refill.ensures ∙ ap (λ (parts : List Part). in_turn
+    c.refill.ensures.turns ∙ ap (λ (parts : List Part). in_turn
     (refilled c.args.words.now c.args.cycle)
     (record { parts = parts; lanes = c.args.lanes.now })) c.switch.ensures
 
@@ -54,7 +54,7 @@ drained c =
     Sound-drained (map frame_of c.args.parts.now) (length c.args.words.now) c.args.cycle
     (record { parts = c.drive.new.parts; lanes = c.refill.new.lanes })
     (record { parts = c.take.new.parts; lanes = c.take.new.lanes })
-    (away ((goal.at-After-take c).After-drive)) c.take.ensures
+    (away ((goal.at-After-take c).After-drive)) c.take.ensures.turns
 
 -- All have latched.
 is_latched : (c : goal.After-latch)
@@ -91,11 +91,11 @@ latch-requires-clause-wired c =
     c.requires.wired)
 
 -- The channels are sound.
-pub take-requires : goal.take-requires
-take-requires c =
+pub take-requires-clause-lanes : goal.take-requires-clause-lanes
+take-requires-clause-lanes c =
     IsLane-Sound (map frame_of c.args.parts.now) (length c.args.words.now)
     (record { parts = c.drive.new.parts; lanes = c.refill.new.lanes })
-    (away ((goal.at.take-requires c).After-drive))
+    (away ((goal.at.take-requires-clause-lanes c).After-drive))
 
 -- The cycle, phase by phase.
 pub returns : goal.returns
@@ -111,11 +111,12 @@ returns c =
         wires = c.drive.ensures.wires ∙ ap (λ (moment : Moment).
             wires_driven moment.parts (length c.args.wires.now) cycle) refilling;
         moment = is_latched (at.After-latch)
-            ∙ ap (latched_from wires) (c.take.ensures ∙ ap (in_turn (pulled cycle))
+            ∙ ap (latched_from wires) (c.take.ensures.turns ∙ ap (in_turn (pulled cycle))
             (is_away (at.After-drive) ∙ ap (driven_from cycle) refilling));
         frames = sound.frames;
         count = c.take.auto.lanes ∙ c.refill.auto.lanes;
       };
       lanes = IsLane-Sound (map frame_of c.args.parts.now) (length words)
           (record { parts = c.latch.new.parts; lanes = c.take.new.lanes }) sound;
+      marked = c.take.ensures.marked;
     }

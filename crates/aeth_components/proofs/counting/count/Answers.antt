@@ -1,29 +1,90 @@
-use Rattle.std.proofs.Common.{length}
+use Rattle.std.proofs.Common.{◌≡◌, ◌+◌, ◌∙◌, ◌++◌, List, ap, ap₂}
+use Rattle.std.proofs.Common.{arith, drop, fold, length, length-set, map, refl, take}
+use Rattle.std.proofs.lemmas.List.{append-nil, drop_all, take_all}
+use Rattle.aeth_components.specs.declared.lane.Lane.{Lane}
 use Rattle.aeth_components.proofs.counting.count.Goals as goal
-use Rattle.aeth_components.proofs.CountingLemmas.{IsLane-ahead, map-more, noted-more}
-use Rattle.aeth_components.specs.Counting.{counted}
+use Rattle.aeth_components.proofs.CountingLemmas.{IsLane-ahead, counted-none, map-more, noted-more}
+use Rattle.aeth_components.proofs.CountingLemmas.{noted-none}
+use Rattle.aeth_components.proofs.MarkLemmas.{maps-until, notes-until}
+use Rattle.aeth_components.specs.Counting.{counted, noted}
 
 -- The next channel is sound.
 pub count_one-requires-clause-lane : goal.count_one-requires-clause-lane
 count_one-requires-clause-lane c =
     let parts = length c.args.parts.now in
-    IsLane-ahead (length c.loop-number.landings) parts (counted c.args.cycle c.args.parts.now)
-    c.args.lanes.now c.loop-number.lanes c.loop-number.number _ c.loop-number-test.true
-    c.loop-number.invariant.lanes
-    (rw (c.loop-number.auto.landings) (c.requires.lanes c.loop-number.number _
-    c.loop-number-test.true))
+    let size : length c.turns.lanes ≡ length c.args.lanes.now = c.turns.auto.lanes in
+    let within = c.turns-test.true in
+    IsLane-ahead (length c.turns.landings) parts (counted c.args.cycle c.args.parts.now)
+    c.args.lanes.now c.turns.lanes c.turns.number _ (omega arith)
+    c.turns.invariant.lanes
+    (rw (c.turns.auto.landings) (c.requires.lanes c.turns.number _ (omega arith)))
 
--- One channel more is counted.
-pub loop-number-preserved : goal.loop-number-preserved
-loop-number-preserved c =
-    let lanes = c.args.lanes.now in
-    let number = c.loop-number.number in
+-- The channels before the first one that is marked are idle.
+pub turns-init : goal.turns-init
+turns-init c =
+    let parts = c.args.parts.now in
+    let cycle = c.args.cycle in
     record {
-      lanes = map-more (counted c.args.cycle c.args.parts.now) lanes c.loop-number.lanes
-          number _ c.count_one.new.lane c.loop-number-test.true
-          c.loop-number.invariant.lanes c.count_one.ensures.lane;
-      landings = noted-more c.args.cycle c.args.parts.now lanes c.loop-number.lanes
-          c.args.landings.now c.loop-number.landings c.count_one.new.landings number _
-          c.loop-number-test.true c.loop-number.invariant.lanes c.loop-number.invariant.landings
-          c.count_one.ensures.landings;
+      lanes = maps-until (counted cycle parts)
+          (λ lane idle. counted-none cycle parts lane idle.landed) c.args.busy.now
+          c.args.lanes.now c.args.lanes.now 0 c.next-number.result (omega arith) refl
+          c.requires.marked c.next-number.ensures.end c.next-number.ensures.none;
+      landings = notes-until (noted cycle parts)
+          (λ landings lane idle. noted-none cycle parts landings lane idle.landed) c.args.busy.now
+          c.args.lanes.now c.args.landings.now c.args.landings.now 0 c.next-number.result
+          (omega arith) refl c.requires.marked c.next-number.ensures.end
+          c.next-number.ensures.none;
+      within = c.next-number.ensures.end;
     }
+
+-- One channel more is counted, and those up to the next one that is marked are idle.
+pub turns-preserved : goal.turns-preserved
+turns-preserved c =
+    let parts = c.args.parts.now in
+    let cycle = c.args.cycle in
+    let lanes = c.args.lanes.now in
+    let number = c.turns.number in
+    let size : length c.turns.lanes ≡ length lanes = c.turns.auto.lanes in
+    let sized = length-set c.turns.lanes number c.count_one.new.lane in
+    let test = c.turns-test.true in
+    let end = c.next-number-in-turns.ensures.end in
+    record {
+      lanes = maps-until (counted cycle parts)
+          (λ lane idle. counted-none cycle parts lane idle.landed) c.args.busy.now
+          lanes _ (number + 1) c.next-number-in-turns.result c.next-number-in-turns.ensures.from
+          (map-more (counted cycle parts) lanes c.turns.lanes number _ c.count_one.new.lane
+          (omega arith) c.turns.invariant.lanes c.count_one.ensures.lane)
+          c.requires.marked (omega arith) c.next-number-in-turns.ensures.none;
+      landings = notes-until (noted cycle parts)
+          (λ landings lane idle. noted-none cycle parts landings lane idle.landed) c.args.busy.now
+          lanes c.args.landings.now c.count_one.new.landings (number + 1) c.next-number-in-turns.result
+          c.next-number-in-turns.ensures.from
+          (noted-more cycle parts lanes c.turns.lanes c.args.landings.now c.turns.landings
+          c.count_one.new.landings number _ (omega arith) c.turns.invariant.lanes
+          c.turns.invariant.landings c.count_one.ensures.landings)
+          c.requires.marked (omega arith) c.next-number-in-turns.ensures.none;
+      within = omega arith;
+    }
+
+-- All are counted.
+pub returns-clause-lanes : goal.returns-clause-lanes
+returns-clause-lanes c =
+    let f = counted c.args.cycle c.args.parts.now in
+    let lanes = c.args.lanes.now in
+    let size : length c.turns.lanes ≡ length lanes = c.turns.auto.lanes in
+    let within = c.turns.invariant.within in
+    let last : c.turns.number ≡ length lanes = omega (arith, c.turns-test.false) in
+    c.turns.invariant.lanes ∙ ap (λ n. map f (take n lanes) ++ drop n lanes) last
+    ∙ ap₂ (λ (some others : List Lane). map f some ++ others)
+    (take_all (length lanes) lanes (omega arith)) (drop_all (length lanes) lanes (omega arith))
+    ∙ append-nil (map f lanes)
+
+pub returns-clause-landings : goal.returns-clause-landings
+returns-clause-landings c =
+    let note = noted c.args.cycle c.args.parts.now in
+    let lanes = c.args.lanes.now in
+    let size : length c.turns.lanes ≡ length lanes = c.turns.auto.lanes in
+    let within = c.turns.invariant.within in
+    let last : c.turns.number ≡ length lanes = omega (arith, c.turns-test.false) in
+    c.turns.invariant.landings ∙ ap (λ n. fold note c.args.landings.now (take n lanes)) last
+    ∙ ap (fold note c.args.landings.now) (take_all (length lanes) lanes (omega arith))

@@ -1,36 +1,73 @@
-use Rattle.std.proofs.Common.{◌≡◌, arith, length, subst, sym}
+use Rattle.std.proofs.Common.{◌≡◌, ◌+◌, ◌∙◌, ℕ, List, ap, arith, fold, length, refl, subst, sym}
 use Rattle.std.specs.List.{All, range_with_len}
 use Rattle.std.proofs.lemmas.Option.{slice_get-get_or}
+use Rattle.aeth_router.specs.declared.part.Part.{Part}
+use Rattle.aeth_components.specs.declared.lane.Lane.{Lane}
 use Rattle.aeth_components.proofs.phases.refill.Goals as goal
-use Rattle.aeth_components.proofs.TurnLemmas.{All-turns, IsLane-refilled, turns-more}
+use Rattle.aeth_components.proofs.MarkLemmas.{AreMarked-turned, turns-until}
+use Rattle.aeth_components.proofs.TurnLemmas.{All-turns, IsLane-refilled, refilled-none, turns-more}
+use Rattle.aeth_components.specs.Busy.{IsIdle}
 use Rattle.aeth_components.specs.Lanes.{IsLane}
-use Rattle.aeth_components.specs.Phases.{Moment, refilled}
+use Rattle.aeth_components.specs.Phases.{Moment, refilled, turned, turned_by}
+
+-- An idle channel hands nothing on.
+still : (words : List ℕ) (cycle : ℕ) (parts : List Part) (lane : Lane) → IsIdle lane
+    → refilled words cycle parts lane ≡ (parts, lane)
+still words cycle parts lane idle = refilled-none words cycle parts lane idle.handed
 
 -- What holds of each lane before the first turn, still holds.
 pub refill_one-requires : goal.refill_one-requires
 refill_one-requires c =
     let words = c.args.words.now in
-    let count = length c.loop-number.parts in
+    let count = length c.turns.parts in
     let P = IsLane (length words) count in
     let first = subst (λ n. All (IsLane (length words) n) c.args.lanes.now)
-    (sym c.loop-number.auto.parts) c.requires in
+    (sym c.turns.auto.parts) c.requires.lanes in
     let all = All-turns (refilled words c.args.cycle) P
-    (IsLane-refilled words c.args.cycle count) (range_with_len 0 c.loop-number.number)
+    (IsLane-refilled words c.args.cycle count) (range_with_len 0 c.turns.number)
     (record { parts = c.args.parts.now; lanes = c.args.lanes.now }) first in
-    let now = subst (λ (moment : Moment). All P moment.lanes) (sym c.loop-number.invariant) all in
-    let size : length c.loop-number.lanes ≡ length c.args.lanes.now =
-    c.loop-number.auto.lanes in
-    now c.loop-number.number _ (omega arith)
+    let now = subst (λ (moment : Moment). All P moment.lanes) (sym c.turns.invariant.turns) all in
+    now c.turns.number _ c.turns-test.true
 
--- One lane more has had its turn.
-pub loop-number-preserved : goal.loop-number-preserved
-loop-number-preserved c =
-    let size : length c.loop-number.lanes ≡ length c.args.lanes.now =
-    c.loop-number.auto.lanes in
-    turns-more (refilled c.args.words.now c.args.cycle)
-    (record { parts = c.args.parts.now; lanes = c.args.lanes.now })
-    (record { parts = c.loop-number.parts; lanes = c.loop-number.lanes })
-    c.loop-number.number _ (c.refill_one.new.parts, c.refill_one.new.lane)
-    c.loop-number.invariant
-    (slice_get-get_or c.loop-number.lanes c.loop-number.number _ (omega arith))
-    c.refill_one.ensures
+-- The channels before the first one that is marked are idle.
+pub turns-init : goal.turns-init
+turns-init c =
+    let before : Moment = record { parts = c.args.parts.now; lanes = c.args.lanes.now } in
+    record {
+      turns = turns-until (refilled c.args.words.now c.args.cycle)
+          (still c.args.words.now c.args.cycle) c.args.busy.now before before 0
+          c.next-number.result (omega arith) refl c.requires.marked c.next-number.ensures.none;
+      marked = c.requires.marked;
+      within = c.next-number.ensures.end;
+    }
+
+-- One lane more has had its turn, and those up to the next one that is marked are idle.
+pub turns-preserved : goal.turns-preserved
+turns-preserved c =
+    let turn = refilled c.args.words.now c.args.cycle in
+    let before : Moment = record { parts = c.args.parts.now; lanes = c.args.lanes.now } in
+    let now : Moment = record { parts = c.turns.parts; lanes = c.turns.lanes } in
+    let done : List Part × Lane = (c.refill_one.new.parts, c.refill_one.new.lane) in
+    let at = slice_get-get_or c.turns.lanes c.turns.number _ c.turns-test.true in
+    let marked = AreMarked-turned turn (still c.args.words.now c.args.cycle) c.args.busy.now now
+    c.turns.number _ done at c.refill_one.ensures c.turns.invariant.marked in
+    record {
+      turns = turns-until turn (still c.args.words.now c.args.cycle) c.args.busy.now before
+          (turned_by now c.turns.number done) (c.turns.number + 1) c.next-number-in-turns.result
+          c.next-number-in-turns.ensures.from
+          (turns-more turn before now c.turns.number _ done c.turns.invariant.turns at
+          c.refill_one.ensures)
+          marked c.next-number-in-turns.ensures.none;
+      marked = marked;
+      within = c.next-number-in-turns.ensures.end;
+    }
+
+-- All have.
+pub returns-clause-turns : goal.returns-clause-turns
+returns-clause-turns c =
+    let size : length c.turns.lanes ≡ length c.args.lanes.now = c.turns.auto.lanes in
+    let within = c.turns.invariant.within in
+    let last : c.turns.number ≡ length c.args.lanes.now = omega (arith, c.turns-test.false) in
+    c.turns.invariant.turns
+    ∙ ap (λ n. fold (turned (refilled c.args.words.now c.args.cycle))
+    (record { parts = c.args.parts.now; lanes = c.args.lanes.now }) (range_with_len 0 n)) last

@@ -6,6 +6,9 @@ use Rattle.aeth_components.proofs.components.Components.step.Goals as goal
 use Rattle.aeth_components.proofs.components.Components.step.Goals.{After-run, After-count}
 use Rattle.aeth_components.proofs.components.Components.step.Goals.{After-tally}
 use Rattle.aeth_components.specs.declared.lane.Lane.{Lane}
+use Rattle.aeth_components.proofs.CountingLemmas.{counted-none}
+use Rattle.aeth_components.proofs.MarkLemmas.{AreMarked-map}
+use Rattle.aeth_components.specs.Busy.{AreMarked}
 use Rattle.aeth_components.proofs.CycleLemmas.{Cycle-from, IsComponents-from, components-same}
 use Rattle.aeth_components.proofs.FrameLemmas.{length-wires_driven}
 use Rattle.aeth_components.proofs.LaneLemmas.{written_back}
@@ -29,6 +32,29 @@ run_lanes : (c : goal.After-run)
 run_lanes c =
     written_back c.self.inside.lanes.items c.run.new.lanes c.self.inside.lanes.len
     c.self.inside.lanes.ok.0 (c.run.auto.lanes ∙ ap length c.deref_mut-2.ensures.value)
+
+run_busy : (c : goal.After-run)
+    → take c.self.inside.busy.len (c.run.new.busy
+    ++ drop (length c.run.new.busy) c.self.inside.busy.items) ≡ c.run.new.busy
+run_busy c =
+    written_back c.self.inside.busy.items c.run.new.busy c.self.inside.busy.len
+    c.self.inside.busy.ok.0 (c.run.auto.busy ∙ ap length c.deref_mut-3.ensures.value)
+
+-- The masks mark the channels.
+pub run-requires-clause-marked : goal.run-requires-clause-marked
+run-requires-clause-marked c =
+    subst (λ (masks : List ℕ). AreMarked masks c.deref_mut-2.result.now)
+    (sym c.deref_mut-3.ensures.value)
+    (subst (AreMarked c.self.inside.busy.items) (sym c.deref_mut-2.ensures.value)
+    c.self.invariant.marked)
+
+pub count-requires-clause-marked : goal.count-requires-clause-marked
+count-requires-clause-marked c =
+    let run = (goal.at.count-requires-clause-marked c).After-run in
+    subst (λ (masks : List ℕ). AreMarked masks c.deref_mut-4.result.now)
+    (sym (c.deref-3.ensures.value ∙ run_busy run))
+    (subst (AreMarked c.run.new.busy) (sym (c.deref_mut-4.ensures.value ∙ run_lanes run))
+    c.run.ensures.marked)
 
 -- The run, of the components as they were.
 runs : (c : goal.After-run)
@@ -54,7 +80,7 @@ counts c =
     let run = (goal.at-After-count c).After-run in
     c.count.ensures.lanes
     ∙ ap₂ (λ (parts : List Part) (lanes : List Lane). map (counted c.args.cycle parts) lanes)
-    (c.deref-2.ensures.value ∙ run_parts run) (c.deref_mut-3.ensures.value ∙ run_lanes run)
+    (c.deref-2.ensures.value ∙ run_parts run) (c.deref_mut-4.ensures.value ∙ run_lanes run)
 
 notes : (c : goal.After-count)
     → c.count.new.landings
@@ -63,10 +89,10 @@ notes c =
     let run = (goal.at-After-count c).After-run in
     c.count.ensures.landings
     ∙ ap (λ (landings : List ℕ). fold (noted c.args.cycle c.deref-2.result.now) landings
-    c.deref_mut-3.result.now) c.deref_mut-4.ensures.value
+    c.deref_mut-4.result.now) c.deref_mut-5.ensures.value
     ∙ ap₂ (λ (parts : List Part) (lanes : List Lane).
     fold (noted c.args.cycle parts) c.self.inside.landings.items lanes)
-    (c.deref-2.ensures.value ∙ run_parts run) (c.deref_mut-3.ensures.value ∙ run_lanes run)
+    (c.deref-2.ensures.value ∙ run_parts run) (c.deref_mut-4.ensures.value ∙ run_lanes run)
 
 -- There is a wire for each link.
 pub tally-requires-clause-wires : goal.tally-requires-clause-wires
@@ -76,8 +102,8 @@ tally-requires-clause-wires c =
     (ready_of c.self.inside.words.items c.args.events.now c.args.cycle
     (record { parts = c.self.inside.parts.items; lanes = c.self.inside.lanes.items })).parts
     (length c.self.inside.wires) c.args.cycle in
-    let flits = ap length c.deref_mut-5.ensures.value in
-    let few = c.self.invariant.flits in
+    let flits = ap length c.deref_mut-6.ensures.value in
+    let few = c.self.invariant.state.flits in
     omega arith
 
 -- The components as they were, and as they are.
@@ -120,16 +146,16 @@ same c =
     (run_parts run)
     (written_back first c.count.new.lanes c.self.inside.lanes.len
     (c.self.inside.lanes.ok.0 ∙ sym sized)
-    (c.count.auto.lanes ∙ ap length c.deref_mut-3.ensures.value))
+    (c.count.auto.lanes ∙ ap length c.deref_mut-4.ensures.value))
     (written_back c.self.inside.landings.items c.count.new.landings c.self.inside.landings.len
     c.self.inside.landings.ok.0
-    (c.count.auto.landings ∙ ap length c.deref_mut-4.ensures.value))
+    (c.count.auto.landings ∙ ap length c.deref_mut-5.ensures.value))
     (written_back c.self.inside.flits.items c.tally.new.flits c.self.inside.flits.len
-    c.self.inside.flits.ok.0 (c.tally.auto.flits ∙ ap length c.deref_mut-5.ensures.value))
+    c.self.inside.flits.ok.0 (c.tally.auto.flits ∙ ap length c.deref_mut-6.ensures.value))
 
 tallies : (c : goal.After-tally)
     → c.tally.new.flits ≡ flits_counted c.run.new.wires c.self.inside.flits.items
-tallies c = c.tally.ensures ∙ ap (flits_counted c.run.new.wires) c.deref_mut-5.ensures.value
+tallies c = c.tally.ensures ∙ ap (flits_counted c.run.new.wires) c.deref_mut-6.ensures.value
 
 -- What holds of components still holds.
 pub invariant_of-self : goal.invariant_of-self
@@ -138,13 +164,21 @@ invariant_of-self c =
     let tally = (goal.at.invariant_of-self c).After-tally in
     let counting = (goal.at.invariant_of-self c).After-count in
     let run = (goal.at.invariant_of-self c).After-run in
-    subst IsComponents (sym (same tally))
-    (IsComponents-from c.args.events.now c.args.cycle (old_of tally) c.run.new.wires
-    (record { parts = c.run.new.parts; lanes = c.run.new.lanes }) c.count.new.lanes
-    c.count.new.landings c.tally.new.flits (runs run) (counts counting) (notes counting)
-    (tallies tally) c.self.invariant
-    (subst (λ (words : List ℕ). All (IsLane (length words) (length c.run.new.parts))
-    c.run.new.lanes) c.deref.ensures.value c.run.ensures.lanes))
+    let kept = AreMarked-map c.run.new.busy (counted c.args.cycle c.run.new.parts) c.run.new.lanes
+    (λ lane idle. counted-none c.args.cycle c.run.new.parts lane idle.landed) c.run.ensures.marked in
+    record {
+      state = subst IsComponents (sym (same tally))
+          (IsComponents-from c.args.events.now c.args.cycle (old_of tally) c.run.new.wires
+          (record { parts = c.run.new.parts; lanes = c.run.new.lanes }) c.count.new.lanes
+          c.count.new.landings c.tally.new.flits (runs run) (counts counting) (notes counting)
+          (tallies tally) c.self.invariant.state
+          (subst (λ (words : List ℕ). All (IsLane (length words) (length c.run.new.parts))
+          c.run.new.lanes) c.deref.ensures.value c.run.ensures.lanes));
+      marked = subst (λ (masks : List ℕ). AreMarked masks (written_of tally).lanes)
+          (sym (run_busy run))
+          (subst (AreMarked c.run.new.busy)
+          (sym (ap (λ (all : ComponentsState). all.lanes) (same tally) ∙ counts counting)) kept);
+    }
 
 -- A cycle.
 pub returns : goal.returns

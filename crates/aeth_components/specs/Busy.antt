@@ -1,0 +1,33 @@
+-- Which channels may have something to do, as masks of 64 channels each.
+--
+--   bit_of                     the bit of a channel
+--   IsIdle, AreMarked          a channel with nothing to do, and masks that mark all others
+--   IsKept                     what holds of components and their masks
+--
+-- This project's own.
+use Rattle.std.specs.Prelude.{◌≡◌, ◌≤◌, ◌<◌, ◌*◌, ◌/◌, ◌%◌, ℕ, List, Some, length, slice_get}
+use Rattle.std.specs.Prelude.{slice_index}
+use Rattle.std.specs.Int.{bit_at}
+use Rattle.aeth_components.specs.declared.lane.Lane.{Lane}
+use Rattle.aeth_components.specs.Components.{ComponentsState, IsComponents}
+
+-- The bit of a channel.
+abbrev pub bit_of : List ℕ → ℕ → ℕ
+bit_of masks number = bit_at (slice_index masks (number / 64)) (number % 64)
+
+-- All words that are accepted were handed on, have landed, and were taken.
+pub record IsIdle (lane : Lane) : Type 0 where
+  pub handed : lane.accepted ≤ lane.handed
+  pub landed : lane.handed ≤ lane.landed
+  pub taken : lane.landed ≤ lane.taken
+
+-- A channel whose bit is 0 is idle.
+pub record AreMarked (masks : List ℕ) (lanes : List Lane) : Type 0 where
+  pub size : length lanes < 64 * length masks
+  pub idle : (number : ℕ) (lane : Lane) → slice_get lanes number ≡ Some lane
+      → bit_of masks number ≡ 0 → IsIdle lane
+
+-- What holds of all components and their masks.
+pub record IsKept (all : ComponentsState) (masks : List ℕ) : Type 0 where
+  pub state : IsComponents all
+  pub marked : AreMarked masks all.lanes
