@@ -39,26 +39,33 @@ Judges-stopped old now first part view whole (Ends answer) took =
     λ next. took (λ value. part value next)
 Judges-stopped old now first part view whole Memory took = tt
 
--- What is handed on of a file that was read is what a task goes on with that reads and judges it.
-pub Judges-read : {X V E A : Type 0} (old now : Files) (file name : List ℕ) (bytes_of : V → List ℕ)
-    (text : V) (rule_of : E → Option BrokenRule) (view : X → A)
-    (told_by : List ℕ → Result A BrokenRule) (read : Result X E) (came : Result X Stop)
-    → Judges old now (text_file file name) bytes_of (Ok text)
-    → Reads rule_of view read (told_by (bytes_of text)) → HandsOn rule_of file read came
-    → Judges old now (judged_file file told_by name) view came
-Judges-read old now file name bytes_of text rule_of view told_by (Ok value) came took reads hands =
-    rw hands (λ next. rw reads at (took (λ bytes. judgement file (told_by bytes) next)))
-Judges-read old now file name bytes_of text rule_of view told_by (Err fault) (Ok value) took reads
-    hands = absurd hands
-Judges-read old now file name bytes_of text rule_of view told_by (Err fault) (Err (Ends answer))
-    took reads hands =
-    let told : told_by (bytes_of text) ≡ Err hands.0 = rw hands.1 at reads in
+-- What is handed on of a reader's answer is what a task goes on with that judges the bytes.
+pub Judges-told : {X E A : Type 0} (now : Files) (file : List ℕ) (rule_of : E → Option BrokenRule)
+    (view : X → A) (told : Result A BrokenRule) (read : Result X E) (came : Result X Stop)
+    → Reads rule_of view read told → HandsOn rule_of file read came
+    → Judges now now (judgement file told) view came
+Judges-told now file rule_of view told (Ok value) came reads hands =
+    rw (hands, reads) (λ next new answer answers. answers)
+Judges-told now file rule_of view told (Err fault) (Ok value) reads hands = absurd hands
+Judges-told now file rule_of view told (Err fault) (Err (Ends answer)) reads hands =
+    let broken : told ≡ Err hands.0 = rw hands.1 at reads in
     let refused : answer.status ≡ refused_status = rw hands.2 refl in
-    λ next. (rw (told, ← hands.2) at (took (λ bytes. judgement file (told_by bytes) next))) now
-    answer
+    λ next. rw (broken, ← hands.2)
     (IsAnswer-ends now now answer (omega (arith, refused)) (λ usage. omega (arith, refused, usage)))
-Judges-read old now file name bytes_of text rule_of view told_by (Err fault) (Err Memory) took reads
-    hands = tt
+Judges-told now file rule_of view told (Err fault) (Err Memory) reads hands = tt
+
+-- What comes of the bytes of a file that was read comes of the file.
+pub Judges-read : {X V A : Type 0} (old now : Files) (file name : List ℕ) (bytes_of : V → List ℕ)
+    (text : V) (told_by : List ℕ → Result A BrokenRule) (view : X → A) (came : Result X Stop)
+    → Judges old now (text_file file name) bytes_of (Ok text)
+    → Judges now now (judgement file (told_by (bytes_of text))) view came
+    → Judges old now (judged_file file told_by name) view came
+Judges-read old now file name bytes_of text told_by view (Ok value) took told =
+    λ next new answer answers. took (λ bytes. judgement file (told_by bytes) next) new answer
+    (told next new answer answers)
+Judges-read old now file name bytes_of text told_by view (Err (Ends answer)) took told =
+    λ next. took (λ bytes. judgement file (told_by bytes) next) now answer (told next)
+Judges-read old now file name bytes_of text told_by view (Err Memory) took told = tt
 
 -- What holds of what a reader gave holds of what is handed on.
 pub HandsOn-keeps : {X E : Type 0} (rule_of : E → Option BrokenRule) (file : List ℕ)

@@ -1,6 +1,9 @@
 mod AllocationLemmas
+mod DemoLemmas
 mod FileLemmas
 mod Listing
 mod PromiseLemmas
 mod Reading
+mod RunLemmas
 mod TaskLemmas
+mod TotalLemmas

@@ -4,20 +4,27 @@ pub mod Allocate
 pub mod App
 pub mod Check
 pub mod Chip
+pub mod Demo
 pub mod Server
+pub mod Simulate
 pub mod Slots
 pub mod Tables
 use Rattle.std.specs.Prelude.{ℕ, ◌≡◌, ◌≤◌, ⊤, List, [], ◌∷◌, Option, Some, None, codes}
 use Rattle.std.specs.Prelude.{if◌then◌else◌}
 use Rattle.std.specs.Str.{bytes_eq}
-use Rattle.aeth_base.specs.Limits.{max_path_delay, max_slots}
+use Rattle.aeth_accepted.specs.Inputs.{Inputs}
+use Rattle.aeth_base.specs.Limits.{max_cycles, max_path_delay, max_slots}
+use Rattle.aeth_demo.specs.Limits.{max_demo_number}
+use Rattle.aeth_report.specs.Log.{LogData}
 use Rattle.aeth_cli.specs.declared.commands.Command.{Command}
 use Rattle.aeth_cli.specs.declared.commands.Command.TheVariants as command
 use Rattle.aeth_cli.specs.Commands.Allocate.{allocate_command, allocate_task}
 use Rattle.aeth_cli.specs.Commands.App.{app_command, app_task}
 use Rattle.aeth_cli.specs.Commands.Check.{check_command, check_task}
 use Rattle.aeth_cli.specs.Commands.Chip.{chip_command, chip_task}
+use Rattle.aeth_cli.specs.Commands.Demo.{demo_command, demo_task}
 use Rattle.aeth_cli.specs.Commands.Server.{latency_job, server_command}
+use Rattle.aeth_cli.specs.Commands.Simulate.{simulate_command, simulate_task}
 use Rattle.aeth_cli.specs.Commands.Slots.{chosen_job, slots_command}
 use Rattle.aeth_cli.specs.Commands.Tables.{tables_command, tables_task}
 use Rattle.aeth_cli.specs.Job.{Job, usage}
@@ -35,6 +42,8 @@ command_of (name ∷ words) =
     else if bytes_eq name (codes "allocate") then allocate_command words
     else if bytes_eq name (codes "check") then check_command words
     else if bytes_eq name (codes "tables") then tables_command words
+    else if bytes_eq name (codes "simulate") then simulate_command words
+    else if bytes_eq name (codes "demo") then demo_command words
     else None
 
 -- The numbers of a command are in the ranges of its words.
@@ -47,28 +56,33 @@ HasRanges (command.App chip app) = ⊤
 HasRanges (command.Allocate chip app) = ⊤
 HasRanges (command.Check chip app plan) = ⊤
 HasRanges (command.Tables chip app plan name) = ⊤
+HasRanges (command.Simulate files cycles turn) = (1 ≤ cycles) × (cycles ≤ max_cycles)
+HasRanges (command.Demo number) = number ≤ max_demo_number
 
--- What a command does.
-abbrev pub task_of : Command → Task
-task_of (command.Slots need gap free) = ends (chosen_job need gap free)
-task_of (command.Server need links slots) = ends (latency_job need links slots)
-task_of (command.Chip chip) = chip_task chip
-task_of (command.App chip app) = app_task chip app
-task_of (command.Allocate chip app) = allocate_task chip app
-task_of (command.Check chip app plan) = check_task chip app plan
-task_of (command.Tables chip app plan name) = tables_task chip app plan name
+module _ (outcome : Inputs → LogData) where
+  -- What a command does, with the log that inputs give.
+  abbrev pub task_of : Command → Task
+  task_of (command.Slots need gap free) = ends (chosen_job need gap free)
+  task_of (command.Server need links slots) = ends (latency_job need links slots)
+  task_of (command.Chip chip) = chip_task chip
+  task_of (command.App chip app) = app_task chip app
+  task_of (command.Allocate chip app) = allocate_task chip app
+  task_of (command.Check chip app plan) = check_task chip app plan
+  task_of (command.Tables chip app plan name) = tables_task chip app plan name
+  task_of (command.Simulate files cycles turn) = simulate_task outcome files cycles
+  task_of (command.Demo number) = demo_task outcome number
 
--- What is asked for by a command, or by words that are none, where the contents on which it rests
--- are told.
-abbrev pub asked_job : (List ℕ → Option (List ℕ)) → Option Command → Option Job
-asked_job content None = Some usage
-asked_job content (Some command) = job_with content (task_of command)
+  -- What is asked for by a command, or by words that are none, where the contents on which it rests
+  -- are told.
+  abbrev pub asked_job : (List ℕ → Option (List ℕ)) → Option Command → Option Job
+  asked_job content None = Some usage
+  asked_job content (Some command) = job_with content (task_of command)
 
--- What the words of a command line ask for.
-abbrev pub job : (List ℕ → Option (List ℕ)) → List (List ℕ) → Option Job
-job content words = asked_job content (command_of words)
+  -- What the words of a command line ask for.
+  abbrev pub job : (List ℕ → Option (List ℕ)) → List (List ℕ) → Option Job
+  job content words = asked_job content (command_of words)
 
--- The answer to a command, or to words that are none.
-abbrev pub IsAnswerTo : Files → Files → Option Command → Job → Type 0
-IsAnswerTo old new None answer = answer ≡ usage
-IsAnswerTo old new (Some command) answer = IsAnswer old new (task_of command) answer
+  -- The answer to a command, or to words that are none.
+  abbrev pub IsAnswerTo : Files → Files → Option Command → Job → Type 0
+  IsAnswerTo old new None answer = answer ≡ usage
+  IsAnswerTo old new (Some command) answer = IsAnswer old new (task_of command) answer

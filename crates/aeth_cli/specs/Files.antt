@@ -5,6 +5,7 @@
 --   judged_file           a file that is read and judged
 --   chip_file, app_file   a chip file; an application file
 --   plan_file             a plan text
+--   words_file, receivers_file, switches_file      traces
 -- This project's own.
 use Rattle.std.specs.Prelude.{ℕ, nat_le, List, length, Result, Ok, Err, codes, if◌then◌else◌}
 use Rattle.aeth_app.specs.App.{AppData}
@@ -16,6 +17,13 @@ use Rattle.aeth_group.specs.Members.{groups_of}
 use Rattle.aeth_io.specs.Limits.{max_file_bytes}
 use Rattle.aeth_plan.specs.Plan.{PlanData}
 use Rattle.aeth_plan.specs.PlanText.{plan_of}
+use Rattle.aeth_trace.specs.Receivers.{receivers_of}
+use Rattle.aeth_trace.specs.Spans.{SpanData}
+use Rattle.aeth_trace.specs.Switches.{switches_of}
+use Rattle.aeth_trace.specs.Words.{words_of}
+use Rattle.aeth_trace.specs.declared.receivers.PullRow.{PullRow}
+use Rattle.aeth_trace.specs.declared.switches.SwitchRow.{SwitchRow}
+use Rattle.aeth_trace.specs.declared.words.WordRow.{WordRow}
 use Rattle.aeth_cli.specs.Refusal.{refused_file, too_long}
 use Rattle.aeth_cli.specs.Task.{Judging, ends, reads}
 
@@ -49,3 +57,15 @@ app_file chip name next = judged_file (codes "app") (app_of chip) name next
 abbrev pub plan_file : ChipData → AppData → List ℕ → Judging PlanData
 plan_file chip app name next =
     judged_file (codes "plan") (plan_of chip app (groups_of app)) name next
+
+-- A file of words for an application.
+abbrev pub words_file : AppData → List ℕ → Judging (List WordRow)
+words_file app name next = judged_file (codes "words") (words_of app) name next
+
+-- A file of receivers' rows for an application.
+abbrev pub receivers_file : AppData → List ℕ → Judging (List PullRow)
+receivers_file app name next = judged_file (codes "receivers") (receivers_of app) name next
+
+-- A file of switches for an application, whose switches take so long.
+abbrev pub switches_file : AppData → SpanData → List ℕ → Judging (List SwitchRow)
+switches_file app spans name next = judged_file (codes "switches") (switches_of app spans) name next

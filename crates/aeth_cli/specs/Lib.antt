@@ -10,5 +10,6 @@ pub mod Status
 pub mod Stop
 pub mod Task
 pub mod Text
+pub mod Totals
 pub mod Uses
 pub mod Words

@@ -2,14 +2,17 @@
 --
 -- The words are those after the program's name. What the clauses say of faults holds of every shelf
 -- and every pair of sinks. What they say of texts holds of each sink that tells what was written;
--- what they say of the job, where the shelf tells the contents on which it rests. Want of memory is
--- the one answer whose cause they leave open.
+-- what they say of the job, where the shelf tells the contents on which it rests. The job is that of
+-- a machine, which says what the log of a run is. Want of memory is the one answer whose cause they
+-- leave open.
 -- This project's own.
 use Rattle.std.specs.Prelude.{ℕ, ◌≡◌, ◌<◌, ◌≤◌, ◌⊎◌, List, Some, None}
+use Rattle.aeth_accepted.specs.Inputs.{Inputs}
 use Rattle.aeth_io.specs.Causes.{Rose}
 use Rattle.aeth_io.specs.Sink.{AppendsProperPrefix, appended}
 use Rattle.aeth_io.specs.declared.shelf.Shelf as shelf
 use Rattle.aeth_io.specs.declared.sink.Sink as sink
+use Rattle.aeth_report.specs.Log.{LogData}
 use Rattle.aeth_cli.specs.declared.commands.Command.{Command}
 use Rattle.aeth_cli.specs.Commands.{IsAnswerTo, command_of, job, task_of}
 use Rattle.aeth_cli.specs.Job.{Job, err_text, out_text}
@@ -18,21 +21,22 @@ use Rattle.aeth_cli.specs.Status.{memory_status, read_fault_status, usage_status
 use Rattle.aeth_cli.specs.Status.{write_fault_status}
 use Rattle.aeth_cli.specs.Task.{IsReadFault}
 
--- The program was run with these words over a shelf and two sinks, which are given by what they
--- tell, and ended with a status.
-pub record Promise {H O E : Type 0} (h : shelf.Ghosts H) (o : sink.Ghosts O) (e : sink.Ghosts E)
-    (words : List (List ℕ)) (old new : Places H O E) (status : ℕ) : Type 0 where
+-- The program was run with these words and a machine of this outcome over a shelf and two sinks,
+-- which are given by what they tell, and ended with a status.
+pub record Promise {H O E : Type 0} (outcome : Inputs → LogData) (h : shelf.Ghosts H)
+    (o : sink.Ghosts O) (e : sink.Ghosts E) (words : List (List ℕ)) (old new : Places H O E)
+    (status : ℕ) : Type 0 where
   -- The status is one of 0 to 6.
   pub statuses : status ≤ memory_status
   -- A status below that of a read fault is the status of the job.
   pub status_is : status < read_fault_status
-      → (asked : Job) → job (h.content old.shelf) words ≡ Some asked → status ≡ asked.status
+      → (asked : Job) → job outcome (h.content old.shelf) words ≡ Some asked → status ≡ asked.status
   -- Just the text of that job was written: to `out` where the job is done, else to `err`.
   pub out_is : status < read_fault_status
-      → (asked : Job) → job (h.content old.shelf) words ≡ Some asked
+      → (asked : Job) → job outcome (h.content old.shelf) words ≡ Some asked
       → o.written new.out ≡ appended (o.written old.out) (out_text asked)
   pub err_is : status < read_fault_status
-      → (asked : Job) → job (h.content old.shelf) words ≡ Some asked
+      → (asked : Job) → job outcome (h.content old.shelf) words ≡ Some asked
       → e.written new.err ≡ appended (e.written old.err) (err_text asked)
   -- The words alone decide whether they are a command.
   pub usage_only : status ≡ usage_status → command_of words ≡ None
@@ -40,13 +44,13 @@ pub record Promise {H O E : Type 0} (h : shelf.Ghosts H) (o : sink.Ghosts O) (e 
   -- judged before it was judged and not refused.
   pub read_fault : status ≡ read_fault_status
       → (command : Command) × (answer : Job) × (command_of words ≡ Some command)
-      × IsReadFault (files_of h old.shelf) (files_of h new.shelf) (task_of command) answer
+      × IsReadFault (files_of h old.shelf) (files_of h new.shelf) (task_of outcome command) answer
       × (e.written new.err ≡ appended (e.written old.err) answer.text)
       × (new.out ≡ old.out)
   -- A sink failed in this run: it has a proper prefix of its text, and the other has nothing.
   pub write_fault : status ≡ write_fault_status
       → (answer : Job)
-      × IsAnswerTo (files_of h old.shelf) (files_of h new.shelf) (command_of words) answer
+      × IsAnswerTo outcome (files_of h old.shelf) (files_of h new.shelf) (command_of words) answer
       × ((Rose (o.faults old.out) (o.faults new.out)
       × AppendsProperPrefix (o.written old.out) (o.written new.out) (out_text answer)
       × (new.err ≡ old.err))
@@ -60,5 +64,5 @@ pub record Promise {H O E : Type 0} (h : shelf.Ghosts H) (o : sink.Ghosts O) (e 
   pub complete : (Rose (o.faults old.out) (o.faults new.out) → ⊥)
       → (Rose (e.faults old.err) (e.faults new.err) → ⊥)
       → ((name : List ℕ) → Rose (h.faults old.shelf name) (h.faults new.shelf name) → ⊥)
-      → (asked : Job) → job (h.content old.shelf) words ≡ Some asked
+      → (asked : Job) → job outcome (h.content old.shelf) words ≡ Some asked
       → (status ≡ asked.status) ⊎ (status ≡ memory_status)

@@ -8,14 +8,18 @@ mod allocate;
 mod app;
 mod check;
 mod chip;
+mod demo;
 mod server;
+mod simulate;
 mod slots;
 mod tables;
 
 use crate::answer::{Answer, Stop};
+use crate::commands::simulate::RunFiles;
 use crate::words::FileName;
 use aeth_base::{Name, NoMemory};
 use aeth_io::Shelf;
+use aeth_machine::Machine;
 use aeth_slots::SlotSet;
 use std::alloc::Global;
 
@@ -64,6 +68,17 @@ pub enum Command<'a> {
         plan: FileName<'a>,
         name: Name,
     },
+    /// `simulate CHIP APP PLAN WORDS RECEIVERS SWITCHES CYCLES [TURN]`: what a run of so many cycles
+    /// shows. The components take their turns in the order that begins with the turn.
+    Simulate {
+        files: RunFiles<'a>,
+        cycles: u32,
+        turn: u32,
+    },
+    /// `demo N`: a large run that is made from a number, summed up.
+    Demo {
+        number: u32,
+    },
 }
 
 /// The command that the words are, if they are one.
@@ -80,16 +95,22 @@ fn command_of(words: &[String]) -> Option<Command<'_>>
         "allocate" => allocate::command(words),
         "check" => check::command(words),
         "tables" => tables::command(words),
+        "simulate" => simulate::command(words),
+        "demo" => demo::command(words),
         _ => None,
     }
 }
 
 /// The answer to the words.
-pub fn answer<H: Shelf>(alloc: Global, words: &[String], shelf: &mut H) -> Result<Answer, NoMemory>
-    ensures { IfOk result (IsAnswerTo (files_of H.Shelf shelf.old) (files_of H.Shelf shelf.new)
-        (command_of (map string_bytes words.now))) }
+pub fn answer<M: Machine, H: Shelf>(
+    alloc: Global,
+    words: &[String],
+    shelf: &mut H,
+) -> Result<Answer, NoMemory>
+    ensures { IfOk result (IsAnswerTo M.outcome (files_of H.Shelf shelf.old)
+        (files_of H.Shelf shelf.new) (command_of (map string_bytes words.now))) }
 {
-    match command_answer(alloc, words, shelf) {
+    match command_answer::<M, H>(alloc, words, shelf) {
         Ok(answer) => Ok(answer),
         Err(Stop::Ends(answer)) => Ok(answer),
         Err(Stop::Memory) => Err(NoMemory),
@@ -97,9 +118,13 @@ pub fn answer<H: Shelf>(alloc: Global, words: &[String], shelf: &mut H) -> Resul
 }
 
 /// What the words ask for, done, or what ends it before.
-fn command_answer<H: Shelf>(alloc: Global, words: &[String], shelf: &mut H) -> Result<Answer, Stop>
-    ensures { IfAnswer result (IsAnswerTo (files_of H.Shelf shelf.old) (files_of H.Shelf shelf.new)
-        (command_of (map string_bytes words.now))) }
+fn command_answer<M: Machine, H: Shelf>(
+    alloc: Global,
+    words: &[String],
+    shelf: &mut H,
+) -> Result<Answer, Stop>
+    ensures { IfAnswer result (IsAnswerTo M.outcome (files_of H.Shelf shelf.old)
+        (files_of H.Shelf shelf.new) (command_of (map string_bytes words.now))) }
 {
     let Some(command) = command_of(words) else {
         return Ok(Answer::usage(alloc)?);
@@ -119,5 +144,11 @@ fn command_answer<H: Shelf>(alloc: Global, words: &[String], shelf: &mut H) -> R
             plan,
             name,
         } => tables::answer(alloc, &chip, &app, &plan, &name, shelf),
+        Command::Simulate {
+            files,
+            cycles,
+            turn,
+        } => simulate::answer::<M, H>(alloc, &files, cycles, turn, shelf),
+        Command::Demo { number } => demo::answer::<M>(alloc, number),
     }
 }

@@ -1,11 +1,18 @@
 // Files that a command reads and judges.
 ghost use Rattle.aeth_app.specs.App.{IsAppOf};
-ghost use Rattle.aeth_cli.specs.Files.{app_file, chip_file, plan_file, text_file};
-ghost use Rattle.aeth_cli.specs.Places.{files_of};
+ghost use Rattle.aeth_app.specs.AppFile.{app_of};
+ghost use Rattle.aeth_chip.specs.ChipFile.{chip_of};
+ghost use Rattle.aeth_cli.specs.Files.{app_file, chip_file, judgement, plan_file, receivers_file};
+ghost use Rattle.aeth_cli.specs.Files.{switches_file, text_file, words_file};
+ghost use Rattle.aeth_cli.specs.Places.{Files, files_of};
 ghost use Rattle.aeth_cli.specs.Stop.{HandsOn, Judges};
 ghost use Rattle.aeth_group.specs.Members.{groups_of};
 ghost use Rattle.aeth_plan.specs.Plan.{IsPlanOf};
-ghost use Rattle.std.specs.Prelude.{◌≡◌, IfOk};
+ghost use Rattle.aeth_plan.specs.PlanText.{plan_of};
+ghost use Rattle.aeth_trace.specs.Receivers.{AreReceiversOf, receivers_of};
+ghost use Rattle.aeth_trace.specs.Switches.{AreSwitchesOf, switches_of};
+ghost use Rattle.aeth_trace.specs.Words.{AreWordsOf, words_of};
+ghost use Rattle.std.specs.Prelude.{◌≡◌, IfOk, codes, length};
 
 use crate::answer::{Answer, Stop};
 use crate::words::FileName;
@@ -15,6 +22,7 @@ use aeth_chip::{Chip, read_chip};
 use aeth_group::Groups;
 use aeth_io::{ReadFail, Shelf, read_all};
 use aeth_plan::{Plan, read_plan};
+use aeth_trace::{Receivers, Spans, Switches, Words, read_receivers, read_switches, read_words};
 use std::alloc::Global;
 
 /// How a chip file is called in texts.
@@ -25,6 +33,15 @@ const APP: &str = "app";
 
 /// How a plan text is called in texts.
 const PLAN: &str = "plan";
+
+/// How a file of words is called in texts.
+const WORDS: &str = "words";
+
+/// How a file of receivers' rows is called in texts.
+const RECEIVERS: &str = "receivers";
+
+/// How a file of switches is called in texts.
+const SWITCHES: &str = "switches";
 
 /// The bytes of a file, by its word in texts and its name on the shelf.
 fn read_file<H: Shelf>(
@@ -57,13 +74,77 @@ fn judged<T, F: Fault + Drop>(alloc: Global, file: &str, read: Result<T, F>) -> 
     }
 }
 
+/// The chip of a chip file's bytes.
+pub fn chip_in(alloc: Global, bytes: &[u8]) -> Result<Chip, Stop>
+    ensures { (now : Files) → Judges now now (judgement (codes "chip") (chip_of bytes.now))
+        (λ chip. chip) result }
+{
+    judged(alloc, CHIP, read_chip(alloc, bytes))
+}
+
+/// The application of an application file's bytes, for a chip.
+pub fn app_in(alloc: Global, chip: &Chip, bytes: &[u8]) -> Result<App, Stop>
+    ensures judges { (now : Files) → Judges now now
+        (judgement (codes "app") (app_of chip.now bytes.now)) (λ app. app) result }
+    ensures app { IfOk result (IsAppOf chip.now) }
+{
+    judged(alloc, APP, read_app(alloc, bytes, chip))
+}
+
+/// The plan of a plan text's bytes, for a chip and an application with its groups.
+fn plan_in(
+    alloc: Global,
+    chip: &Chip,
+    app: &App,
+    groups: &Groups,
+    bytes: &[u8],
+) -> Result<Plan, Stop>
+    requires { groups.now ≡ groups_of app.now }
+    ensures judges { (now : Files) → Judges now now
+        (judgement (codes "plan") (plan_of chip.now app.now (groups_of app.now) bytes.now))
+        (λ plan. plan) result }
+    ensures plan { IfOk result (IsPlanOf chip.now app.now groups.now) }
+{
+    judged(alloc, PLAN, read_plan(alloc, bytes, chip, app, groups))
+}
+
+/// The words of a file's bytes, for an application.
+pub fn words_in(alloc: Global, app: &App, bytes: &[u8]) -> Result<Words, Stop>
+    ensures judges { (now : Files) → Judges now now
+        (judgement (codes "words") (words_of app.now bytes.now)) (λ words. words) result }
+    ensures words { IfOk result (AreWordsOf app.now) }
+{
+    judged(alloc, WORDS, read_words(alloc, bytes, app))
+}
+
+/// The receivers' rows of a file's bytes, for an application.
+pub fn receivers_in(alloc: Global, app: &App, bytes: &[u8]) -> Result<Receivers, Stop>
+    ensures judges { (now : Files) → Judges now now
+        (judgement (codes "receivers") (receivers_of app.now bytes.now))
+        (λ receivers. receivers) result }
+    ensures receivers { IfOk result (AreReceiversOf app.now) }
+{
+    judged(alloc, RECEIVERS, read_receivers(alloc, bytes, app))
+}
+
+/// The switches of a file's bytes, for an application whose switches take so long.
+pub fn switches_in(alloc: Global, app: &App, spans: &Spans, bytes: &[u8]) -> Result<Switches, Stop>
+    requires { spans.now.uses ≡ length app.now.uses }
+    ensures judges { (now : Files) → Judges now now
+        (judgement (codes "switches") (switches_of app.now spans.now bytes.now))
+        (λ switches. switches) result }
+    ensures switches { IfOk result (AreSwitchesOf app.now spans.now) }
+{
+    judged(alloc, SWITCHES, read_switches(alloc, bytes, app, spans))
+}
+
 /// The chip of a file.
 pub fn read_chip_file<H: Shelf>(alloc: Global, name: &FileName, shelf: &mut H) -> Result<Chip, Stop>
     ensures { Judges (files_of H.Shelf shelf.old) (files_of H.Shelf shelf.new)
         (chip_file name.now) (λ chip. chip) result }
 {
     let bytes = read_file(alloc, CHIP, name, shelf)?;
-    judged(alloc, CHIP, read_chip(alloc, &bytes))
+    chip_in(alloc, &bytes)
 }
 
 /// The application of a file, for a chip.
@@ -78,7 +159,7 @@ pub fn read_app_file<H: Shelf>(
     ensures app { IfOk result (IsAppOf chip.now) }
 {
     let bytes = read_file(alloc, APP, name, shelf)?;
-    judged(alloc, APP, read_app(alloc, &bytes, chip))
+    app_in(alloc, chip, &bytes)
 }
 
 /// The plan of a text, for a chip and an application with its groups.
@@ -96,5 +177,52 @@ pub fn read_plan_file<H: Shelf>(
     ensures plan { IfOk result (IsPlanOf chip.now app.now groups.now) }
 {
     let bytes = read_file(alloc, PLAN, name, shelf)?;
-    judged(alloc, PLAN, read_plan(alloc, &bytes, chip, app, groups))
+    plan_in(alloc, chip, app, groups, &bytes)
+}
+
+/// The words of a file, for an application.
+pub fn read_words_file<H: Shelf>(
+    alloc: Global,
+    app: &App,
+    name: &FileName,
+    shelf: &mut H,
+) -> Result<Words, Stop>
+    ensures judges { Judges (files_of H.Shelf shelf.old) (files_of H.Shelf shelf.new)
+        (words_file app.now name.now) (λ words. words) result }
+    ensures words { IfOk result (AreWordsOf app.now) }
+{
+    let bytes = read_file(alloc, WORDS, name, shelf)?;
+    words_in(alloc, app, &bytes)
+}
+
+/// The receivers' rows of a file, for an application.
+pub fn read_receivers_file<H: Shelf>(
+    alloc: Global,
+    app: &App,
+    name: &FileName,
+    shelf: &mut H,
+) -> Result<Receivers, Stop>
+    ensures judges { Judges (files_of H.Shelf shelf.old) (files_of H.Shelf shelf.new)
+        (receivers_file app.now name.now) (λ receivers. receivers) result }
+    ensures receivers { IfOk result (AreReceiversOf app.now) }
+{
+    let bytes = read_file(alloc, RECEIVERS, name, shelf)?;
+    receivers_in(alloc, app, &bytes)
+}
+
+/// The switches of a file, for an application whose switches take so long.
+pub fn read_switches_file<H: Shelf>(
+    alloc: Global,
+    app: &App,
+    spans: &Spans,
+    name: &FileName,
+    shelf: &mut H,
+) -> Result<Switches, Stop>
+    requires { spans.now.uses ≡ length app.now.uses }
+    ensures judges { Judges (files_of H.Shelf shelf.old) (files_of H.Shelf shelf.new)
+        (switches_file app.now spans.now name.now) (λ switches. switches) result }
+    ensures switches { IfOk result (AreSwitchesOf app.now spans.now) }
+{
+    let bytes = read_file(alloc, SWITCHES, name, shelf)?;
+    switches_in(alloc, app, spans, &bytes)
 }

@@ -8,6 +8,7 @@ ghost use Rattle.std.specs.Process.{exit_status};
 use crate::program::run;
 use crate::status::Status;
 use aeth_io::{HostShelf, HostSink, Shelf, Sink};
+use aeth_machine::Machine;
 use std::alloc::Global;
 use std::io::ErrorKind;
 use std::process::ExitCode;
@@ -15,8 +16,9 @@ use std::rt::{Env, Files, Stderr, Stdout};
 use std::{env, io};
 
 /// Runs the command that the arguments after the program's name are, over the files of the host,
-/// and gives the exit code with which the program ends: the number of the status.
-pub fn start<R: Env + Files + AllocGlobal + Clone + Drop>(
+/// and gives the exit code with which the program ends: the number of the status. Runs are played by
+/// machines of the type `M`.
+pub fn start<M: Machine, R: Env + Files + AllocGlobal + Clone + Drop>(
     rt: &R,
     out: Stdout,
     err: Stderr,
@@ -36,23 +38,23 @@ pub fn start<R: Env + Files + AllocGlobal + Clone + Drop>(
     let mut shelf = HostShelf::new(files);
     let mut out = HostSink::new(out);
     let mut err = HostSink::new(err);
-    exit_code(rt.alloc(), &words, &mut shelf, &mut out, &mut err)
+    exit_code::<M, _, _, _>(rt.alloc(), &words, &mut shelf, &mut out, &mut err)
 }
 
 /// Runs a command, and gives the status with which it ends as an exit code.
-fn exit_code<H: Shelf, O: Sink, E: Sink>(
+fn exit_code<M: Machine, H: Shelf, O: Sink, E: Sink>(
     alloc: Global,
     words: &[String],
     shelf: &mut H,
     out: &mut O,
     err: &mut E,
 ) -> ExitCode
-    ensures promise { Promise H.Shelf O.Sink E.Sink (map string_bytes words.now)
+    ensures promise { Promise M.outcome H.Shelf O.Sink E.Sink (map string_bytes words.now)
         (record { shelf = shelf.old; out = out.old; err = err.old })
         (record { shelf = shelf.new; out = out.new; err = err.new }) (exit_status result) }
     ensures status { exit_status result ≤ memory_status }
 {
-    ExitCode::from(run(alloc, words, shelf, out, err))
+    ExitCode::from(run::<M, H, O, E>(alloc, words, shelf, out, err))
 }
 
 fn out_of_memory() -> ExitCode

@@ -11,22 +11,24 @@ use crate::answer::Answer;
 use crate::commands::answer;
 use crate::status::Status;
 use aeth_io::{Failed, Shelf, Sink, write_all};
+use aeth_machine::Machine;
 use std::alloc::Global;
 
 /// Does what the words ask for, reads files from the shelf, writes its text to `out` or `err`, and
-/// gives the status with which the program ends. The words are those after the program's name.
-pub fn run<H: Shelf, O: Sink, E: Sink>(
+/// gives the status with which the program ends. The words are those after the program's name. Runs
+/// are played by machines of the type `M`.
+pub fn run<M: Machine, H: Shelf, O: Sink, E: Sink>(
     alloc: Global,
     words: &[String],
     shelf: &mut H,
     out: &mut O,
     err: &mut E,
 ) -> u8
-    ensures { Promise H.Shelf O.Sink E.Sink (map string_bytes words.now)
+    ensures { Promise M.outcome H.Shelf O.Sink E.Sink (map string_bytes words.now)
         (record { shelf = shelf.old; out = out.old; err = err.old })
         (record { shelf = shelf.new; out = out.new; err = err.new }) result }
 {
-    let Ok(answer) = answer(alloc, words, shelf) else {
+    let Ok(answer) = answer::<M, H>(alloc, words, shelf) else {
         return Status::Memory.number();
     };
     match write_answer(&answer, out, err) {

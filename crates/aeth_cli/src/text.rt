@@ -26,6 +26,13 @@ pub fn push_slots(text: &mut Vec<u8>, set: &SlotSet) -> Result<(), NoMemory>
 pub fn push_count(text: &mut Vec<u8>, label: &str, count: u32) -> Result<(), NoMemory>
     ensures { OnOk result (text.new.items ≡ text.old.items ++ label.now ++ decimal count) }
 {
+    push_total(text, label, u64::from(count))
+}
+
+/// Appends a label and a total.
+pub fn push_total(text: &mut Vec<u8>, label: &str, total: u64) -> Result<(), NoMemory>
+    ensures { OnOk result (text.new.items ≡ text.old.items ++ label.now ++ decimal total) }
+{
     text.extend_from_slice(label.as_bytes())?;
-    push_number(text, u64::from(count))
+    push_number(text, total)
 }

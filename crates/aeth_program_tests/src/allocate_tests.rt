@@ -148,7 +148,7 @@ fn design_shelf(alloc: Global, chip: &str, app: &str, plan: &str) -> Result<MemS
 }
 
 /// The plan that `allocate` prints.
-fn planned(alloc: Global, chip: &str, app: &str) -> Result<String, Fail> {
+pub(crate) fn planned(alloc: Global, chip: &str, app: &str) -> Result<String, Fail> {
     let mut shelf = design_shelf(alloc, chip, app, "")?;
     let said = said(alloc, "allocate chip app", &mut shelf)?;
     let plan = said.strip_prefix("0 out ").ok_or("a plan")?;

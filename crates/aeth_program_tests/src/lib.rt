@@ -10,6 +10,8 @@ mod check_tests;
 #[cfg(test)]
 mod chip_tests;
 #[cfg(test)]
+mod demo_tests;
+#[cfg(test)]
 mod designs;
 #[cfg(test)]
 mod fault_tests;
@@ -20,6 +22,10 @@ mod rows;
 #[cfg(test)]
 mod runs;
 #[cfg(test)]
+mod simulate_tests;
+#[cfg(test)]
 mod tables_tests;
 #[cfg(test)]
 mod video;
+#[cfg(test)]
+mod video_run_tests;

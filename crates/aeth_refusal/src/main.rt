@@ -2,8 +2,9 @@
 #![tactic(auto)]
 
 use aeth_cli::start;
+use aeth_sim::Network;
 use std::process::ExitCode;
 
 fn main(rt: HostRuntime) -> ExitCode {
-    start(&rt, rt.stdout(), rt.stderr())
+    start::<Network, _>(&rt, rt.stdout(), rt.stderr())
 }

@@ -70,7 +70,7 @@ fn allocated(alloc: Global, chip: &Chip, app: &App) -> Result<Answer, NoMemory>
 }
 
 /// A line for each refused unit.
-fn refusals(alloc: Global, app: &App, refused: &[Refused]) -> Result<Vec<u8>, NoMemory>
+pub fn refusals(alloc: Global, app: &App, refused: &[Refused]) -> Result<Vec<u8>, NoMemory>
     ensures { IfOk result (λ text. text.items ≡ refusals_text app.now refused.now) }
 {
     let mut text = Vec::new(alloc);

@@ -1,12 +1,10 @@
 use Rattle.std.specs.Prelude.{ℕ, Vec, codes}
 use Rattle.std.specs.Global.{Global}
 use Rattle.std.proofs.lemmas.Result.{err_from_is_err_and}
-use Rattle.aeth_app.specs.App.{IsAppOf}
 use Rattle.aeth_app.specs.AppFile.{app_of}
-use Rattle.aeth_app.specs.Fault.{rule_of}
 use Rattle.aeth_cli.specs.Files.{judgement, text_file}
 use Rattle.aeth_cli.specs.Places.{files_of}
-use Rattle.aeth_cli.proofs.FileLemmas.{HandsOn-keeps, Judges-read, Judges-stopped}
+use Rattle.aeth_cli.proofs.FileLemmas.{Judges-read, Judges-stopped}
 use Rattle.aeth_cli.proofs.files.read_app_file.Goals as goal
 
 -- The file can't be read, or is too long.
@@ -22,13 +20,8 @@ returns-in_err-bytes-clause-judges g c =
 -- The file was read, and is judged.
 pub returns-clause-judges : goal.returns-clause-judges
 returns-clause-judges g c =
-    Judges-read (files_of g.H.Shelf c.args.shelf.now) (files_of g.H.Shelf c.read_file.new.shelf)
-    (codes "app") c.args.name.now (λ (bytes : Vec ℕ Global). bytes.items) c.in_ok-bytes.bytes
-    rule_of (λ app. app) (app_of c.args.chip.now) c.read_app.result c.judged.result
-    c.in_ok-bytes.ensures (rw c.deref.ensures.value at c.read_app.ensures.gives) c.judged.ensures
-
--- What is handed on is an application for the chip.
-pub returns-clause-app : goal.returns-clause-app
-returns-clause-app g c =
-    HandsOn-keeps rule_of (codes "app") (IsAppOf c.args.chip.now) c.read_app.result c.judged.result
-    c.read_app.ensures.chip c.judged.ensures
+    let now = files_of g.H.Shelf c.read_file.new.shelf in
+    Judges-read (files_of g.H.Shelf c.args.shelf.now) now (codes "app") c.args.name.now
+    (λ (bytes : Vec ℕ Global). bytes.items) c.in_ok-bytes.bytes
+    (app_of c.args.chip.now) (λ app. app) c.app_in.result c.in_ok-bytes.ensures
+    ((rw c.deref.ensures.value at c.app_in.ensures.judges) now)

@@ -2,7 +2,6 @@ use Rattle.std.specs.Prelude.{ℕ, Vec, codes}
 use Rattle.std.specs.Global.{Global}
 use Rattle.std.proofs.lemmas.Result.{err_from_is_err_and}
 use Rattle.aeth_chip.specs.ChipFile.{chip_of}
-use Rattle.aeth_chip.specs.Faults.{rule_of}
 use Rattle.aeth_cli.specs.Files.{judgement, text_file}
 use Rattle.aeth_cli.specs.Places.{files_of}
 use Rattle.aeth_cli.proofs.FileLemmas.{Judges-read, Judges-stopped}
@@ -14,13 +13,15 @@ returns-in_err-bytes g c =
     let p = err_from_is_err_and c.from_residual.result c.from_residual.ensures.1 in
     rw (p.1, p.2)
     (Judges-stopped (files_of g.H.Shelf c.args.shelf.now) (files_of g.H.Shelf c.read_file.new.shelf)
-    (text_file (codes "chip") c.args.name.now) (λ bytes. judgement (codes "chip") (chip_of bytes))
+    (text_file (codes "chip") c.args.name.now)
+    (λ bytes. judgement (codes "chip") (chip_of bytes))
     (λ (bytes : Vec ℕ Global). bytes.items) (λ chip. chip) _ c.in_err-bytes.ensures)
 
 -- The file was read, and is judged.
 pub returns : goal.returns
 returns g c =
-    Judges-read (files_of g.H.Shelf c.args.shelf.now) (files_of g.H.Shelf c.read_file.new.shelf)
-    (codes "chip") c.args.name.now (λ (bytes : Vec ℕ Global). bytes.items) c.in_ok-bytes.bytes
-    rule_of (λ chip. chip) (chip_of) c.read_chip.result c.judged.result c.in_ok-bytes.ensures
-    (rw c.deref.ensures.value at c.read_chip.ensures) c.judged.ensures
+    let now = files_of g.H.Shelf c.read_file.new.shelf in
+    Judges-read (files_of g.H.Shelf c.args.shelf.now) now (codes "chip") c.args.name.now
+    (λ (bytes : Vec ℕ Global). bytes.items) c.in_ok-bytes.bytes
+    chip_of (λ chip. chip) c.chip_in.result c.in_ok-bytes.ensures
+    ((rw c.deref.ensures.value at c.chip_in.ensures) now)

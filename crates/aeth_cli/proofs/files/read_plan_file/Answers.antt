@@ -2,12 +2,10 @@ use Rattle.std.specs.Prelude.{ℕ, Vec, codes}
 use Rattle.std.specs.Global.{Global}
 use Rattle.std.proofs.lemmas.Result.{err_from_is_err_and}
 use Rattle.aeth_group.specs.Members.{groups_of}
-use Rattle.aeth_plan.specs.Plan.{IsPlanOf}
 use Rattle.aeth_plan.specs.PlanText.{plan_of}
-use Rattle.aeth_plan.specs.Refusals.{rule_of}
 use Rattle.aeth_cli.specs.Files.{judgement, text_file}
 use Rattle.aeth_cli.specs.Places.{files_of}
-use Rattle.aeth_cli.proofs.FileLemmas.{HandsOn-keeps, Judges-read, Judges-stopped}
+use Rattle.aeth_cli.proofs.FileLemmas.{Judges-read, Judges-stopped}
 use Rattle.aeth_cli.proofs.files.read_plan_file.Goals as goal
 
 -- The file can't be read, or is too long.
@@ -17,21 +15,14 @@ returns-in_err-bytes-clause-judges g c =
     rw (p.1, p.2)
     (Judges-stopped (files_of g.H.Shelf c.args.shelf.now) (files_of g.H.Shelf c.read_file.new.shelf)
     (text_file (codes "plan") c.args.name.now)
-    (λ bytes. judgement (codes "plan")
-    (plan_of c.args.chip.now c.args.app.now (groups_of c.args.app.now) bytes))
+    (λ bytes. judgement (codes "plan") (plan_of c.args.chip.now c.args.app.now (groups_of c.args.app.now) bytes))
     (λ (bytes : Vec ℕ Global). bytes.items) (λ plan. plan) _ c.in_err-bytes.ensures)
 
 -- The file was read, and is judged.
 pub returns-clause-judges : goal.returns-clause-judges
 returns-clause-judges g c =
-    Judges-read (files_of g.H.Shelf c.args.shelf.now) (files_of g.H.Shelf c.read_file.new.shelf)
-    (codes "plan") c.args.name.now (λ (bytes : Vec ℕ Global). bytes.items) c.in_ok-bytes.bytes
-    rule_of (λ plan. plan) (plan_of c.args.chip.now c.args.app.now (groups_of c.args.app.now))
-    c.read_plan.result c.judged.result c.in_ok-bytes.ensures
-    (rw (c.deref.ensures.value, c.requires) at c.read_plan.ensures.reads) c.judged.ensures
-
--- What is handed on is a plan for the chip and the application.
-pub returns-clause-plan : goal.returns-clause-plan
-returns-clause-plan g c =
-    HandsOn-keeps rule_of (codes "plan") (IsPlanOf c.args.chip.now c.args.app.now c.args.groups.now)
-    c.read_plan.result c.judged.result c.read_plan.ensures.plan c.judged.ensures
+    let now = files_of g.H.Shelf c.read_file.new.shelf in
+    Judges-read (files_of g.H.Shelf c.args.shelf.now) now (codes "plan") c.args.name.now
+    (λ (bytes : Vec ℕ Global). bytes.items) c.in_ok-bytes.bytes
+    (plan_of c.args.chip.now c.args.app.now (groups_of c.args.app.now)) (λ plan. plan) c.plan_in.result c.in_ok-bytes.ensures
+    ((rw c.deref.ensures.value at c.plan_in.ensures.judges) now)

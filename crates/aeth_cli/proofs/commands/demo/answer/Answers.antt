@@ -1,0 +1,13 @@
+use Rattle.std.proofs.Common.{subst}
+use Rattle.aeth_demo.specs.Texts.{TextsData}
+use Rattle.aeth_cli.specs.Commands.Demo.{texts_task}
+use Rattle.aeth_cli.specs.Stop.{IfAnswer}
+use Rattle.aeth_cli.specs.Task.{IsAnswer}
+use Rattle.aeth_cli.proofs.commands.demo.answer.Goals as goal
+
+-- The texts are those of the number.
+pub returns : goal.returns
+returns g c =
+    λ now. subst (λ (texts : TextsData). IfAnswer c.texts_answer.result
+    (IsAnswer now now (texts_task g.M.Machine.outcome c.args.n texts)))
+    c.in_ok-texts.ensures (c.texts_answer.ensures now)

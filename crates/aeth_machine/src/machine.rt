@@ -1,0 +1,92 @@
+// Machines.
+ghost use Rattle.std.specs.Prelude.{◌≡◌, ◌≤◌, ◌<◌, ℕ, IfOk, length};
+ghost use Rattle.aeth_accepted.specs.Inputs.{AreAccepted, Inputs};
+ghost use Rattle.aeth_group.specs.Members.{groups_of};
+ghost use Rattle.aeth_report.specs.Log.{LogData};
+ghost use Rattle.aeth_report.specs.Regular.{IsRegular};
+
+use aeth_app::App;
+use aeth_base::NoMemory;
+use aeth_chip::Chip;
+use aeth_clocked::Order;
+use aeth_group::Groups;
+use aeth_plan::Plan;
+use aeth_report::SimLog;
+use aeth_trace::{Receivers, Switches, Words};
+use std::alloc::Global;
+
+/// What a run is simulated with. A machine is made of the inputs of a run, plays all its cycles, and
+/// then gives the log.
+///
+/// Which log that is, the type says by its `outcome`. A caller who doesn't know the type learns the
+/// log of its inputs only by making a machine, playing it to its end and taking its result.
+pub trait Machine: Drop {
+    /// The log that inputs give.
+    ghost outcome: { Inputs → LogData };
+
+    /// The log that this machine gives.
+    ghost plays: { Self → LogData };
+
+    /// How many cycles it has still to play.
+    ghost left: { Self → ℕ };
+
+    /// How many components it has.
+    ghost count: { Self → ℕ };
+
+    /// The machine of accepted inputs, before the first of their cycles, of which there is one at
+    /// least. The groups are those of the application. It takes all memory of the run: `Err` where
+    /// there was none.
+    fn make(
+        alloc: Global,
+        chip: &Chip,
+        app: &App,
+        groups: &Groups,
+        plan: &Plan,
+        words: &Words,
+        receivers: &Receivers,
+        switches: &Switches,
+        cycles: u32,
+    ) -> Result<Self, NoMemory>
+        requires groups { groups.now ≡ groups_of app.now }
+        requires accepted { AreAccepted (record {
+          chip = chip.now;
+          app = app.now;
+          plan = plan.now;
+          words = words.now;
+          pulls = receivers.now;
+          switches = switches.now;
+          cycles = cycles;
+        }) }
+        requires some { 1 ≤ cycles }
+        ensures plays { IfOk result (λ machine. plays machine ≡ outcome (record {
+          chip = chip.now;
+          app = app.now;
+          plan = plan.now;
+          words = words.now;
+          pulls = receivers.now;
+          switches = switches.now;
+          cycles = cycles;
+        })) }
+        ensures left { IfOk result (λ machine. left machine ≡ cycles) }
+        ensures count { IfOk result (λ machine. 0 < count machine) };
+
+    /// The number of components, of which there is one at least.
+    fn components(&self) -> u32
+        ensures { result ≡ count self.now };
+
+    /// Plays all cycles that are left, each component in its place of the order.
+    fn play(&mut self, order: &Order)
+        requires { length order.now ≡ count self.old }
+        ensures left { left self.new ≡ 0 }
+        ensures plays { plays self.new ≡ plays self.old }
+        ensures count { count self.new ≡ count self.old };
+
+    /// The log, once no cycle is left.
+    fn result(self) -> SimLog
+        requires { left self ≡ 0 }
+        ensures { result ≡ plays self };
+
+    /// The log of accepted inputs is regular for their application.
+    ghost regular: { (inputs : Inputs) → AreAccepted inputs → 1 ≤ inputs.cycles
+        → IsRegular inputs.app (outcome inputs) };
+}

@@ -1,0 +1,13 @@
+mod CycleLemmas
+mod Cycling
+mod FirstComponents
+mod FirstGoings
+mod FirstNetwork
+mod FitLemmas
+mod Lanes
+mod Passed
+mod Playing
+mod Replaced
+mod RowLemmas
+mod Stepping
+mod TellingLemmas

@@ -1,0 +1,12 @@
+use Rattle.std.proofs.Common.{◌≡◌, fold, take}
+use Rattle.aeth_running.specs.Network.{gone_with, until_with}
+use Rattle.aeth_sim.proofs.giving.start.Given as goal
+
+-- The sessions so far have gone.
+abbrev pub invariant-loop-going : goal.invariant-loop-going
+invariant-loop-going l = record {
+  components : l.components ≡ record l.fn.components {
+    lanes = fold gone_with l.fn.components.lanes (take l.going-index l.goings);
+  };
+  untils : l.untils ≡ fold until_with l.fn.untils (take l.going-index l.goings);
+}

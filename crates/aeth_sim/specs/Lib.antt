@@ -1,0 +1,4 @@
+pub mod Cursors
+pub mod Fits
+pub mod Records
+pub mod Telling

@@ -1,0 +1,12 @@
+//! A network, cycle by cycle, and the log of its run.
+#![tactic(auto)]
+
+mod giving;
+mod logging;
+mod machine;
+mod network;
+mod places;
+mod rows;
+mod telling;
+
+pub use network::{Network, simulate};

@@ -1,0 +1,61 @@
+// The network as a machine.
+
+ghost use Rattle.std.specs.Prelude.{◌-◌, length};
+ghost use Rattle.aeth_accepted.specs.Inputs.{run_of};
+ghost use Rattle.aeth_report.specs.RunLog.{log_of};
+ghost use Rattle.aeth_running.specs.Network.{played};
+ghost use Rattle.aeth_running.specs.Told.{told};
+ghost use Rattle.aeth_running.proofs.RegularRuns.{runs_are_regular};
+
+use crate::network::{Network, simulate};
+use aeth_app::App;
+use aeth_base::NoMemory;
+use aeth_chip::Chip;
+use aeth_clocked::Order;
+use aeth_group::Groups;
+use aeth_machine::Machine;
+use aeth_plan::Plan;
+use aeth_report::SimLog;
+use aeth_trace::{Receivers, Switches, Words};
+use std::alloc::Global;
+
+impl Machine for Network {
+    ghost outcome = { λ inputs. log_of (run_of inputs) };
+
+    ghost plays = { λ m. told (played (m.log.cycles - m.time) m) };
+
+    ghost left = { λ m. m.log.cycles - m.time };
+
+    ghost count = { λ m. length m.components.parts };
+
+    fn make(
+        alloc: Global,
+        chip: &Chip,
+        app: &App,
+        groups: &Groups,
+        plan: &Plan,
+        words: &Words,
+        receivers: &Receivers,
+        switches: &Switches,
+        cycles: u32,
+    ) -> Result<Network, NoMemory> {
+        aeth_running::laws::networks_log();
+        Network::new(
+            alloc, chip, app, groups, plan, words, receivers, switches, cycles,
+        )
+    }
+
+    fn components(&self) -> u32 {
+        self.parts()
+    }
+
+    fn play(&mut self, order: &Order) {
+        simulate(self, order);
+    }
+
+    fn result(self) -> SimLog {
+        self.log()
+    }
+
+    ghost regular = { λ inputs accepted some. runs_are_regular inputs accepted };
+}
