@@ -1,5 +1,6 @@
 -- Laws of the turns that idle channels need not take.
-use Rattle.std.proofs.Common.{ℕ, zero, suc, ◌≡◌, ◌≢◌, ◌<◌, ◌≤◌, ◌+◌, ◌-◌, ◌*◌, ◌∙◌, refl, sym, ap, arith}
+use Rattle.std.proofs.Common.{ℕ, zero, suc, ◌≡◌, ◌≢◌, ◌<◌, ◌≤◌, ◌+◌, ◌-◌, ◌*◌, ◌∙◌}
+use Rattle.std.proofs.Common.{refl, sym, ap, arith}
 use Rattle.std.proofs.Common.{inl, inr, subst, List, [], ◌∷◌, ◌++◌, drop, fold, get_or, length}
 use Rattle.std.proofs.Common.{length-set, map, set, take, Option, Some, None, slice_get}
 use Rattle.std.specs.List.{range_with_len}
@@ -14,7 +15,7 @@ use Rattle.aeth_base.proofs.Ranges.{range_with_len-more}
 use Rattle.aeth_router.specs.declared.part.Part.{Part}
 use Rattle.aeth_components.specs.declared.lane.Lane.{Lane}
 use Rattle.aeth_components.proofs.CountingLemmas.{map-ahead, map-more}
-use Rattle.aeth_components.specs.Busy.{AreMarked, IsIdle, bit_of}
+use Rattle.aeth_components.specs.Busy.{AreMarked, IsIdle, IsQuiet, bit_of}
 use Rattle.aeth_components.specs.Phases.{Moment, turned, turned_at, turned_by}
 
 -- The channel at a place.
@@ -32,10 +33,11 @@ set-there lanes number lane at =
     ∙ set-get_or lanes number lane
 
 -- A channel has changed: the masks mark as before, where it is idle if it was.
-pub AreMarked-set : (masks : List ℕ) (lanes : List Lane) (number : ℕ) (lane new : Lane)
-    → slice_get lanes number ≡ Some lane → (IsIdle lane → IsIdle new) → AreMarked masks lanes
-    → AreMarked masks (set lanes number new)
-AreMarked-set masks lanes number lane new at still marked =
+pub AreMarked-set : {IsStill : Lane → Type 0} (masks : List ℕ) (lanes : List Lane) (number : ℕ)
+    (lane new : Lane)
+    → slice_get lanes number ≡ Some lane → (IsStill lane → IsStill new) → AreMarked IsStill masks lanes
+    → AreMarked IsStill masks (set lanes number new)
+AreMarked-set {IsStill = IsStill} masks lanes number lane new at still marked =
     let within = slice_get_within lanes number lane at in
     let same = length-set lanes number new in
     record {
@@ -46,7 +48,7 @@ AreMarked-set masks lanes number lane new at still marked =
             same_Some new found
             (sym (slice_get-slice_set_same lanes number new within)
             ∙ ap (slice_get (set lanes number new)) (sym here) ∙ there) in
-            subst IsIdle is
+            subst IsStill is
             (still (marked.idle number lane at (ap (bit_of masks) (sym here) ∙ bit)))
         | inr apart ↦
             marked.idle other found
@@ -55,16 +57,17 @@ AreMarked-set masks lanes number lane new at still marked =
     }
 
 -- A channel is marked no more, which is idle.
-pub AreMarked-unmarked : (old new : List ℕ) (lanes : List Lane) (number : ℕ) (lane : Lane)
-    → slice_get lanes number ≡ Some lane → IsIdle lane → length new ≡ length old
+pub AreMarked-unmarked : {IsStill : Lane → Type 0} (old new : List ℕ) (lanes : List Lane)
+    (number : ℕ) (lane : Lane)
+    → slice_get lanes number ≡ Some lane → IsStill lane → length new ≡ length old
     → ((other : ℕ) → other ≢ number → bit_of new other ≡ bit_of old other)
-    → AreMarked old lanes → AreMarked new lanes
-AreMarked-unmarked old new lanes number lane at idle same away marked =
+    → AreMarked IsStill old lanes → AreMarked IsStill new lanes
+AreMarked-unmarked {IsStill = IsStill} old new lanes number lane at idle same away marked =
     record {
       size = (let size = marked.size in omega arith);
       idle = λ other found there bit. elim (cases_eq other number) [
         | inl here ↦
-            subst IsIdle
+            subst IsStill
             (same_Some lane found (sym at ∙ ap (slice_get lanes) (sym here) ∙ there)) idle
         | inr apart ↦ marked.idle other found there (sym (away other apart) ∙ bit)
       ];
@@ -78,17 +81,31 @@ pub AreMarked-settled : (old new : List ℕ) (lanes : List Lane) (number : ℕ) 
     → (get_or lanes number default).landed ≤ (get_or lanes number default).taken
     → length new ≡ length old
     → ((other : ℕ) → other ≢ number → bit_of new other ≡ bit_of old other)
-    → AreMarked old lanes → AreMarked new lanes
+    → AreMarked IsIdle old lanes → AreMarked IsIdle new lanes
 AreMarked-settled old new lanes number default within handed landed taken =
     AreMarked-unmarked old new lanes number (get_or lanes number default)
     (slice_get-get_or lanes number default within)
     (record { handed = handed; landed = landed; taken = taken })
 
+-- And where it is quiet as it is read.
+pub AreMarked-hushed : (old new : List ℕ) (lanes : List Lane) (number : ℕ) (default : Lane)
+    → number < length lanes
+    → (get_or lanes number default).accepted ≤ (get_or lanes number default).handed
+    → (get_or lanes number default).landed ≤ (get_or lanes number default).taken
+    → length new ≡ length old
+    → ((other : ℕ) → other ≢ number → bit_of new other ≡ bit_of old other)
+    → AreMarked IsQuiet old lanes → AreMarked IsQuiet new lanes
+AreMarked-hushed old new lanes number default within handed taken =
+    AreMarked-unmarked old new lanes number (get_or lanes number default)
+    (slice_get-get_or lanes number default within)
+    (record { handed = handed; taken = taken })
+
 -- A channel is marked, and may be another.
-pub AreMarked-marked : (old new : List ℕ) (lanes : List Lane) (number : ℕ) (lane : Lane)
+pub AreMarked-marked : {IsStill : Lane → Type 0} (old new : List ℕ) (lanes : List Lane) (number : ℕ)
+    (lane : Lane)
     → length new ≡ length old → bit_of new number ≡ 1
     → ((other : ℕ) → other ≢ number → bit_of new other ≡ bit_of old other)
-    → AreMarked old lanes → AreMarked new (set lanes number lane)
+    → AreMarked IsStill old lanes → AreMarked IsStill new (set lanes number lane)
 AreMarked-marked old new lanes number lane same here away marked =
     let sized = length-set lanes number lane in
     record {
@@ -103,9 +120,10 @@ AreMarked-marked old new lanes number lane same here away marked =
     }
 
 -- Where each is marked, none need be idle.
-pub AreMarked-all : (masks : List ℕ) (lanes : List Lane) → length lanes < 64 * length masks
+pub AreMarked-all : {IsStill : Lane → Type 0} (masks : List ℕ) (lanes : List Lane)
+    → length lanes < 64 * length masks
     → ((number : ℕ) → number < 64 * length masks → bit_of masks number ≡ 1)
-    → AreMarked masks lanes
+    → AreMarked IsStill masks lanes
 AreMarked-all masks lanes size all =
     record {
       size = size;
@@ -114,12 +132,12 @@ AreMarked-all masks lanes size all =
           absurd (omega (arith, bit, all number (omega arith)));
     }
 
-module _ (turn : List Part → Lane → List Part × Lane)
-    (still : (parts : List Part) (lane : Lane) → IsIdle lane → turn parts lane ≡ (parts, lane)) where
+module _ {IsStill : Lane → Type 0} (turn : List Part → Lane → List Part × Lane)
+    (still : (parts : List Part) (lane : Lane) → IsStill lane → turn parts lane ≡ (parts, lane)) where
   -- A channel that is idle is left alone.
   turned-idle : (moment : Moment) (number : ℕ) (found : Option Lane)
       → slice_get moment.lanes number ≡ found
-      → ((lane : Lane) → found ≡ Some lane → IsIdle lane) → turned turn moment number ≡ moment
+      → ((lane : Lane) → found ≡ Some lane → IsStill lane) → turned turn moment number ≡ moment
   turned-idle moment number None at idle = ap (turned_at turn moment number) at
   turned-idle moment number (Some lane) at idle =
       ap (turned_at turn moment number) at
@@ -129,7 +147,7 @@ module _ (turn : List Part → Lane → List Part × Lane)
 
   -- Turns of channels that are idle change nothing.
   turns-skipped : (masks : List ℕ) (before now : Moment) (number gap : ℕ)
-      → now ≡ fold (turned turn) before (range_with_len 0 number) → AreMarked masks now.lanes
+      → now ≡ fold (turned turn) before (range_with_len 0 number) → AreMarked IsStill masks now.lanes
       → ((other : ℕ) → number ≤ other → other < number + gap → bit_of masks other ≡ 0)
       → now ≡ fold (turned turn) before (range_with_len 0 (number + gap))
   turns-skipped masks before now number zero so_far marked none =
@@ -149,7 +167,7 @@ module _ (turn : List Part → Lane → List Part × Lane)
 
   -- So do those up to the next channel that is marked.
   pub turns-until : (masks : List ℕ) (before now : Moment) (number next : ℕ) → number ≤ next
-      → now ≡ fold (turned turn) before (range_with_len 0 number) → AreMarked masks now.lanes
+      → now ≡ fold (turned turn) before (range_with_len 0 number) → AreMarked IsStill masks now.lanes
       → ((other : ℕ) → number ≤ other → other < next → bit_of masks other ≡ 0)
       → now ≡ fold (turned turn) before (range_with_len 0 next)
   turns-until masks before now number next order so_far marked none =
@@ -161,18 +179,35 @@ module _ (turn : List Part → Lane → List Part × Lane)
   -- The masks mark as before, once a channel had its turn.
   pub AreMarked-turned : (masks : List ℕ) (now : Moment) (number : ℕ) (lane : Lane)
       (done : List Part × Lane) → slice_get now.lanes number ≡ Some lane
-      → done ≡ turn now.parts lane → AreMarked masks now.lanes
-      → AreMarked masks (turned_by now number done).lanes
+      → done ≡ turn now.parts lane → AreMarked IsStill masks now.lanes
+      → AreMarked IsStill masks (turned_by now number done).lanes
   AreMarked-turned masks now number lane done at did marked =
       AreMarked-set masks now.lanes number lane done.1 at
-      (λ idle. subst IsIdle
+      (λ idle. subst IsStill
       (sym (ap (λ (pair : List Part × Lane). pair.1) (did ∙ still now.parts lane idle))) idle)
       marked
 
+  -- So once all channels had theirs.
+  AreMarked-turned_at : (masks : List ℕ) (now : Moment) (number : ℕ) (found : Option Lane)
+      → slice_get now.lanes number ≡ found → AreMarked IsStill masks now.lanes
+      → AreMarked IsStill masks (turned_at turn now number found).lanes
+  AreMarked-turned_at masks now number None at marked = marked
+  AreMarked-turned_at masks now number (Some lane) at marked =
+      AreMarked-turned masks now number lane (turn now.parts lane) at refl marked
+
+  pub AreMarked-turns : (masks : List ℕ) (numbers : List ℕ) (now : Moment)
+      → AreMarked IsStill masks now.lanes
+      → AreMarked IsStill masks (fold (turned turn) now numbers).lanes
+  AreMarked-turns masks [] now marked = marked
+  AreMarked-turns masks (number ∷ numbers) now marked =
+      AreMarked-turns masks numbers (turned turn now number)
+      (AreMarked-turned_at masks now number (slice_get now.lanes number) refl marked)
+
 -- The places of a list up to the next channel that is marked map to what they are.
-module _ (f : Lane → Lane) (still : (lane : Lane) → IsIdle lane → f lane ≡ lane) where
+module _ {IsStill : Lane → Type 0} (f : Lane → Lane)
+    (still : (lane : Lane) → IsStill lane → f lane ≡ lane) where
   maps-skipped : (masks : List ℕ) (lanes now : List Lane) (number gap : ℕ)
-      → now ≡ map f (take number lanes) ++ drop number lanes → AreMarked masks lanes
+      → now ≡ map f (take number lanes) ++ drop number lanes → AreMarked IsStill masks lanes
       → number + gap ≤ length lanes
       → ((other : ℕ) → number ≤ other → other < number + gap → bit_of masks other ≡ 0)
       → now ≡ map f (take (number + gap) lanes) ++ drop (number + gap) lanes
@@ -196,7 +231,7 @@ module _ (f : Lane → Lane) (still : (lane : Lane) → IsIdle lane → f lane �
       ∙ ap (λ n. map f (take n lanes) ++ drop n lanes) next
 
   pub maps-until : (masks : List ℕ) (lanes now : List Lane) (number next : ℕ) → number ≤ next
-      → now ≡ map f (take number lanes) ++ drop number lanes → AreMarked masks lanes
+      → now ≡ map f (take number lanes) ++ drop number lanes → AreMarked IsStill masks lanes
       → next ≤ length lanes
       → ((other : ℕ) → number ≤ other → other < next → bit_of masks other ≡ 0)
       → now ≡ map f (take next lanes) ++ drop next lanes
@@ -207,10 +242,10 @@ module _ (f : Lane → Lane) (still : (lane : Lane) → IsIdle lane → f lane �
       ∙ ap (λ n. map f (take n lanes) ++ drop n lanes) there
 
 -- Their landings are noted already.
-module _ (note : List ℕ → Lane → List ℕ)
-    (still : (landings : List ℕ) (lane : Lane) → IsIdle lane → note landings lane ≡ landings) where
+module _ {IsStill : Lane → Type 0} (note : List ℕ → Lane → List ℕ)
+    (still : (landings : List ℕ) (lane : Lane) → IsStill lane → note landings lane ≡ landings) where
   notes-skipped : (masks : List ℕ) (lanes : List Lane) (before now : List ℕ) (number gap : ℕ)
-      → now ≡ fold note before (take number lanes) → AreMarked masks lanes
+      → now ≡ fold note before (take number lanes) → AreMarked IsStill masks lanes
       → number + gap ≤ length lanes
       → ((other : ℕ) → number ≤ other → other < number + gap → bit_of masks other ≡ 0)
       → now ≡ fold note before (take (number + gap) lanes)
@@ -235,7 +270,7 @@ module _ (note : List ℕ → Lane → List ℕ)
       ∙ ap (λ n. fold note before (take n lanes)) next
 
   pub notes-until : (masks : List ℕ) (lanes : List Lane) (before now : List ℕ) (number next : ℕ)
-      → number ≤ next → now ≡ fold note before (take number lanes) → AreMarked masks lanes
+      → number ≤ next → now ≡ fold note before (take number lanes) → AreMarked IsStill masks lanes
       → next ≤ length lanes
       → ((other : ℕ) → number ≤ other → other < next → bit_of masks other ≡ 0)
       → now ≡ fold note before (take next lanes)
@@ -246,10 +281,10 @@ module _ (note : List ℕ → Lane → List ℕ)
       ∙ ap (λ n. fold note before (take n lanes)) there
 
 -- Channels that are counted are marked as before.
-pub AreMarked-map : (masks : List ℕ) (f : Lane → Lane) (lanes : List Lane)
-    → ((lane : Lane) → IsIdle lane → f lane ≡ lane) → AreMarked masks lanes
-    → AreMarked masks (map f lanes)
-AreMarked-map masks f lanes still marked =
+pub AreMarked-map : {IsStill : Lane → Type 0} (masks : List ℕ) (f : Lane → Lane) (lanes : List Lane)
+    → ((lane : Lane) → IsStill lane → f lane ≡ lane) → AreMarked IsStill masks lanes
+    → AreMarked IsStill masks (map f lanes)
+AreMarked-map {IsStill = IsStill} masks f lanes still marked =
     let same = length-map lanes f in
     record {
       size = (let size = marked.size in omega arith);
@@ -261,5 +296,5 @@ AreMarked-map masks f lanes still marked =
           same_Some found (f there.0) (sym at ∙ slice_get-map f lanes number
           ∙ ap (option_map f) there.1)
           ∙ still there.0 idle in
-          subst IsIdle (sym is) idle;
+          subst IsStill (sym is) idle;
     }

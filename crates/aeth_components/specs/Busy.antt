@@ -1,7 +1,8 @@
 -- Which channels may have something to do, as masks of 64 channels each.
 --
 --   bit_of                     the bit of a channel
---   IsIdle, AreMarked          a channel with nothing to do, and masks that mark all others
+--   IsIdle, IsQuiet            a channel with nothing to do, and one with nothing to hand on or take
+--   AreMarked                  masks that mark all others
 --   IsKept                     what holds of components and their masks
 --
 -- This project's own.
@@ -21,13 +22,19 @@ pub record IsIdle (lane : Lane) : Type 0 where
   pub landed : lane.handed ≤ lane.landed
   pub taken : lane.landed ≤ lane.taken
 
--- A channel whose bit is 0 is idle.
-pub record AreMarked (masks : List ℕ) (lanes : List Lane) : Type 0 where
+-- All words that are accepted were handed on, and all that have landed were taken.
+pub record IsQuiet (lane : Lane) : Type 0 where
+  pub handed : lane.accepted ≤ lane.handed
+  pub taken : lane.landed ≤ lane.taken
+
+-- A channel whose bit is 0 is idle, or quiet.
+pub record AreMarked (IsStill : Lane → Type 0) (masks : List ℕ) (lanes : List Lane) : Type 0 where
   pub size : length lanes < 64 * length masks
   pub idle : (number : ℕ) (lane : Lane) → slice_get lanes number ≡ Some lane
-      → bit_of masks number ≡ 0 → IsIdle lane
+      → bit_of masks number ≡ 0 → IsStill lane
 
 -- What holds of all components and their masks.
-pub record IsKept (all : ComponentsState) (masks : List ℕ) : Type 0 where
+pub record IsKept (all : ComponentsState) (busy_masks active_masks : List ℕ) : Type 0 where
   pub state : IsComponents all
-  pub marked : AreMarked masks all.lanes
+  pub marked : AreMarked IsIdle busy_masks all.lanes
+  pub active : AreMarked IsQuiet active_masks all.lanes

@@ -4,7 +4,7 @@ ghost use Rattle.std.specs.Prelude.{◌≡◌, ◌≤◌, ◌<◌, ◌*◌, ◌+
 ghost use Rattle.std.specs.Prelude.{replicate, slice_get, slice_set};
 ghost use Rattle.aeth_base.specs.Limits.{max_cycles};
 ghost use Rattle.aeth_ni.specs.Limits.{queues_of_interface};
-ghost use Rattle.aeth_components.specs.Busy.{AreMarked};
+ghost use Rattle.aeth_components.specs.Busy.{AreMarked, IsIdle, IsQuiet};
 ghost use Rattle.aeth_components.specs.Changes.{switched};
 ghost use Rattle.aeth_components.specs.Components.{Cycle, first_components};
 ghost use Rattle.aeth_components.specs.Components.{Runs, frames_of, part_count};
@@ -38,6 +38,7 @@ pub struct Components {
     wires: Wires,
     lanes: Vec<Lane>,
     busy: Vec<u64>,
+    active: Vec<u64>,
     words: Vec<u32>,
     landings: Vec<u32>,
     flits: Vec<u32>,
@@ -53,7 +54,7 @@ impl Model for Components {
         all.landings.items all.flits.items };
 
     ghost invariant = { λ all. IsKept (components_of all.parts.items all.wires
-        all.lanes.items all.words.items all.landings.items all.flits.items) all.busy.items };
+        all.lanes.items all.words.items all.landings.items all.flits.items) all.busy.items all.active.items };
 }
 
 impl Components {
@@ -79,6 +80,7 @@ impl Components {
         let parts = parts_of(alloc, chip, rooms)?;
         let wires = Wires::new(alloc, chip.wires())?;
         let busy = all_marked(alloc, lanes.len())?;
+        let active = all_marked(alloc, lanes.len())?;
         let landings = vec![in alloc; 0; words.len()]?;
         let flits = vec![in alloc; 0; chip.links() as usize]?;
         Ok(Components {
@@ -86,6 +88,7 @@ impl Components {
             wires,
             lanes,
             busy,
+            active,
             words,
             landings,
             flits,
@@ -135,6 +138,7 @@ impl Components {
     {
         self.lanes[channel] = lane;
         mark(&mut self.busy, channel);
+        mark(&mut self.active, channel);
     }
 
     /// So many words of a channel's session are accepted.
@@ -183,6 +187,7 @@ impl Components {
             &mut self.wires,
             &mut self.lanes,
             &mut self.busy,
+            &mut self.active,
             &self.words,
             order,
             cycle,
@@ -192,6 +197,7 @@ impl Components {
             &self.parts,
             &mut self.lanes,
             &self.busy,
+            &mut self.active,
             &mut self.landings,
             cycle,
         );
@@ -205,6 +211,7 @@ fn run(
     wires: &mut Wires,
     lanes: &mut [Lane],
     busy: &mut [u64],
+    active: &mut [u64],
     words: &[u32],
     order: &Order,
     cycle: u32,
@@ -212,18 +219,20 @@ fn run(
 )
     requires wired { IsWired (map frame_of parts.old) (length wires.old) }
     requires lanes { All (IsLane (length words.now) (length parts.old)) lanes.old }
-    requires marked { AreMarked busy.old lanes.old }
+    requires marked { AreMarked IsIdle busy.old lanes.old }
+    requires active { AreMarked IsQuiet active.old lanes.old }
     requires order { length order.now ≡ length parts.old }
     requires events { All (IsDoable (map frame_of parts.old)) events.now }
     ensures runs { Runs words.now events.now cycle wires.old wires.new
         (record { parts = parts.old; lanes = lanes.old })
         (record { parts = parts.new; lanes = lanes.new }) }
     ensures lanes { All (IsLane (length words.now) (length parts.new)) lanes.new }
-    ensures marked { AreMarked busy.new lanes.new }
+    ensures marked { AreMarked IsIdle busy.new lanes.new }
+    ensures active { AreMarked IsQuiet active.new lanes.new }
 {
     switch(parts, events);
-    refill(parts, lanes, busy, words, cycle);
+    refill(parts, lanes, active, words, cycle);
     drive(parts, order, cycle, wires);
-    take(parts, lanes, busy, words, cycle);
+    take(parts, lanes, busy, active, words, cycle);
     latch(parts, order, wires);
 }

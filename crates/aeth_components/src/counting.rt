@@ -1,52 +1,64 @@
 // What is counted behind a cycle: the words that have landed, and the flits on links.
 
-ghost use Rattle.std.specs.Prelude.{◌≡◌, ◌<◌, ◌≤◌, ◌+◌, ◌^◌, All, fold, length, map};
-ghost use Rattle.aeth_components.specs.Busy.{AreMarked};
+ghost use Rattle.std.specs.Prelude.{◌≡◌, ◌<◌, ◌≤◌, ◌+◌, ◌^◌, All, false, fold, length, map};
+ghost use Rattle.aeth_components.specs.Busy.{AreMarked, IsIdle, IsQuiet};
 ghost use Rattle.aeth_components.specs.Counting.{counted, flits_counted, noted, written_over};
 ghost use Rattle.aeth_components.specs.Lanes.{IsLane};
 
-use crate::busy::next;
+use crate::busy::{mark, next};
 use crate::lane::Lane;
 use crate::parts::brought;
 use aeth_base::LinkId;
 use aeth_clocked::Wires;
 use aeth_router::Part;
 
-// Counts what has landed, and notes the cycle.
+// Counts what has landed, and notes the cycle. A channel of which words have landed is no longer
+// quiet.
 pub(crate) fn count(
     parts: &[Part],
     lanes: &mut [Lane],
     busy: &[u64],
+    active: &mut [u64],
     landings: &mut [u32],
     cycle: u32,
 )
     requires cycle { cycle + 1 < 2 ^ 32 }
     requires lanes { All (IsLane (length landings.old) (length parts.now)) lanes.old }
-    requires marked { AreMarked busy.now lanes.old }
+    requires marked { AreMarked IsIdle busy.now lanes.old }
+    requires active { AreMarked IsQuiet active.old lanes.old }
     ensures lanes { lanes.new ≡ map (counted cycle parts.now) lanes.old }
     ensures landings { landings.new ≡ fold (noted cycle parts.now) landings.old lanes.old }
+    ensures active { AreMarked IsQuiet active.new lanes.new }
 {
     let mut number = next(busy, 0, lanes.len());
     'turns: while number < lanes.len() {
-        count_one(parts, &mut lanes[number], landings, cycle);
+        if count_one(parts, &mut lanes[number], landings, cycle) {
+            mark(active, number);
+        }
         number = next(busy, number + 1, lanes.len());
     }
 }
 
-// Counts what has landed of one channel.
-fn count_one(parts: &[Part], lane: &mut Lane, landings: &mut [u32], cycle: u32)
+// Counts what has landed of one channel, and tells whether any has.
+fn count_one(parts: &[Part], lane: &mut Lane, landings: &mut [u32], cycle: u32) -> bool
     requires cycle { cycle + 1 < 2 ^ 32 }
     requires lane { IsLane (length landings.old) (length parts.now) lane.old }
     ensures lane { lane.new ≡ counted cycle parts.now lane.old }
     ensures landings { landings.new ≡ noted cycle parts.now landings.old lane.old }
+    ensures same { result ≡ false → lane.new ≡ lane.old }
 {
     if lane.landed < lane.handed && lane.is_open(cycle) {
         let part = &parts[lane.receiver.ni.0 as usize];
         let words = brought(part, lane.receiver.queue).min(lane.handed - lane.landed);
+        if words == 0 {
+            return false;
+        }
         let from = lane.first as usize + lane.landed as usize;
         note(landings, from, words, cycle + 1);
         lane.landed += words;
+        return true;
     }
+    false
 }
 
 // Notes a cycle at so many places.

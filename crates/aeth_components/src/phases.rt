@@ -1,7 +1,7 @@
 // The phases of a cycle that change single components: switching, refilling, and taking.
 
 ghost use Rattle.std.specs.Prelude.{◌≡◌, ◌<◌, ◌^◌, All, length, map};
-ghost use Rattle.aeth_components.specs.Busy.{AreMarked};
+ghost use Rattle.aeth_components.specs.Busy.{AreMarked, IsIdle, IsQuiet};
 ghost use Rattle.aeth_components.specs.Changes.{switched};
 ghost use Rattle.aeth_components.specs.Events.{IsDoable};
 ghost use Rattle.aeth_components.specs.Frames.{frame_of};
@@ -29,21 +29,21 @@ pub(crate) fn switch(parts: &mut [Part], events: &[Event])
 pub(crate) fn refill(
     parts: &mut [Part],
     lanes: &mut [Lane],
-    busy: &[u64],
+    active: &[u64],
     words: &[u32],
     cycle: u32,
 )
     requires lanes { All (IsLane (length words.now) (length parts.old)) lanes.old }
-    requires marked { AreMarked busy.now lanes.old }
+    requires marked { AreMarked IsQuiet active.now lanes.old }
     ensures turns { record { parts = parts.new; lanes = lanes.new }
         ≡ in_turn (refilled words.now cycle)
         (record { parts = parts.old; lanes = lanes.old }) }
-    ensures marked { AreMarked busy.now lanes.new }
+    ensures marked { AreMarked IsQuiet active.now lanes.new }
 {
-    let mut number = next(busy, 0, lanes.len());
+    let mut number = next(active, 0, lanes.len());
     'turns: while number < lanes.len() {
         refill_one(parts, &mut lanes[number], words, cycle);
-        number = next(busy, number + 1, lanes.len());
+        number = next(active, number + 1, lanes.len());
     }
 }
 
@@ -66,33 +66,49 @@ pub(crate) fn take(
     parts: &mut [Part],
     lanes: &mut [Lane],
     busy: &mut [u64],
+    active: &mut [u64],
     words: &[u32],
     cycle: u32,
 )
     requires lanes { All (IsLane (length words.now) (length parts.old)) lanes.old }
-    requires marked { AreMarked busy.old lanes.old }
+    requires marked { AreMarked IsIdle busy.old lanes.old }
+    requires active { AreMarked IsQuiet active.old lanes.old }
     ensures turns { record { parts = parts.new; lanes = lanes.new }
         ≡ in_turn (pulled cycle)
         (record { parts = parts.old; lanes = lanes.old }) }
-    ensures marked { AreMarked busy.new lanes.new }
+    ensures marked { AreMarked IsIdle busy.new lanes.new }
+    ensures active { AreMarked IsQuiet active.new lanes.new }
 {
-    let mut number = next(busy, 0, lanes.len());
+    let mut number = next(active, 0, lanes.len());
     'turns: while number < lanes.len() {
         take_one(parts, &mut lanes[number], words, cycle);
         settle(busy, lanes, number);
-        number = next(busy, number + 1, lanes.len());
+        hush(active, lanes, number);
+        number = next(active, number + 1, lanes.len());
     }
 }
 
 // Marks a channel no more where it is idle.
 fn settle(busy: &mut [u64], lanes: &[Lane], number: usize)
     requires number { number < length lanes.now }
-    requires marked { AreMarked busy.old lanes.now }
-    ensures { AreMarked busy.new lanes.now }
+    requires marked { AreMarked IsIdle busy.old lanes.now }
+    ensures { AreMarked IsIdle busy.new lanes.now }
 {
     let lane = &lanes[number];
     if lane.handed <= lane.landed && lane.landed <= lane.taken && lane.accepted <= lane.handed {
         unmark(busy, number);
+    }
+}
+
+// Marks a channel no more where it is quiet.
+fn hush(active: &mut [u64], lanes: &[Lane], number: usize)
+    requires number { number < length lanes.now }
+    requires marked { AreMarked IsQuiet active.old lanes.now }
+    ensures { AreMarked IsQuiet active.new lanes.now }
+{
+    let lane = &lanes[number];
+    if lane.landed <= lane.taken && lane.accepted <= lane.handed {
+        unmark(active, number);
     }
 }
 

@@ -1,10 +1,14 @@
 use Rattle.std.proofs.Common.{◌≡◌, ◌∙◌, List, ap, length, map, subst, sym}
+use Rattle.std.specs.List.{range_with_len}
 use Rattle.aeth_router.specs.declared.part.Part.{Part}
 use Rattle.aeth_components.proofs.components.run.Goals as goal
 use Rattle.aeth_components.proofs.components.run.Goals.{After-refill, After-drive, After-take, After-latch}
 use Rattle.aeth_components.proofs.CycleLemmas.{IsLane-Sound, IsWired-Sound, Sound, Sound-away}
 use Rattle.aeth_components.proofs.CycleLemmas.{Sound-drained, Sound-first, Sound-last, Sound-ready}
 use Rattle.aeth_components.proofs.FrameLemmas.{length-wires_driven}
+use Rattle.aeth_components.proofs.MarkLemmas.{AreMarked-turns}
+use Rattle.aeth_components.proofs.TurnLemmas.{refilled-none}
+use Rattle.aeth_components.specs.Busy.{AreMarked, IsIdle}
 use Rattle.aeth_components.specs.Components.{driven_from, latched_from, ready_of, wires_driven}
 use Rattle.aeth_components.specs.Frames.{IsWired, frame_of}
 use Rattle.aeth_components.specs.Phases.{Moment, in_turn, pulled, refilled}
@@ -97,6 +101,18 @@ take-requires-clause-lanes c =
     (record { parts = c.drive.new.parts; lanes = c.refill.new.lanes })
     (away ((goal.at.take-requires-clause-lanes c).After-drive))
 
+-- An idle channel hands nothing on, and stays idle.
+pub take-requires-clause-marked : goal.take-requires-clause-marked
+take-requires-clause-marked c =
+    let words = c.args.words.now in
+    let cycle = c.args.cycle in
+    subst (λ (moment : Moment). AreMarked IsIdle c.args.busy.now moment.lanes)
+    (sym c.refill.ensures.turns)
+    (AreMarked-turns (refilled words cycle)
+    (λ parts lane idle. refilled-none words cycle parts lane idle.handed) c.args.busy.now
+    (range_with_len 0 (length c.args.lanes.now))
+    (record { parts = c.switch.new.parts; lanes = c.args.lanes.now }) c.requires.marked)
+
 -- The cycle, phase by phase.
 pub returns : goal.returns
 returns c =
@@ -119,4 +135,5 @@ returns c =
       lanes = IsLane-Sound (map frame_of c.args.parts.now) (length words)
           (record { parts = c.latch.new.parts; lanes = c.take.new.lanes }) sound;
       marked = c.take.ensures.marked;
+      active = c.take.ensures.active;
     }

@@ -1,11 +1,14 @@
-use Rattle.std.proofs.Common.{◌≡◌, ◌+◌, ◌∙◌, ◌++◌, List, ap, ap₂}
-use Rattle.std.proofs.Common.{arith, drop, fold, length, length-set, map, refl, take}
+use Rattle.std.proofs.Common.{◌≡◌, ◌+◌, ◌∙◌, ◌++◌, ℕ, List, ap, ap₂}
+use Rattle.std.proofs.Common.{arith, drop, fold, length, length-set, map, refl, set, subst, sym, take}
 use Rattle.std.proofs.lemmas.List.{append-nil, drop_all, take_all}
+use Rattle.std.proofs.lemmas.Option.{slice_get-get_or}
 use Rattle.aeth_components.specs.declared.lane.Lane.{Lane}
 use Rattle.aeth_components.proofs.counting.count.Goals as goal
+use Rattle.aeth_components.proofs.counting.count.Goals.{else-count_one, then-count_one}
 use Rattle.aeth_components.proofs.CountingLemmas.{IsLane-ahead, counted-none, map-more, noted-more}
 use Rattle.aeth_components.proofs.CountingLemmas.{noted-none}
-use Rattle.aeth_components.proofs.MarkLemmas.{maps-until, notes-until}
+use Rattle.aeth_components.proofs.MarkLemmas.{AreMarked-marked, AreMarked-set, maps-until, notes-until}
+use Rattle.aeth_components.specs.Busy.{AreMarked, IsQuiet}
 use Rattle.aeth_components.specs.Counting.{counted, noted}
 
 -- The next channel is sound.
@@ -34,6 +37,7 @@ turns-init c =
           c.args.lanes.now c.args.landings.now c.args.landings.now 0 c.next-number.result
           (omega arith) refl c.requires.marked c.next-number.ensures.end
           c.next-number.ensures.none;
+      active = c.requires.active;
       within = c.next-number.ensures.end;
     }
 
@@ -48,6 +52,8 @@ turns-preserved c =
     let sized = length-set c.turns.lanes number c.count_one.new.lane in
     let test = c.turns-test.true in
     let end = c.next-number-in-turns.ensures.end in
+    let new = c.count_one.new.lane in
+    let at = slice_get-get_or c.turns.lanes number _ test in
     record {
       lanes = maps-until (counted cycle parts)
           (λ lane idle. counted-none cycle parts lane idle.landed) c.args.busy.now
@@ -63,6 +69,19 @@ turns-preserved c =
           c.count_one.new.landings number _ (omega arith) c.turns.invariant.lanes
           c.turns.invariant.landings c.count_one.ensures.landings)
           c.requires.marked (omega arith) c.next-number-in-turns.ensures.none;
+      active = elim c.if-count_one.branch [
+        | then-count_one w ↦
+            subst (λ (masks : List ℕ). AreMarked IsQuiet masks (set c.turns.lanes number new))
+            (sym w.active-is)
+            (AreMarked-marked c.turns.active w.mark.new.masks c.turns.lanes number new
+            w.mark.ensures.size w.mark.ensures.here w.mark.ensures.away c.turns.invariant.active)
+        | else-count_one w ↦
+            subst (λ (masks : List ℕ). AreMarked IsQuiet masks (set c.turns.lanes number new))
+            (sym w.active-is)
+            (AreMarked-set c.turns.active c.turns.lanes number _ new at
+            (λ quiet. subst IsQuiet (sym (c.count_one.ensures.same w.if-count_one.false)) quiet)
+            c.turns.invariant.active)
+      ];
       within = omega arith;
     }
 

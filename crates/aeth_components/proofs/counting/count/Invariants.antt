@@ -1,5 +1,6 @@
 use Rattle.std.proofs.Common.{◌≡◌, ◌≤◌, ◌++◌, ◌-◌, drop, fold, length, map, take}
 use Rattle.aeth_components.proofs.counting.count.Given as goal
+use Rattle.aeth_components.specs.Busy.{AreMarked, IsQuiet}
 use Rattle.aeth_components.specs.Counting.{counted, noted}
 
 -- The channels so far are counted.
@@ -8,6 +9,7 @@ invariant-turns l = record {
   lanes : l.lanes
       ≡ map (counted l.cycle l.parts) (take l.number l.fn.lanes) ++ drop l.number l.fn.lanes;
   landings : l.landings ≡ fold (noted l.cycle l.parts) l.fn.landings (take l.number l.fn.lanes);
+  active : AreMarked IsQuiet l.active l.lanes;
   within : l.number ≤ length l.fn.lanes;
 }
 

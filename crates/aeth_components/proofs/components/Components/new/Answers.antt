@@ -37,7 +37,7 @@ invariant_of-result c =
           let size = c.in_ok-landings.ensures.len in
           let own = c.in_ok-landings.landings.ok.0 in
           let given = c.args.words.ok.0 in
-          let count = c.len-2.ensures in
+          let count = c.len-3.ensures in
           omega arith);
       flits = (
           let size = c.in_ok-flits.ensures.len in
@@ -58,4 +58,10 @@ invariant_of-result c =
           let given = c.args.lanes.ok.0 in
           omega arith)
           c.in_ok-busy.ensures.marked;
+      active = AreMarked-all c.in_ok-active.active.items c.args.lanes.items
+          (let size = c.in_ok-active.ensures.size in
+          let count = c.len-2.ensures in
+          let given = c.args.lanes.ok.0 in
+          omega arith)
+          c.in_ok-active.ensures.marked;
     }

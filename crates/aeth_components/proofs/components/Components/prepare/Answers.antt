@@ -19,4 +19,5 @@ invariant_of-self c =
           (IsComponents-switched c.args.events.now (components_of all.parts.items all.wires
           all.lanes.items all.words.items all.landings.items all.flits.items) c.self.invariant.state);
       marked = c.self.invariant.marked;
+      active = c.self.invariant.active;
     }

@@ -8,7 +8,7 @@ use Rattle.aeth_components.proofs.components.Components.step.Goals.{After-tally}
 use Rattle.aeth_components.specs.declared.lane.Lane.{Lane}
 use Rattle.aeth_components.proofs.CountingLemmas.{counted-none}
 use Rattle.aeth_components.proofs.MarkLemmas.{AreMarked-map}
-use Rattle.aeth_components.specs.Busy.{AreMarked}
+use Rattle.aeth_components.specs.Busy.{AreMarked, IsIdle, IsQuiet}
 use Rattle.aeth_components.proofs.CycleLemmas.{Cycle-from, IsComponents-from, components-same}
 use Rattle.aeth_components.proofs.FrameLemmas.{length-wires_driven}
 use Rattle.aeth_components.proofs.LaneLemmas.{written_back}
@@ -40,21 +40,43 @@ run_busy c =
     written_back c.self.inside.busy.items c.run.new.busy c.self.inside.busy.len
     c.self.inside.busy.ok.0 (c.run.auto.busy ∙ ap length c.deref_mut-3.ensures.value)
 
+run_active : (c : goal.After-run)
+    → take c.self.inside.active.len (c.run.new.active
+    ++ drop (length c.run.new.active) c.self.inside.active.items) ≡ c.run.new.active
+run_active c =
+    written_back c.self.inside.active.items c.run.new.active c.self.inside.active.len
+    c.self.inside.active.ok.0 (c.run.auto.active ∙ ap length c.deref_mut-4.ensures.value)
+
 -- The masks mark the channels.
 pub run-requires-clause-marked : goal.run-requires-clause-marked
 run-requires-clause-marked c =
-    subst (λ (masks : List ℕ). AreMarked masks c.deref_mut-2.result.now)
+    subst (λ (masks : List ℕ). AreMarked IsIdle masks c.deref_mut-2.result.now)
     (sym c.deref_mut-3.ensures.value)
-    (subst (AreMarked c.self.inside.busy.items) (sym c.deref_mut-2.ensures.value)
+    (subst (AreMarked IsIdle c.self.inside.busy.items) (sym c.deref_mut-2.ensures.value)
     c.self.invariant.marked)
+
+pub run-requires-clause-active : goal.run-requires-clause-active
+run-requires-clause-active c =
+    subst (λ (masks : List ℕ). AreMarked IsQuiet masks c.deref_mut-2.result.now)
+    (sym c.deref_mut-4.ensures.value)
+    (subst (AreMarked IsQuiet c.self.inside.active.items) (sym c.deref_mut-2.ensures.value)
+    c.self.invariant.active)
 
 pub count-requires-clause-marked : goal.count-requires-clause-marked
 count-requires-clause-marked c =
     let run = (goal.at.count-requires-clause-marked c).After-run in
-    subst (λ (masks : List ℕ). AreMarked masks c.deref_mut-4.result.now)
+    subst (λ (masks : List ℕ). AreMarked IsIdle masks c.deref_mut-5.result.now)
     (sym (c.deref-3.ensures.value ∙ run_busy run))
-    (subst (AreMarked c.run.new.busy) (sym (c.deref_mut-4.ensures.value ∙ run_lanes run))
+    (subst (AreMarked IsIdle c.run.new.busy) (sym (c.deref_mut-5.ensures.value ∙ run_lanes run))
     c.run.ensures.marked)
+
+pub count-requires-clause-active : goal.count-requires-clause-active
+count-requires-clause-active c =
+    let run = (goal.at.count-requires-clause-active c).After-run in
+    subst (λ (masks : List ℕ). AreMarked IsQuiet masks c.deref_mut-5.result.now)
+    (sym (c.deref_mut-6.ensures.value ∙ run_active run))
+    (subst (AreMarked IsQuiet c.run.new.active) (sym (c.deref_mut-5.ensures.value ∙ run_lanes run))
+    c.run.ensures.active)
 
 -- The run, of the components as they were.
 runs : (c : goal.After-run)
@@ -80,7 +102,7 @@ counts c =
     let run = (goal.at-After-count c).After-run in
     c.count.ensures.lanes
     ∙ ap₂ (λ (parts : List Part) (lanes : List Lane). map (counted c.args.cycle parts) lanes)
-    (c.deref-2.ensures.value ∙ run_parts run) (c.deref_mut-4.ensures.value ∙ run_lanes run)
+    (c.deref-2.ensures.value ∙ run_parts run) (c.deref_mut-5.ensures.value ∙ run_lanes run)
 
 notes : (c : goal.After-count)
     → c.count.new.landings
@@ -89,10 +111,25 @@ notes c =
     let run = (goal.at-After-count c).After-run in
     c.count.ensures.landings
     ∙ ap (λ (landings : List ℕ). fold (noted c.args.cycle c.deref-2.result.now) landings
-    c.deref_mut-4.result.now) c.deref_mut-5.ensures.value
+    c.deref_mut-5.result.now) c.deref_mut-7.ensures.value
     ∙ ap₂ (λ (parts : List Part) (lanes : List Lane).
     fold (noted c.args.cycle parts) c.self.inside.landings.items lanes)
-    (c.deref-2.ensures.value ∙ run_parts run) (c.deref_mut-4.ensures.value ∙ run_lanes run)
+    (c.deref-2.ensures.value ∙ run_parts run) (c.deref_mut-5.ensures.value ∙ run_lanes run)
+
+count_active : (c : goal.After-count)
+    → take c.self.inside.active.len (c.count.new.active ++ drop (length c.count.new.active)
+    (take c.self.inside.active.len (c.run.new.active
+    ++ drop (length c.run.new.active) c.self.inside.active.items))) ≡ c.count.new.active
+count_active c =
+    let run = (goal.at-After-count c).After-run in
+    let active = run_active run in
+    let first = take c.self.inside.active.len (c.run.new.active
+    ++ drop (length c.run.new.active) c.self.inside.active.items) in
+    let sized : length first ≡ length c.self.inside.active.items =
+    ap length active ∙ c.run.auto.active ∙ ap length c.deref_mut-4.ensures.value in
+    written_back first c.count.new.active c.self.inside.active.len
+    (c.self.inside.active.ok.0 ∙ sym sized)
+    (c.count.auto.active ∙ ap length c.deref_mut-6.ensures.value)
 
 -- There is a wire for each link.
 pub tally-requires-clause-wires : goal.tally-requires-clause-wires
@@ -102,7 +139,7 @@ tally-requires-clause-wires c =
     (ready_of c.self.inside.words.items c.args.events.now c.args.cycle
     (record { parts = c.self.inside.parts.items; lanes = c.self.inside.lanes.items })).parts
     (length c.self.inside.wires) c.args.cycle in
-    let flits = ap length c.deref_mut-6.ensures.value in
+    let flits = ap length c.deref_mut-8.ensures.value in
     let few = c.self.invariant.state.flits in
     omega arith
 
@@ -146,16 +183,16 @@ same c =
     (run_parts run)
     (written_back first c.count.new.lanes c.self.inside.lanes.len
     (c.self.inside.lanes.ok.0 ∙ sym sized)
-    (c.count.auto.lanes ∙ ap length c.deref_mut-4.ensures.value))
+    (c.count.auto.lanes ∙ ap length c.deref_mut-5.ensures.value))
     (written_back c.self.inside.landings.items c.count.new.landings c.self.inside.landings.len
     c.self.inside.landings.ok.0
-    (c.count.auto.landings ∙ ap length c.deref_mut-5.ensures.value))
+    (c.count.auto.landings ∙ ap length c.deref_mut-7.ensures.value))
     (written_back c.self.inside.flits.items c.tally.new.flits c.self.inside.flits.len
-    c.self.inside.flits.ok.0 (c.tally.auto.flits ∙ ap length c.deref_mut-6.ensures.value))
+    c.self.inside.flits.ok.0 (c.tally.auto.flits ∙ ap length c.deref_mut-8.ensures.value))
 
 tallies : (c : goal.After-tally)
     → c.tally.new.flits ≡ flits_counted c.run.new.wires c.self.inside.flits.items
-tallies c = c.tally.ensures ∙ ap (flits_counted c.run.new.wires) c.deref_mut-6.ensures.value
+tallies c = c.tally.ensures ∙ ap (flits_counted c.run.new.wires) c.deref_mut-8.ensures.value
 
 -- What holds of components still holds.
 pub invariant_of-self : goal.invariant_of-self
@@ -174,10 +211,14 @@ invariant_of-self c =
           (tallies tally) c.self.invariant.state
           (subst (λ (words : List ℕ). All (IsLane (length words) (length c.run.new.parts))
           c.run.new.lanes) c.deref.ensures.value c.run.ensures.lanes));
-      marked = subst (λ (masks : List ℕ). AreMarked masks (written_of tally).lanes)
+      marked = subst (λ (masks : List ℕ). AreMarked IsIdle masks (written_of tally).lanes)
           (sym (run_busy run))
-          (subst (AreMarked c.run.new.busy)
+          (subst (AreMarked IsIdle c.run.new.busy)
           (sym (ap (λ (all : ComponentsState). all.lanes) (same tally) ∙ counts counting)) kept);
+      active = subst (λ (masks : List ℕ). AreMarked IsQuiet masks (written_of tally).lanes)
+          (sym (count_active counting))
+          (subst (AreMarked IsQuiet c.count.new.active)
+          (sym (ap (λ (all : ComponentsState). all.lanes) (same tally))) c.count.ensures.active);
     }
 
 -- A cycle.

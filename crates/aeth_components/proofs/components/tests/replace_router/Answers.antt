@@ -15,4 +15,5 @@ invariant_of-pair c =
           (ap (λ (all : ComponentsState). slice_get (frames_of all) c.args.number) c.pair.view_is
           ∙ c.requires) c.pair.invariant.state;
       marked = c.pair.invariant.marked;
+      active = c.pair.invariant.active;
     }
