@@ -4,7 +4,7 @@ use Rattle.std.proofs.Common.{List, [], ◌∷◌, ◌++◌, length, map, fold, 
 use Rattle.std.proofs.Common.{Option, Some, None, is_some, slice_get, inl, inr, true, false, length-set}
 use Rattle.std.proofs.lemmas.Bool.{cases_Bool}
 use Rattle.std.proofs.lemmas.List.Sums.{fold_push}
-use Rattle.std.proofs.lemmas.List.{take_more}
+use Rattle.std.proofs.lemmas.List.{set-get_or, take_more}
 use Rattle.std.proofs.lemmas.Option.{same_Some}
 use Rattle.aeth_clocked.specs.declared.flit.Flit.{Flit}
 use Rattle.aeth_router.specs.declared.part.Part.{Part}
@@ -173,6 +173,11 @@ pub with_flit-none : (wire : Option Flit) (count : ℕ) → is_some wire ≡ fal
 with_flit-none None count none = refl
 with_flit-none (Some flit) count none = absurd (cc none)
 
+-- A wire that carries none.
+pub is_none : (wire : Option Flit) → is_some wire ≡ false → wire ≡ None
+is_none None none = refl
+is_none (Some flit) none = absurd (cc none)
+
 -- One link more is counted.
 counted-more_at : (wires : List (Option Flit)) (counts : List ℕ) (i default : ℕ)
     (wire : Option Flit) → slice_get wires i ≡ Some wire → i < length counts
@@ -210,3 +215,21 @@ flits_counted-more wires counts now i default new wire at within is to =
     ∙ counted-more_at wires counts i default wire at within
     ∙ ap (λ n. flits_counted (take n wires) counts)
     (let same : suc i ≡ i + 1 = omega arith in same)
+
+-- Links whose wires carry none are counted as they were.
+pub flits_counted-skipped : (wires : List (Option Flit)) (counts now : List ℕ) (from gap : ℕ)
+    → from + gap ≤ length counts
+    → ((link : ℕ) → from ≤ link → link < from + gap → slice_get wires link ≡ Some None)
+    → now ≡ flits_counted (take from wires) counts
+    → now ≡ flits_counted (take (from + gap) wires) counts
+flits_counted-skipped wires counts now from zero within none so_far =
+    so_far ∙ ap (λ n. flits_counted (take n wires) counts)
+    (let same : from ≡ from + 0 = omega arith in same)
+flits_counted-skipped wires counts now from (suc gap) within none so_far =
+    let less = flits_counted-skipped wires counts now from gap (omega arith)
+    (λ link after below. none link after (omega arith)) so_far in
+    let next : from + gap + 1 ≡ from + suc gap = omega arith in
+    sym (set-get_or now (from + gap) 0)
+    ∙ flits_counted-more wires counts now (from + gap) 0 (get_or now (from + gap) 0) None
+    (none (from + gap) (omega arith) (omega arith)) (omega arith) less refl
+    ∙ ap (λ n. flits_counted (take n wires) counts) next

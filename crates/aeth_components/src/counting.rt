@@ -1,13 +1,14 @@
 // What is counted behind a cycle: the words that have landed, and the flits on links.
 
-ghost use Rattle.std.specs.Prelude.{◌≡◌, ◌<◌, ◌≤◌, ◌+◌, ◌^◌, All, false, fold, length, map};
+ghost use Rattle.std.specs.Prelude.{◌≡◌, ◌<◌, ◌≤◌, ◌+◌, ◌^◌, ℕ, All, List, None, Some, false, fold};
+ghost use Rattle.std.specs.Prelude.{length, map, slice_get, take};
 ghost use Rattle.aeth_components.specs.Busy.{AreMarked, IsIdle, IsQuiet};
 ghost use Rattle.aeth_components.specs.Counting.{counted, flits_counted, noted, written_over};
 ghost use Rattle.aeth_components.specs.Lanes.{IsLane};
 
 use crate::busy::{mark, next};
 use crate::lane::Lane;
-use crate::parts::brought;
+use crate::parts::{brought, is_silent};
 use aeth_base::LinkId;
 use aeth_clocked::Wires;
 use aeth_router::Part;
@@ -49,6 +50,9 @@ fn count_one(parts: &[Part], lane: &mut Lane, landings: &mut [u32], cycle: u32) 
 {
     if lane.landed < lane.handed && lane.is_open(cycle) {
         let part = &parts[lane.receiver.ni.0 as usize];
+        if is_silent(part) {
+            return false;
+        }
         let words = brought(part, lane.receiver.queue).min(lane.handed - lane.landed);
         if words == 0 {
             return false;
@@ -77,7 +81,40 @@ pub(crate) fn tally(flits: &mut [u32], wires: &Wires)
     requires few { length flits.old < 2 ^ 32 }
     ensures { flits.new ≡ flits_counted wires.now flits.old }
 {
-    for link in 0..flits.len() {
+    let fours = flits.len() / 4;
+    for four in 0..fours {
+        if has_flit(wires, 4 * four) {
+            tally_some(flits, wires, 4 * four, 4 * four + 4);
+        }
+    }
+    tally_some(flits, wires, 4 * fours, flits.len());
+}
+
+// Whether one of four wires carries a flit.
+fn has_flit(wires: &Wires, from: usize) -> bool
+    requires wires { from + 4 ≤ length wires.now }
+    requires few { from + 4 < 2 ^ 32 }
+    ensures { result ≡ false → (link : ℕ) → from ≤ link → link < from + 4
+        → slice_get wires.now link ≡ Some None }
+{
+    for link in from..from + 4 {
+        if wires.get(LinkId(link as u32)).is_some() {
+            return true;
+        }
+    }
+    false
+}
+
+// Counts one flit more of each of these links whose first wire carries one.
+fn tally_some(flits: &mut [u32], wires: &Wires, from: usize, to: usize)
+    requires order { from ≤ to }
+    requires within { to ≤ length flits.old }
+    requires wires { length flits.old ≤ length wires.now }
+    requires few { length flits.old < 2 ^ 32 }
+    ensures { (counts : List ℕ) → flits.old ≡ flits_counted (take from wires.now) counts
+        → flits.new ≡ flits_counted (take to wires.now) counts }
+{
+    for link in from..to {
         if wires.get(LinkId(link as u32)).is_some() {
             flits[link] = flits[link].saturating_add(1);
         }

@@ -1,6 +1,6 @@
 // What is done at one queue of a component, where this is an interface.
 
-ghost use Rattle.std.specs.Prelude.{◌≡◌, ◌<◌, ◌≤◌, ◌^◌, length};
+ghost use Rattle.std.specs.Prelude.{◌≡◌, ◌<◌, ◌≤◌, ◌^◌, ℕ, length, true};
 ghost use Rattle.aeth_ni.specs.Interface.{changed};
 ghost use Rattle.aeth_ni.specs.Limits.{queues_of_interface};
 ghost use Rattle.aeth_components.specs.Changes.{event_done, on_interface, told_by};
@@ -58,5 +58,15 @@ pub(crate) fn brought(part: &Part, queue: u8) -> u32
     match part {
         Part::Interface(ni) => queues::brought(ni, queue),
         _ => 0,
+    }
+}
+
+// Whether the last flit brought nothing, or there was none.
+pub(crate) fn is_silent(part: &Part) -> bool
+    ensures { result ≡ true → (queue : ℕ) → brought_by queue part.now ≡ 0 }
+{
+    match part {
+        Part::Interface(ni) => ni.last().is_none(),
+        _ => true,
     }
 }

@@ -1,32 +1,35 @@
-use Rattle.std.proofs.Common.{◌∙◌, sym}
-use Rattle.std.proofs.lemmas.List.{set-get_or}
+use Rattle.std.proofs.Common.{◌≡◌, ◌*◌, ◌/◌, ◌+◌, ◌∙◌, ap, arith, length, take}
 use Rattle.aeth_components.proofs.counting.tally.Goals as goal
-use Rattle.aeth_components.proofs.counting.tally.Goals.{then-is_some, else-is_some}
-use Rattle.aeth_components.proofs.CountingLemmas.{flits_counted-more, flits_counted-whole}
-use Rattle.aeth_components.proofs.CountingLemmas.{with_flit-none, with_flit-some}
+use Rattle.aeth_components.proofs.counting.tally.Goals.{then-has_flit, else-has_flit}
+use Rattle.aeth_components.proofs.CountingLemmas.{flits_counted-skipped, flits_counted-whole}
+use Rattle.aeth_components.specs.Counting.{flits_counted}
 
--- One link more is counted.
-pub loop-link-preserved : goal.loop-link-preserved
-loop-link-preserved c =
+-- Four links more are counted.
+pub loop-four-preserved : goal.loop-four-preserved
+loop-four-preserved c =
     let wires = c.args.wires.now in
-    let flits = c.loop-link.flits in
-    let link = c.loop-link.link in
-    elim c.if-is_some.branch [
-      | then-is_some w ↦
+    let counts = c.args.flits.now in
+    let four = c.loop-four.four in
+    let next : 4 * four + 4 ≡ 4 * (four + 1) = omega arith in
+    let test = c.loop-four-test.true in
+    elim c.if-has_flit.branch [
+      | then-has_flit w ↦
+          w.flits-is ∙ w.tally_some.ensures counts c.loop-four.invariant
+          ∙ ap (λ n. flits_counted (take n wires) counts) next
+      | else-has_flit w ↦
           w.flits-is
-          ∙ flits_counted-more wires c.args.flits.now flits link _ w.saturating_add.result
-          c.get.result c.get.ensures c.loop-link-test.true c.loop-link.invariant
-          (w.saturating_add.ensures
-          ∙ sym (with_flit-some c.get.result _ (sym c.is_some.ensures ∙ w.if-is_some.true)))
-      | else-is_some w ↦
-          w.flits-is ∙ sym (set-get_or flits link 0)
-          ∙ flits_counted-more wires c.args.flits.now flits link 0 _ c.get.result c.get.ensures
-          c.loop-link-test.true c.loop-link.invariant
-          (sym (with_flit-none c.get.result _ (sym c.is_some.ensures ∙ w.if-is_some.false)))
+          ∙ flits_counted-skipped wires counts c.loop-four.flits (4 * four) 4 (omega arith)
+          (c.has_flit.ensures w.if-has_flit.false) c.loop-four.invariant
+          ∙ ap (λ n. flits_counted (take n wires) counts) next
     ]
 
 -- All links are.
 pub returns : goal.returns
 returns c =
-    c.loop-link.invariant
-    ∙ flits_counted-whole c.args.wires.now c.args.flits.now c.loop-link.link c.loop-link-test.false
+    let wires = c.args.wires.now in
+    let counts = c.args.flits.now in
+    let test = c.loop-four-test.false in
+    let last : 4 * c.loop-four.four ≡ 4 * (length counts / 4) = omega arith in
+    c.tally_some-2.ensures counts
+    (c.loop-four.invariant ∙ ap (λ n. flits_counted (take n wires) counts) last)
+    ∙ flits_counted-whole wires counts _ (omega arith)
