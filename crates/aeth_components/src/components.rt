@@ -37,6 +37,7 @@ pub struct Components {
     parts: Vec<Part>,
     wires: Wires,
     lanes: Vec<Lane>,
+    // Masks of the channels that may not be idle, and of those that may not be quiet.
     busy: Vec<u64>,
     active: Vec<u64>,
     words: Vec<u32>,
@@ -54,7 +55,8 @@ impl Model for Components {
         all.landings.items all.flits.items };
 
     ghost invariant = { λ all. IsKept (components_of all.parts.items all.wires
-        all.lanes.items all.words.items all.landings.items all.flits.items) all.busy.items all.active.items };
+        all.lanes.items all.words.items all.landings.items all.flits.items) all.busy.items
+        all.active.items };
 }
 
 impl Components {

@@ -61,7 +61,7 @@ pub(crate) fn brought(part: &Part, queue: u8) -> u32
     }
 }
 
-// Whether the last flit brought nothing, or there was none.
+// Whether no flit brought words in the last cycle; to a router or a stage none ever does.
 pub(crate) fn is_silent(part: &Part) -> bool
     ensures { result ≡ true → (queue : ℕ) → brought_by queue part.now ≡ 0 }
 {
