@@ -215,6 +215,7 @@ IsNetwork-more capacity more all le is =
       replaced = is.replaced;
       gone = is.gone;
       enough = omega arith;
+      few_goings = is.few_goings;
       few_channels = is.few_channels;
       few_words = is.few_words;
       few_parts = is.few_parts;

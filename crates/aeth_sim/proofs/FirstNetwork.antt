@@ -40,6 +40,7 @@ use Rattle.aeth_sim.specs.Cursors.{AreCursors, IsNetwork, passed, state_of}
 use Rattle.aeth_sim.specs.Records.{IsFresh}
 use Rattle.aeth_sim.proofs.FirstComponents.{AreFit-none, HaveCounts-none, IsComponents-loaded}
 use Rattle.aeth_sim.proofs.FirstComponents.{few-parts, loaded-frames, loaded-size}
+use Rattle.aeth_sim.proofs.FewGoings.{goings-few}
 use Rattle.aeth_sim.proofs.FirstGoings.{fresh-goings, on-few}
 use Rattle.aeth_sim.proofs.Passed.{passed-first}
 
@@ -139,6 +140,7 @@ module _ (inputs : Inputs) (accepted : AreAccepted inputs)
         replaced = All-nil (IsLane (length values) (length components.parts));
         gone = sym (passed-first (λ (one : Going). one.lane.go) (goings_of inputs));
         enough = enough;
+        few_goings = goings-few inputs accepted;
         few_channels = omega arith;
         few_words = values-few inputs.words connections few_rows most;
         few_parts = few-parts chip is_chip rooms channels values events;

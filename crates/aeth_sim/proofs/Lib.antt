@@ -1,9 +1,13 @@
+mod Adding
+mod ByNumberLemmas
 mod CycleLemmas
 mod Cycling
+mod FewGoings
 mod FirstComponents
 mod FirstGoings
 mod FirstNetwork
 mod FitLemmas
+mod Followed
 mod Lanes
 mod Passed
 mod Playing

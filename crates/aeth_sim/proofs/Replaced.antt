@@ -1,8 +1,7 @@
 -- How a channel stood before each of its sessions went, session by session.
 use Rattle.std.proofs.Common.{◌≡◌, ◌≤◌, ◌<◌, ◌+◌, ◌++◌, ℕ, zero, suc, List, [], ◌∷◌, ap, arith}
-use Rattle.std.proofs.Common.{drop, get_or, inl, inr, length, refl, take, true, false}
+use Rattle.std.proofs.Common.{get_or, inl, inr, length, refl, take, true, false}
 use Rattle.std.proofs.lemmas.Bool.{cases_Bool}
-use Rattle.std.proofs.lemmas.List.{drop-append-le}
 use Rattle.aeth_components.specs.declared.lane.Lane.{Lane}
 use Rattle.aeth_stimuli.specs.Stimuli.{is_over}
 use Rattle.aeth_schedule.specs.declared.going.Going.{Going}
@@ -70,17 +69,6 @@ replaced-whole number (suc size) (first ∷ goings) (was ∷ replaced) within =
       | inl own ↦ rw own (ap (λ (lanes : List Lane). was ∷ lanes) rest)
       | inr other ↦ rw other rest
     ]
-
--- The first session follows none.
-pub followed-first : (past : List Lane) (lane : Lane) → length past ≡ 0
-    → drop 1 (past ++ lane ∷ []) ≡ drop 1 past
-followed-first [] lane none = refl
-followed-first (was ∷ past) lane none = absurd (omega arith)
-
--- Each later one follows one.
-pub followed-next : (past : List Lane) (lane : Lane) → 0 < length past
-    → drop 1 (past ++ lane ∷ []) ≡ drop 1 past ++ lane ∷ []
-followed-next past lane some = drop-append-le 1 past (lane ∷ []) (omega arith)
 
 -- No more than there are.
 pub replaced-few : (number : ℕ) (goings : List Going) (replaced : List Lane)

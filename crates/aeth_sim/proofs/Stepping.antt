@@ -283,6 +283,7 @@ module _ (capacity : ℕ) (old : NetworkState) (is : IsNetwork capacity old) whe
               (channel_number one.channel) no_lane) goings) is.replaced replaced-are));
           gone = omega arith;
           enough = is.enough;
+          few_goings = is.few_goings;
           few_channels = omega arith;
           few_words = omega arith;
           few_parts = omega arith;

@@ -1,8 +1,10 @@
 -- What is told, session by session, row by row, and channel by channel.
 use Rattle.std.proofs.Common.{◌≡◌, ◌≤◌, ◌<◌, ◌+◌, ◌-◌, ◌++◌, ℕ, zero, suc, List, [], ◌∷◌, ap, arith}
 use Rattle.std.proofs.Common.{drop, get_or, length, refl, set, take, sym}
+use Rattle.std.specs.Prelude.{slice_index}
+use Rattle.std.specs.List.{slice_index_or}
+use Rattle.aeth_stimuli.specs.Loaded.{no_lane}
 use Rattle.std.proofs.lemmas.List.{drop_all, length-drop, length_push}
-use Rattle.aeth_sim.proofs.Replaced.{followed-first, followed-next}
 use Rattle.aeth_components.specs.declared.lane.Lane.{Lane}
 use Rattle.aeth_report.specs.Log.{ChannelData, SessionData}
 use Rattle.aeth_report.specs.declared.log.Landing.{Landing}
@@ -10,7 +12,10 @@ use Rattle.aeth_running.specs.Network.{NetworkState}
 use Rattle.aeth_running.specs.Told.{channel_told, channels_told, told}
 use Rattle.aeth_running.specs.Told.{rows_told, session_told, sessions_told}
 use Rattle.aeth_schedule.specs.declared.going.Going.{Going}
-use Rattle.aeth_sim.specs.Telling.{channel_by, channels_by, with_told}
+use Rattle.aeth_sim.specs.ByNumber.{each_by}
+use Rattle.aeth_sim.specs.Telling.{channel_by, channels_by, ended_with, followed_by, gone_by}
+use Rattle.aeth_sim.specs.Telling.{last_by, replaced_on, with_next, with_told}
+use Rattle.aeth_sim.proofs.ByNumberLemmas.{each-twice, get-each}
 
 -- One row more is told.
 told_row_at : (cycles : ℕ) (all : List ℕ) (rows : List Landing) (landings : List ℕ) (i : ℕ)
@@ -87,7 +92,7 @@ module _ (cycles : ℕ) (landings : List ℕ) where
   pub told-last : (sessions : List SessionData) (lanes : List Lane) (lane : Lane) (count : ℕ)
       → count ≡ length lanes
       → take (count + 1) (with_told cycles landings count lane
-      (sessions_told cycles landings sessions lanes ++ drop count sessions))
+      (sessions_told cycles landings sessions lanes ++ drop (length lanes) sessions))
       ≡ sessions_told cycles landings sessions (lanes ++ lane ∷ [])
   told-last sessions lanes lane count is =
       let size = length_push lanes lane in
@@ -95,25 +100,14 @@ module _ (cycles : ℕ) (landings : List ℕ) where
       rw (all, is, told-more sessions lanes lane) (told-alone sessions (lanes ++ lane ∷ []))
 
   -- Another session goes, and tells the one before, where there was one.
-  pub followed-more : (sessions now : List SessionData) (past : List Lane) (lane : Lane) (gone : ℕ)
-      → gone ≡ length past → 0 < gone
-      → now ≡ sessions_told cycles landings sessions (drop 1 past)
-      ++ drop (length (drop 1 past)) sessions
-      → with_told cycles landings (gone - 1) lane now
+  pub followed-more : (sessions : List SessionData) (past : List Lane) (lane : Lane)
+      → with_next cycles landings (length past) lane
+      (sessions_told cycles landings sessions (drop 1 past)
+      ++ drop (length (drop 1 past)) sessions)
       ≡ sessions_told cycles landings sessions (drop 1 (past ++ lane ∷ []))
       ++ drop (length (drop 1 (past ++ lane ∷ []))) sessions
-  followed-more sessions now past lane gone count some is =
-      let size = length-drop 1 past in
-      let place : gone - 1 ≡ length (drop 1 past) = omega arith in
-      rw (place, is, followed-next past lane (omega arith)) (told-more sessions (drop 1 past) lane)
-
-  pub followed-none : (sessions now : List SessionData) (past : List Lane) (lane : Lane)
-      → length past ≡ 0
-      → now ≡ sessions_told cycles landings sessions (drop 1 past)
-      ++ drop (length (drop 1 past)) sessions
-      → now ≡ sessions_told cycles landings sessions (drop 1 (past ++ lane ∷ []))
-      ++ drop (length (drop 1 (past ++ lane ∷ []))) sessions
-  followed-none sessions now past lane none is = rw (followed-first past lane none) is
+  followed-more sessions [] lane = refl
+  followed-more sessions (first ∷ past) lane = told-more sessions past lane
 
   -- The session at a place is told, if there is one.
   pub with_told-there : (sessions : List SessionData) (place : ℕ) (lane : Lane)
@@ -135,59 +129,37 @@ module _ (cycles : ℕ) (landings : List ℕ) where
       (with_told-past sessions place lane (omega arith))
 
   module _ (goings : List Going) (replaced lanes : List Lane) (outside : List ℕ) where
-    -- One channel more is told.
-    channel_at : (channels : List ChannelData) (number i : ℕ) (default : ChannelData)
-        → i < length channels
-        → set (channels_by cycles landings goings replaced lanes outside number (take i channels)
-        ++ drop i channels) i (channel_by cycles landings goings replaced lanes outside (number + i)
-        (get_or channels i default))
-        ≡ channels_by cycles landings goings replaced lanes outside number (take (suc i) channels)
-        ++ drop (suc i) channels
-    channel_at [] number i default within = absurd (omega arith)
-    channel_at (channel ∷ channels) number zero default within =
-        let same : number + 0 ≡ number = omega arith in
-        rw same refl
-    channel_at (channel ∷ channels) number (suc i) default within =
-        let same : number + suc i ≡ suc number + i = omega arith in
-        rw same (ap (λ (rest : List ChannelData).
-        channel_by cycles landings goings replaced lanes outside number channel ∷ rest)
-        (channel_at channels (suc number) i default (omega arith)))
+    -- A channel whose sessions are told but for the last is told with it.
+    told-one : (number gone : ℕ) (lane : Lane) (more : ℕ) (channel : ChannelData)
+        → gone ≡ length (replaced_on number goings replaced)
+        → ended_with cycles landings gone lane more
+        (followed_by cycles landings goings replaced number channel)
+        ≡ record channel {
+          sessions = sessions_told cycles landings channel.sessions
+              (drop 1 (replaced_on number goings replaced) ++ lane ∷ []);
+          outside = more;
+        }
+    told-one number gone lane more channel is =
+        let past = replaced_on number goings replaced in
+        let size = length-drop 1 past in
+        let count : gone - 1 ≡ length (drop 1 past) = omega arith in
+        ap (λ (list : List SessionData). record channel { sessions = list; outside = more })
+        (told-last channel.sessions (drop 1 past) lane (gone - 1) count)
 
-    ahead_at : (channels : List ChannelData) (number i : ℕ) (default : ChannelData)
-        → i < length channels
-        → get_or (channels_by cycles landings goings replaced lanes outside number (take i channels)
-        ++ drop i channels) i default ≡ get_or channels i default
-    ahead_at [] number i default within = absurd (omega arith)
-    ahead_at (channel ∷ channels) number zero default within = refl
-    ahead_at (channel ∷ channels) number (suc i) default within =
-        ahead_at channels (suc number) i default (omega arith)
-
-    pub told-channel : (channels now : List ChannelData) (i : ℕ) (default next : ChannelData)
-        → i < length channels
-        → now ≡ channels_by cycles landings goings replaced lanes outside 0 (take i channels)
-        ++ drop i channels
-        → next ≡ channel_by cycles landings goings replaced lanes outside i (get_or now i default)
-        → set now i next
-        ≡ channels_by cycles landings goings replaced lanes outside 0 (take (i + 1) channels)
-        ++ drop (i + 1) channels
-    told-channel channels now i default next within is to =
-        let more : i + 1 ≡ suc i = omega arith in
-        let here : 0 + i ≡ i = omega arith in
-        rw (to, is, ahead_at channels 0 i default within, more)
-        (rw here at (channel_at channels 0 i default within))
-
-    -- Once all are, none is left.
-    pub told-channels : (channels : List ChannelData) (number size : ℕ) → length channels ≤ size
-        → channels_by cycles landings goings replaced lanes outside number (take size channels)
-        ++ drop size channels
-        ≡ channels_by cycles landings goings replaced lanes outside number channels
-    told-channels [] number zero within = refl
-    told-channels [] number (suc size) within = refl
-    told-channels (channel ∷ channels) number zero within = absurd (omega arith)
-    told-channels (channel ∷ channels) number (suc size) within =
-        ap (λ (rest : List ChannelData).
-        channel_by cycles landings goings replaced lanes outside number channel ∷ rest)
-        (told-channels channels (suc number) size (omega arith))
+    -- So are all.
+    pub told-all : (channels : List ChannelData) (was : List ℕ) → length was ≡ length channels
+        → each_by (last_by cycles landings (each_by (gone_by goings replaced) 0 was) lanes outside)
+        0 (each_by (followed_by cycles landings goings replaced) 0 channels)
+        ≡ channels_by cycles landings goings replaced lanes outside 0 channels
+    told-all channels was same =
+        let gone = each_by (gone_by goings replaced) 0 was in
+        each-twice (followed_by cycles landings goings replaced)
+        (last_by cycles landings gone lanes outside)
+        (channel_by cycles landings goings replaced lanes outside) 0 channels
+        (λ number within channel.
+        told-one number (get_or gone number 0) (slice_index_or lanes number no_lane)
+        (slice_index outside number) channel
+        (get-each (gone_by goings replaced) was number 0 (omega arith)))
 
 -- What is told of channels by their lists is what is told of those of a network.
 channels-are : (all : NetworkState) (number : ℕ) (channels : List ChannelData)

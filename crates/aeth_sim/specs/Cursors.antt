@@ -70,6 +70,7 @@ pub record IsNetwork (capacity : ℕ) (all : NetworkState) : Type 0 where
   pub gone : length all.replaced
       ≡ passed (λ one. one.lane.go) all.time all.stimuli.schedule.goings
   pub enough : length all.stimuli.schedule.goings ≤ capacity
+  pub few_goings : length all.stimuli.schedule.goings < 2 ^ 32
   pub few_channels : length all.components.lanes ≤ 2 * max_connections
   pub few_words : length all.components.words < 2 ^ 32
   pub few_parts : length all.components.parts < 2 ^ 32

@@ -1,3 +1,4 @@
+pub mod ByNumber
 pub mod Cursors
 pub mod Fits
 pub mod Records

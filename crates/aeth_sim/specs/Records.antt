@@ -1,9 +1,10 @@
 -- What the log of a run is made from, apart from its inputs.
 --
 --   channel_from      a channel with its sessions, of which nothing has landed yet
---   HasWords, IsGood      sessions whose words are there, and whose shapes have due times
+--   added_by      the channel of a number with more sessions
+--   AreOffered, IsFresh      words of a run, and sessions whose words are there
 -- This project's own.
-use Rattle.std.specs.Prelude.{◌≡◌, ◌≤◌, ◌+◌, ℕ, All, List, length, map}
+use Rattle.std.specs.Prelude.{◌≡◌, ◌≤◌, ◌+◌, ◌++◌, ℕ, All, List, length, map}
 use Rattle.aeth_base.specs.Limits.{max_cycles}
 use Rattle.aeth_base.specs.declared.ids.Channel.{Channel}
 use Rattle.aeth_server.specs.ChannelShape.{IsShapeInRange}
@@ -22,6 +23,12 @@ channel_from words cycles goings channel = record {
   channel = channel;
   sessions = map (first_session words cycles) (goings_over (channel_number channel) goings);
   outside = 0;
+}
+
+-- The channel of a number, with those of some more sessions that go over it.
+abbrev pub added_by : List WordRow → ℕ → List Going → ℕ → ChannelData → ChannelData
+added_by words cycles goings number channel = record channel {
+  sessions = channel.sessions ++ map (first_session words cycles) (goings_over number goings);
 }
 
 -- Words that are offered within the longest run, and no more than a session has at most.

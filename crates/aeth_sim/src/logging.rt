@@ -7,8 +7,8 @@ ghost use Rattle.aeth_app.specs.Limits.{max_connections};
 ghost use Rattle.aeth_trace.specs.Channels.{channel_number};
 ghost use Rattle.aeth_report.specs.Channels.{channels_of};
 ghost use Rattle.aeth_running.specs.FirstLog.{first_row, first_session};
-ghost use Rattle.aeth_stimuli.specs.Stimuli.{goings_over};
-ghost use Rattle.aeth_sim.specs.Records.{AreOffered, IsFresh, channel_from};
+ghost use Rattle.aeth_sim.specs.ByNumber.{each_by};
+ghost use Rattle.aeth_sim.specs.Records.{AreOffered, IsFresh, added_by, channel_from};
 
 use aeth_app::App;
 use aeth_base::{Channel, ConnId, NoMemory, Side};
@@ -38,87 +38,79 @@ pub(crate) fn first_log(
       flits = replicate (length chip.now.links) 0;
     }) }
 {
+    let mut channels = first_channels(alloc, app)?;
+    add_sessions(alloc, &mut channels, words, goings, cycles)?;
     Ok(SimLog {
         cycles,
-        channels: first_channels(alloc, app, words, goings, cycles)?,
+        channels,
         flits: vec![in alloc; 0; chip.links() as usize]?,
     })
 }
 
-// The channels of an application.
-fn first_channels(
-    alloc: Global,
-    app: &App,
-    words: &Words,
-    goings: &[Going],
-    cycles: u32,
-) -> Result<Vec<ChannelLog>, NoMemory>
-    requires words { AreOffered words.now }
-    requires goings { All (IsFresh words.now) goings.now }
-    requires known { All (λ one. channel_number one.channel < 2 * max_connections) goings.now }
+// The channels of an application, without sessions.
+fn first_channels(alloc: Global, app: &App) -> Result<Vec<ChannelLog>, NoMemory>
     ensures { IfOk result (λ channels. channels.items
-        ≡ map (channel_from words.now cycles goings.now)
-        (channels_of (length app.now.connections))) }
+        ≡ map (channel_from [] 0 []) (channels_of (length app.now.connections))) }
 {
     let mut channels = Vec::new(alloc);
     for c in 0..app.connections() {
-        let conn = ConnId(c);
-        let forward = Channel {
-            conn,
-            side: Side::Fwd,
-        };
-        channels.push(first_channel(alloc, words, goings, forward, cycles)?)?;
-        let backward = Channel {
-            conn,
-            side: Side::Back,
-        };
-        channels.push(first_channel(alloc, words, goings, backward, cycles)?)?;
+        channels.push(first_channel(alloc, ConnId(c), Side::Fwd))?;
+        channels.push(first_channel(alloc, ConnId(c), Side::Back))?;
     }
     Ok(channels)
 }
 
-// A channel with its sessions.
-fn first_channel(
-    alloc: Global,
-    words: &Words,
-    goings: &[Going],
-    channel: Channel,
-    cycles: u32,
-) -> Result<ChannelLog, NoMemory>
-    requires words { AreOffered words.now }
-    requires goings { All (IsFresh words.now) goings.now }
-    requires known { All (λ one. channel_number one.channel < 2 * max_connections) goings.now }
-    requires channel { channel.conn.0 < max_connections }
-    ensures { IfOk result (λ made. made ≡ channel_from words.now cycles goings.now channel) }
+// A channel without sessions.
+fn first_channel(alloc: Global, conn: ConnId, side: Side) -> ChannelLog
+    ensures { result ≡ channel_from [] 0 [] (record { conn = conn; side = side }) }
 {
-    Ok(ChannelLog {
-        channel,
-        sessions: first_sessions(alloc, words, goings, number_of(channel), cycles)?,
+    ChannelLog {
+        channel: Channel { conn, side },
+        sessions: Vec::new(alloc),
         outside: 0,
-    })
+    }
 }
 
-// The sessions of the channel of a number.
-fn first_sessions(
+// Adds each session to its channel, in one walk.
+fn add_sessions(
     alloc: Global,
+    channels: &mut [ChannelLog],
     words: &Words,
     goings: &[Going],
-    number: u32,
     cycles: u32,
-) -> Result<Vec<SessionLog>, NoMemory>
+) -> Result<(), NoMemory>
     requires words { AreOffered words.now }
     requires goings { All (IsFresh words.now) goings.now }
     requires known { All (λ one. channel_number one.channel < 2 * max_connections) goings.now }
-    ensures { IfOk result (λ sessions. sessions.items
-        ≡ map (first_session words.now cycles) (goings_over number goings.now)) }
+    ensures { IfOk result (λ done. channels.new
+        ≡ each_by (added_by words.now cycles goings.now) 0 channels.old) }
 {
-    let mut sessions = Vec::new(alloc);
     for going in goings {
-        if number_of(going.channel) == number {
-            sessions.push(first_session(alloc, words, going, cycles)?)?;
+        let number = number_of(going.channel) as usize;
+        if number < channels.len() {
+            add_session(alloc, &mut channels[number], words, going, cycles)?;
         }
     }
-    Ok(sessions)
+    Ok(())
+}
+
+// Adds a session to its channel.
+fn add_session(
+    alloc: Global,
+    channel: &mut ChannelLog,
+    words: &Words,
+    going: &Going,
+    cycles: u32,
+) -> Result<(), NoMemory>
+    requires words { AreOffered words.now }
+    requires going { IsFresh words.now going.now }
+    ensures { IfOk result (λ done. channel.new ≡ record channel.old {
+      sessions = channel.old.sessions ++ first_session words.now cycles going.now ∷ [];
+    }) }
+{
+    let session = first_session(alloc, words, going, cycles)?;
+    channel.sessions.push(session)?;
+    Ok(())
 }
 
 // A session of which nothing has landed yet.

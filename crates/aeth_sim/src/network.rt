@@ -207,6 +207,7 @@ impl Network {
             &self.outside,
             self.schedule.goings(),
             &self.replaced,
+            &mut self.untils,
         );
         self.log
     }

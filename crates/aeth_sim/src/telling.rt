@@ -1,26 +1,31 @@
 // Tells the log of a run what its components have done.
 
-ghost use Rattle.std.specs.Prelude.{◌≡◌, ◌≤◌, ◌<◌, ◌+◌, ◌*◌, ◌^◌, ◌++◌, ◌∷◌, [], All};
-ghost use Rattle.std.specs.Prelude.{ℕ, List, count_by, drop, length, nat_lt, take};
+ghost use Rattle.std.specs.Prelude.{◌≡◌, ◌≤◌, ◌<◌, ◌+◌, ◌*◌, ◌^◌, ℕ, All, List, count_by};
+ghost use Rattle.std.specs.Prelude.{length, nat_lt};
 ghost use Rattle.aeth_app.specs.Limits.{max_connections};
 ghost use Rattle.aeth_trace.specs.Channels.{channel_number};
-ghost use Rattle.aeth_running.specs.Told.{landed_below, rows_told, session_told, sessions_told};
-ghost use Rattle.aeth_sim.specs.Telling.{channels_by, replaced_on, with_told};
+ghost use Rattle.aeth_running.specs.Told.{landed_below, rows_told, session_told};
+ghost use Rattle.aeth_sim.specs.ByNumber.{each_by};
+ghost use Rattle.aeth_sim.specs.Telling.{channels_by, ended_with, followed_by, gone_by, last_by};
+ghost use Rattle.aeth_sim.specs.Telling.{with_next, with_told};
 
 use aeth_components::{Components, Lane};
 use aeth_report::{ChannelLog, Landing, SessionLog, SimLog};
 use aeth_schedule::{Going, number_of};
 
-// Tells the log of a network, where these channels were replaced as sessions went.
+// Tells the log of a network, where these channels were replaced as sessions went. What it is given
+// to count these, channel by channel, may have any values.
 pub(crate) fn tell(
     log: &mut SimLog,
     components: &Components,
     outside: &[u32],
     goings: &[Going],
     replaced: &[Lane],
+    gone: &mut [u32],
 )
     requires goings { All (λ one. channel_number one.channel < 2 * max_connections) goings.now }
     requires replaced { length replaced.now ≤ length goings.now }
+    requires few { length replaced.now < 2 ^ 32 }
     requires noted { All (λ lane. lane.first + lane.landed ≤ length components.now.landings)
         replaced.now }
     requires lanes { All (λ lane. lane.first + lane.landed ≤ length components.now.landings)
@@ -28,6 +33,7 @@ pub(crate) fn tell(
     requires channels { length log.old.channels ≡ length components.now.lanes }
     requires outside { length outside.now ≡ length components.now.lanes }
     requires flits { length log.old.flits ≡ length components.now.flits }
+    requires gone { length gone.old ≡ length components.now.lanes }
     ensures { log.new ≡ record log.old {
       channels = channels_by log.old.cycles components.now.landings goings.now replaced.now
           components.now.lanes outside.now 0 log.old.channels;
@@ -37,23 +43,16 @@ pub(crate) fn tell(
     let cycles = log.cycles;
     let landings = components.landings();
     let lanes = components.lanes();
-    tell_channels(
-        &mut log.channels,
-        lanes,
-        outside,
-        goings,
-        replaced,
-        landings,
-        cycles,
-    );
+    tell_followed(&mut log.channels, gone, goings, replaced, landings, cycles);
+    tell_last(&mut log.channels, gone, lanes, outside, landings, cycles);
     log.flits.copy_from_slice(components.flits());
 }
 
-// Tells all channels.
-fn tell_channels(
+// Tells those sessions that another one of their channel has followed, in one walk, and counts the
+// sessions of each channel that have gone.
+fn tell_followed(
     channels: &mut [ChannelLog],
-    lanes: &[Lane],
-    outside: &[u32],
+    gone: &mut [u32],
     goings: &[Going],
     replaced: &[Lane],
     landings: &[u32],
@@ -61,104 +60,78 @@ fn tell_channels(
 )
     requires goings { All (λ one. channel_number one.channel < 2 * max_connections) goings.now }
     requires replaced { length replaced.now ≤ length goings.now }
+    requires few { length replaced.now < 2 ^ 32 }
     requires noted { All (λ lane. lane.first + lane.landed ≤ length landings.now) replaced.now }
+    requires gone { length gone.old ≡ length channels.old }
+    ensures channels { channels.new
+        ≡ each_by (followed_by cycles landings.now goings.now replaced.now) 0 channels.old }
+    ensures gone { gone.new ≡ each_by (gone_by goings.now replaced.now) 0 gone.old }
+{
+    gone.fill(0);
+    for place in 0..replaced.len() {
+        let number = number_of(goings[place].channel) as usize;
+        if number < channels.len() {
+            let channel = &mut channels[number];
+            tell_next(channel, gone[number], &replaced[place], landings, cycles);
+            gone[number] += 1;
+        }
+    }
+}
+
+// Tells the last of so many sessions of a channel that have gone, if one has, as one more goes.
+fn tell_next(channel: &mut ChannelLog, gone: u32, lane: &Lane, landings: &[u32], cycles: u32)
+    requires { lane.now.first + lane.now.landed ≤ length landings.now }
+    ensures { channel.new ≡ record channel.old {
+      sessions = with_next cycles landings.now gone lane.now channel.old.sessions;
+    } }
+{
+    if gone > 0 {
+        let last = gone as usize - 1;
+        tell_at(&mut channel.sessions, last, lane, landings, cycles);
+    }
+}
+
+// Tells the last session of each channel, of which so many have gone.
+fn tell_last(
+    channels: &mut [ChannelLog],
+    gone: &[u32],
+    lanes: &[Lane],
+    outside: &[u32],
+    landings: &[u32],
+    cycles: u32,
+)
     requires lanes { All (λ lane. lane.first + lane.landed ≤ length landings.now) lanes.now }
     requires channels { length channels.old ≡ length lanes.now }
     requires outside { length outside.now ≡ length lanes.now }
-    ensures { channels.new ≡ channels_by cycles landings.now goings.now replaced.now lanes.now
-        outside.now 0 channels.old }
+    requires gone { length gone.now ≡ length lanes.now }
+    ensures { channels.new
+        ≡ each_by (last_by cycles landings.now gone.now lanes.now outside.now) 0 channels.old }
 {
     for number in 0..channels.len() {
+        let channel = &mut channels[number];
         let lane = &lanes[number];
         let outside = outside[number];
-        tell_channel(
-            &mut channels[number],
-            number,
-            lane,
-            outside,
-            goings,
-            replaced,
-            landings,
-            cycles,
-        );
+        tell_channel(channel, gone[number], lane, outside, landings, cycles);
     }
 }
 
-// Tells a channel that stands so at last, with so many words outside of all its sessions.
+// Tells the last of so many sessions of a channel, which stands so at last, with so many words outside
+// of all of them. Where none has gone, the first is as one that has.
 fn tell_channel(
     channel: &mut ChannelLog,
-    number: usize,
+    gone: u32,
     lane: &Lane,
     outside: u32,
-    goings: &[Going],
-    replaced: &[Lane],
     landings: &[u32],
     cycles: u32,
 )
-    requires goings { All (λ one. channel_number one.channel < 2 * max_connections) goings.now }
-    requires replaced { length replaced.now ≤ length goings.now }
-    requires noted { All (λ lane. lane.first + lane.landed ≤ length landings.now) replaced.now }
-    requires lane { lane.now.first + lane.now.landed ≤ length landings.now }
-    ensures { channel.new ≡ record channel.old {
-      sessions = sessions_told cycles landings.now channel.old.sessions
-          (drop 1 (replaced_on number goings.now replaced.now) ++ lane.now ∷ []);
-      outside = outside;
-    } }
+    requires { lane.now.first + lane.now.landed ≤ length landings.now }
+    ensures { channel.new ≡ ended_with cycles landings.now gone lane.now outside channel.old }
 {
-    let sessions = &mut channel.sessions;
-    let count = tell_sessions(sessions, number, lane, goings, replaced, landings, cycles);
-    sessions.truncate(count);
+    let last = gone.saturating_sub(1) as usize;
+    tell_at(&mut channel.sessions, last, lane, landings, cycles);
+    channel.sessions.truncate(last + 1);
     channel.outside = outside;
-}
-
-// Tells the sessions of a channel that stands so at last, and gives how many have gone.
-fn tell_sessions(
-    sessions: &mut [SessionLog],
-    number: usize,
-    lane: &Lane,
-    goings: &[Going],
-    replaced: &[Lane],
-    landings: &[u32],
-    cycles: u32,
-) -> usize
-    requires goings { All (λ one. channel_number one.channel < 2 * max_connections) goings.now }
-    requires replaced { length replaced.now ≤ length goings.now }
-    requires noted { All (λ lane. lane.first + lane.landed ≤ length landings.now) replaced.now }
-    requires lane { lane.now.first + lane.now.landed ≤ length landings.now }
-    ensures { take result sessions.new ≡ sessions_told cycles landings.now sessions.old
-        (drop 1 (replaced_on number goings.now replaced.now) ++ lane.now ∷ []) }
-{
-    let count = tell_followed(sessions, number, goings, replaced, landings, cycles);
-    tell_at(sessions, count, lane, landings, cycles);
-    count + 1
-}
-
-// Tells those sessions of a channel that another one has followed, and gives how many these are.
-fn tell_followed(
-    sessions: &mut [SessionLog],
-    number: usize,
-    goings: &[Going],
-    replaced: &[Lane],
-    landings: &[u32],
-    cycles: u32,
-) -> usize
-    requires goings { All (λ one. channel_number one.channel < 2 * max_connections) goings.now }
-    requires replaced { length replaced.now ≤ length goings.now }
-    requires noted { All (λ lane. lane.first + lane.landed ≤ length landings.now) replaced.now }
-    ensures count { result ≡ length (drop 1 (replaced_on number goings.now replaced.now)) }
-    ensures sessions { sessions.new ≡ sessions_told cycles landings.now sessions.old
-        (drop 1 (replaced_on number goings.now replaced.now)) ++ drop result sessions.old }
-{
-    let mut gone = 0;
-    for place in 0..replaced.len() {
-        if number_of(goings[place].channel) as usize == number {
-            if gone > 0 {
-                tell_at(sessions, gone - 1, &replaced[place], landings, cycles);
-            }
-            gone += 1;
-        }
-    }
-    gone.saturating_sub(1)
 }
 
 // Tells the session at a place, if there is one, whose channel stood so at its end.

@@ -1,4 +1,4 @@
-use Rattle.std.proofs.Common.{map}
+use Rattle.std.proofs.Common.{[], map}
 use Rattle.std.proofs.lemmas.List.{append_assoc, map-append}
 use Rattle.aeth_report.specs.Channels.{channels_of, channels_with}
 use Rattle.aeth_sim.specs.Records.{channel_from}
@@ -8,12 +8,12 @@ use Rattle.aeth_sim.proofs.logging.first_channels.Goals as goal
 -- The channels of one connection more.
 pub loop-c-preserved : goal.loop-c-preserved
 loop-c-preserved c =
-    let made = channel_from c.args.words.now c.args.cycles c.args.goings.now in
+    let made = channel_from [] 0 [] in
     rw (
       c.in_ok-push-2.ensures.items,
       c.in_ok-push.ensures.items,
-      c.in_ok-first_channel-2.ensures,
-      c.in_ok-first_channel.ensures,
+      c.first_channel.ensures,
+      c.first_channel-in-loop-c.ensures,
       c.loop-c.invariant,
       channels_of-more c.loop-c.c,
       map-append made (channels_of c.loop-c.c) (channels_with c.loop-c.c),

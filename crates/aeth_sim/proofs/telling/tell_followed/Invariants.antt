@@ -1,14 +1,12 @@
-use Rattle.std.proofs.Common.{◌≡◌, ◌++◌, drop, length, take}
-use Rattle.aeth_running.specs.Told.{sessions_told}
-use Rattle.aeth_sim.specs.Telling.{replaced_on}
+use Rattle.std.proofs.Common.{◌≡◌, take}
+use Rattle.aeth_sim.specs.ByNumber.{each_by}
+use Rattle.aeth_sim.specs.Telling.{followed_by, gone_by}
 use Rattle.aeth_sim.proofs.telling.tell_followed.Given as goal
 
--- The sessions so far are told, but for the one that went last.
+-- The sessions so far are counted, and told but for the last of each channel.
 abbrev pub invariant-loop-place : goal.invariant-loop-place
 invariant-loop-place l = record {
-  gone : l.gone ≡ length (replaced_on l.number (take l.place l.goings) (take l.place l.replaced));
-  sessions : l.sessions ≡ sessions_told l.cycles l.landings l.fn.sessions
-      (drop 1 (replaced_on l.number (take l.place l.goings) (take l.place l.replaced)))
-      ++ drop (length (drop 1
-      (replaced_on l.number (take l.place l.goings) (take l.place l.replaced)))) l.fn.sessions;
+  channels : l.channels ≡ each_by (followed_by l.cycles l.landings (take l.place l.goings)
+      (take l.place l.replaced)) 0 l.fn.channels;
+  gone : l.gone ≡ each_by (gone_by (take l.place l.goings) (take l.place l.replaced)) 0 l.fn.gone;
 }

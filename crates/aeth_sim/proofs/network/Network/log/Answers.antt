@@ -23,6 +23,19 @@ tell-requires-clause-replaced c =
     let goings = ap length c.goings.ensures in
     omega arith
 
+-- So a counter can count them.
+pub tell-requires-clause-few : goal.tell-requires-clause-few
+tell-requires-clause-few c =
+    let inside = c.self.inside in
+    let old = state_of inside.schedule inside.offers.items inside.takes.items inside.components
+    inside.untils.items inside.outside.items inside.replaced.items inside.log inside.time in
+    let is : IsNetwork (vec_capacity inside.replaced) old = c.self.invariant.0 in
+    let few = passed-few (λ (one : Going). one.lane.go) inside.time inside.schedule.goings in
+    let gone = is.gone in
+    let most = is.few_goings in
+    let items = ap length c.deref-2.ensures.value in
+    omega arith
+
 -- The log is told.
 pub returns : goal.returns
 returns c =

@@ -1,8 +1,0 @@
-use Rattle.std.proofs.Common.{◌≡◌, ◌++◌, drop, take}
-use Rattle.aeth_sim.specs.Telling.{channels_by}
-use Rattle.aeth_sim.proofs.telling.tell_channels.Given as goal
-
--- The channels so far are told.
-abbrev pub invariant-loop-number : goal.invariant-loop-number
-invariant-loop-number l = l.channels ≡ channels_by l.cycles l.landings l.goings l.replaced l.lanes
-    l.outside 0 (take l.number l.fn.channels) ++ drop l.number l.fn.channels
