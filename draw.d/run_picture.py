@@ -11,6 +11,7 @@ BIN = 4  # the width of a bar
 LEAST_WIDTH = 6  # for each word of a lane, where each has a line
 SWITCH_ROOM = 24  # for each switch, where its band goes through all lanes
 LOAD_COLUMN = 330
+LATENESS = 110  # from the end of a lane to the number of its late words, behind its longest wait of up to seven digits
 
 RULES = """
 .word{stroke-width:1.2}.late{stroke-width:2.4}.due{stroke-width:1.2}.session{stroke:none}
@@ -93,7 +94,7 @@ def draw_lane(channel, scale, top, high, name_width):
     parts.append(draw(channel.words, scale, top, high))
     parts.append(svg.label(f"at most {channel.longest}", scale.right + 8, middle, "less"))
     if channel.late:
-        parts.append(svg.label(f"{channel.late} late", scale.right + 90, middle, "lateness"))
+        parts.append(svg.label(f"{channel.late} late", scale.right + LATENESS, middle, "lateness"))
     return svg.tag("g", *parts, class_="lane", role="img")
 
 
@@ -155,7 +156,7 @@ def summary(run):
     offered, late, outside = total(lambda c: c.offered), total(lambda c: c.late), total(lambda c: c.outside)
     landed, dropped = total(lambda c: len(c.words)), total(lambda c: c.dropped)
     return (
-        f"{svg.count(run.cycles, 'cycle')} with {len(run.switches) - 1} switches between use cases. "
+        f"{svg.count(run.cycles, 'cycle')} with {svg.count(len(run.switches) - 1, 'change')} of the use case. "
         f"{svg.count(offered, 'word')} offered in sessions, {landed} landed, {late} late, {dropped} dropped; "
         f"{outside} offered outside of all sessions."
     )
@@ -175,7 +176,7 @@ def draw_run(run):
     names = max([len(channel.name) for channel in lanes] + [10])
     name_width = min(190, svg.text_width("n" * names, 11) + 8)
     scale = Timescale(run.cycles, MARGIN + name_width)
-    width = scale.right + 160
+    width = scale.right + LATENESS + 70
     parts, y = [svg.label(f"Run of {svg.count(run.cycles, 'cycle')}", MARGIN, MARGIN + 14, "head")], MARGIN + 34
     for sentence, kind in ((summary(run), None), (READING, "less")):
         for text in svg.wrapped(sentence, width - 2 * MARGIN, 11):
