@@ -1,6 +1,7 @@
 -- Laws of what is counted behind a cycle.
 use Rattle.std.proofs.Common.{ℕ, zero, suc, ◌≡◌, ◌<◌, ◌≤◌, ◌+◌, refl, sym, ◌∙◌, ap, arith, subst}
 use Rattle.std.proofs.Common.{List, [], ◌∷◌, ◌++◌, length, map, fold, take, drop, get_or, set}
+use Rattle.std.specs.Option.{option_map_or}
 use Rattle.std.proofs.Common.{Option, Some, None, is_some, slice_get, inl, inr, true, false, length-set}
 use Rattle.std.proofs.lemmas.Bool.{cases_Bool}
 use Rattle.std.proofs.lemmas.List.Sums.{fold_push}
@@ -10,9 +11,10 @@ use Rattle.aeth_clocked.specs.declared.flit.Flit.{Flit}
 use Rattle.aeth_router.specs.declared.part.Part.{Part}
 use Rattle.aeth_components.specs.declared.lane.Lane.{Lane}
 use Rattle.std.proofs.lemmas.List.{take_all}
-use Rattle.aeth_components.specs.Counting.{brings, counted, flits_counted, noted, with_flit}
-use Rattle.aeth_components.specs.Counting.{written_over}
+use Rattle.aeth_components.specs.Counting.{brings, brought_at, counted, flits_counted, noted}
+use Rattle.aeth_components.specs.Counting.{with_flit, written_over}
 use Rattle.aeth_components.specs.Lanes.{IsLane, is_open}
+use Rattle.aeth_components.specs.Queues.{brought_by}
 use Rattle.aeth_ni.specs.Queue.{capped}
 
 -- One more item is mapped in its place.
@@ -65,27 +67,50 @@ pub noted-closed : (cycle : ℕ) (parts : List Part) (landings : List ℕ) (lane
     → is_open lane cycle ≡ false → noted cycle parts landings lane ≡ landings
 noted-closed cycle parts landings lane closed = rw closed refl
 
--- Where all that was handed on has landed, nothing lands.
-pub counted-none : (cycle : ℕ) (parts : List Part) (lane : Lane) → lane.handed ≤ lane.landed
+-- Where no words land, a channel stays as it was, and nothing is noted.
+pub counted-still : (cycle : ℕ) (parts : List Part) (lane : Lane) → brings parts lane ≡ 0
     → counted cycle parts lane ≡ lane
-counted-none cycle parts lane none =
+counted-still cycle parts lane still =
     elim (cases_Bool (is_open lane cycle)) [
       | inl opened ↦
-          let same : lane.landed + brings parts lane ≡ lane.landed = omega arith in
+          let same : lane.landed + brings parts lane ≡ lane.landed = omega (arith, still) in
           counted-open cycle parts lane opened ∙ ap (λ n. record lane { landed = n }) same
       | inr closed ↦ counted-closed cycle parts lane closed
     ]
 
+pub noted-still : (cycle : ℕ) (parts : List Part) (landings : List ℕ) (lane : Lane)
+    → brings parts lane ≡ 0 → noted cycle parts landings lane ≡ landings
+noted-still cycle parts landings lane still =
+    elim (cases_Bool (is_open lane cycle)) [
+      | inl opened ↦
+          noted-open cycle parts landings lane opened
+          ∙ ap (λ n. written_over n (lane.first + lane.landed) (cycle + 1) landings) still
+      | inr closed ↦ noted-closed cycle parts landings lane closed
+    ]
+
+-- So it is where all that was handed on has landed.
+brings-none : (parts : List Part) (lane : Lane) → lane.handed ≤ lane.landed
+    → brings parts lane ≡ 0
+brings-none parts lane none = omega arith
+
+pub counted-none : (cycle : ℕ) (parts : List Part) (lane : Lane) → lane.handed ≤ lane.landed
+    → counted cycle parts lane ≡ lane
+counted-none cycle parts lane none =
+    counted-still cycle parts lane (brings-none parts lane none)
+
 pub noted-none : (cycle : ℕ) (parts : List Part) (landings : List ℕ) (lane : Lane)
     → lane.handed ≤ lane.landed → noted cycle parts landings lane ≡ landings
 noted-none cycle parts landings lane none =
-    elim (cases_Bool (is_open lane cycle)) [
-      | inl opened ↦
-          let nothing : brings parts lane ≡ 0 = omega arith in
-          noted-open cycle parts landings lane opened
-          ∙ ap (λ n. written_over n (lane.first + lane.landed) (cycle + 1) landings) nothing
-      | inr closed ↦ noted-closed cycle parts landings lane closed
-    ]
+    noted-still cycle parts landings lane (brings-none parts lane none)
+
+-- And where the receiver's component got no words.
+pub brings-silent : (parts : List Part) (lane : Lane) (part : Part)
+    → slice_get parts lane.receiver.ni.0 ≡ Some part
+    → brought_by lane.receiver.queue part ≡ 0 → brings parts lane ≡ 0
+brings-silent parts lane part at silent =
+    let none : brought_at lane.receiver parts ≡ 0 =
+    ap (λ found. option_map_or (brought_by lane.receiver.queue) found 0) at ∙ silent in
+    omega (arith, none)
 
 -- Counting keeps what holds of a channel.
 pub IsLane-counted : (words cycle count : ℕ) (parts : List Part) (lane : Lane)

@@ -48,11 +48,11 @@ fn count_one(parts: &[Part], lane: &mut Lane, landings: &mut [u32], cycle: u32) 
     ensures landings { landings.new ≡ noted cycle parts.now landings.old lane.old }
     ensures same { result ≡ false → lane.new ≡ lane.old }
 {
+    let part = &parts[lane.receiver.ni.0 as usize];
+    if is_silent(part) {
+        return false;
+    }
     if lane.landed < lane.handed && lane.is_open(cycle) {
-        let part = &parts[lane.receiver.ni.0 as usize];
-        if is_silent(part) {
-            return false;
-        }
         let words = brought(part, lane.receiver.queue).min(lane.handed - lane.landed);
         if words == 0 {
             return false;

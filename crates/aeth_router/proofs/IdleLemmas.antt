@@ -2,8 +2,7 @@
 use Rattle.std.proofs.Common.{◌≡◌, ℕ, zero, suc, refl, sym, ap, ◌∙◌, inl, inr}
 use Rattle.std.proofs.Common.{true, List, [], ◌∷◌, length, map, replicate}
 use Rattle.std.proofs.Common.{Option, Some, None, slice_get}
-use Rattle.std.specs.Prelude.{◌==◌, is_none, option_and_then, position}
-use Rattle.std.specs.List.{list_all}
+use Rattle.std.specs.Prelude.{◌==◌, option_and_then, position}
 use Rattle.std.proofs.lemmas.Bool.{cases_Bool}
 use Rattle.aeth_clocked.specs.declared.flit.Flit.{Flit}
 use Rattle.aeth_clocked.specs.Wires.{Drives, flit_on}
@@ -27,14 +26,7 @@ pub emitted_on-idle : (outgoing : List ℕ) (count link : ℕ)
 emitted_on-idle outgoing count link =
     sole-idle count (position (λ other. other == link) outgoing)
 
--- Where each place is empty, none is held.
-pub held-idle : (held : List (Option Flit)) → list_all (λ flit. is_none flit) held ≡ true
-    → held ≡ replicate (length held) None
-held-idle [] idle = refl
-held-idle (None ∷ held) idle = ap (λ (rest : List (Option Flit)). None ∷ rest) (held-idle held idle)
-held-idle (Some flit ∷ held) idle = absurd (cc idle)
-
--- So its outgoing links are just empty then.
+-- So its outgoing links are just empty.
 pub Drives-cleared : (outgoing : List ℕ) (held : List (Option Flit)) (old new : List (Option Flit))
     → held ≡ replicate (length held) None
     → Drives (is_among outgoing) (λ _. None) old new

@@ -1,12 +1,13 @@
 -- What each turn of the loops over links of a router adds.
 use Rattle.std.proofs.Common.{◌≡◌, ◌<◌, ◌+◌, ℕ, refl, sym, ap, ◌∙◌, arith}
-use Rattle.std.proofs.Common.{eqb, ◌||◌, List, [], ◌∷◌, ◌++◌, length, map, take}
-use Rattle.std.proofs.Common.{get_or, Option, Some, None}
+use Rattle.std.proofs.Common.{eqb, ◌||◌, List, [], ◌∷◌, ◌++◌, length, map, replicate, take}
+use Rattle.std.proofs.Common.{get_or, Option, Some, None, false, is_some}
 use Rattle.std.proofs.Common.{slice_get}
 use Rattle.std.specs.Prelude.{unwrap_or}
 use Rattle.std.specs.List.{slice_set}
 use Rattle.std.proofs.lemmas.Bool.Decides.{nat_tests}
-use Rattle.std.proofs.lemmas.List.{map-append, take_more, take_more_set}
+use Rattle.std.proofs.lemmas.List.{map-append, replicate-append-replicate, take_more}
+use Rattle.std.proofs.lemmas.List.{take_more_set}
 use Rattle.std.proofs.lemmas.List.Folds.{list_any-append}
 use Rattle.std.proofs.lemmas.Option.{get_or_from_slice_get, slice_get-get_or, slice_get-map}
 use Rattle.std.proofs.lemmas.Option.{slice_get_within}
@@ -69,6 +70,22 @@ held-more wires held links place link flit at within on before =
     take_more_set held place flit within
     ∙ rw (take-at links place link at, map-append (flit_on wires) (take place links) (link ∷ []))
     (rw (before, is) refl)
+
+-- One wire more carries none.
+pub empty-more : (wires : List (Option Flit)) (links : List ℕ) (place link : ℕ)
+    (flit : Option Flit) → slice_get links place ≡ Some link → slice_get wires link ≡ Some flit
+    → is_some flit ≡ false → map (flit_on wires) (take place links) ≡ replicate place None
+    → map (flit_on wires) (take (place + 1) links) ≡ replicate (place + 1) None
+empty-more wires links place link (Some flit) at on none before = absurd (cc none)
+empty-more wires links place link None at on none before =
+    let empty : flit_on wires link ≡ None =
+    ap (λ (there : Option (Option Flit)). unwrap_or there None) on in
+    rw (
+      take-at links place link at,
+      map-append (flit_on wires) (take place links) (link ∷ []),
+      before,
+      empty,
+    ) (replicate-append-replicate place 1 None)
 
 -- The links up to a place, and the one at it.
 is_among-more : (links : List ℕ) (place link other : ℕ) → slice_get links place ≡ Some link

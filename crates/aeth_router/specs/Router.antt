@@ -1,13 +1,14 @@
 -- A router: its state, what it emits, and what it latches.
 --
 --   RouterState, IsRouter          the state, and what holds of every one
+--   IsNoted                        what a router notes of the flits that it holds
 --   last_wire, entering_wires      where a link ends, and where those of a router do
 --   new_router                     the state at first
 --   emitted_on, emptied, absorbed  what is on an outgoing link, and what is left and held then
 --   router_outputs and its kin     the meanings of a router as a component
 --
 -- Routers that forward by one hop in a cycle: after Æthereal (2005).
-use Rattle.std.specs.Prelude.{◌≡◌, ℕ, ◌-◌, ◌==◌, Bool, Option, Some, None, option_and_then}
+use Rattle.std.specs.Prelude.{◌≡◌, ℕ, ◌-◌, ◌==◌, Bool, false, Option, Some, None, option_and_then}
 use Rattle.std.specs.Prelude.{List, length, map, replicate, slice_get, position}
 use Rattle.std.specs.List.{list_any}
 use Rattle.aeth_base.specs.declared.ids.LinkId.{LinkId}
@@ -37,6 +38,11 @@ AreDistinctLinks links = (i j link : ℕ) → slice_get links i ≡ Some link �
 pub record IsRouter (router : RouterState) : Type 0 where
   pub places : length router.held ≡ length router.incoming
   pub apart : AreDistinctLinks router.outgoing
+
+-- What is noted of a router: where no flit is noted, none is held.
+pub record IsNoted (is_holding : Bool) (router : RouterState) : Type 0 where
+  pub sound : IsRouter router
+  pub idle : is_holding ≡ false → router.held ≡ replicate (length router.held) None
 
 -- The numbers of links.
 abbrev pub numbers_of : List LinkId → List ℕ

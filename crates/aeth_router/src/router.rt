@@ -1,6 +1,6 @@
 // A router: flits latched in one cycle and driven in the next.
 
-ghost use Rattle.std.specs.Prelude.{◌≡◌, ◌<◌, IfOk, length, map, slice_set};
+ghost use Rattle.std.specs.Prelude.{◌≡◌, ◌<◌, IfOk, None, false, length, map, replicate, slice_set};
 ghost use Rattle.aeth_chip.specs.Nodes.{sends_on};
 ghost use Rattle.aeth_clocked.specs.Wires.{AreLinks, flit_on};
 ghost use Rattle.aeth_router.specs.Router.{is_among, last_wire, new_router, numbers_of};
@@ -9,7 +9,7 @@ ghost use Rattle.aeth_router.specs.Router.{router_after, router_absorb};
 ghost use Rattle.aeth_router.specs.Agreement.{router_absorb-agrees};
 ghost use Rattle.std.proofs.Common.{refl};
 
-use crate::traffic::{clear, emit, is_idle};
+use crate::traffic::{clear, emit};
 use aeth_base::{LinkId, NoMemory, RouterId};
 use aeth_chip::{Chip, Node};
 use aeth_clocked::{Clocked, Flit, Wires};
@@ -27,10 +27,12 @@ pub struct Router {
     incoming: Vec<LinkId>,
     outgoing: Vec<LinkId>,
     held: Vec<Option<Flit>>,
+    // Where this is false, no flit is held.
+    is_holding: bool,
 }
 
 impl Model for Router {
-    ghost use Rattle.aeth_router.specs.Router.{RouterState, IsRouter, numbers_of};
+    ghost use Rattle.aeth_router.specs.Router.{RouterState, IsNoted, numbers_of};
 
     ghost Value = { RouterState };
 
@@ -40,7 +42,7 @@ impl Model for Router {
       held = router.held.items;
     } };
 
-    ghost invariant = { λ router. IsRouter (record {
+    ghost invariant = { λ router. IsNoted router.is_holding (record {
       incoming = numbers_of router.incoming.items;
       outgoing = numbers_of router.outgoing.items;
       held = router.held.items;
@@ -57,11 +59,12 @@ impl Router {
     {
         let incoming = last_wires(alloc, chip, chip.incoming(router))?;
         let outgoing = sending(alloc, chip, Node::Router(router))?;
-        let held = vec![in alloc; None; incoming.len()]?;
+        let held = empty_places(alloc, incoming.len())?;
         Ok(Router {
             incoming,
             outgoing,
             held,
+            is_holding: false,
         })
     }
 }
@@ -78,16 +81,20 @@ impl Clocked for Router {
     ghost absorb = { router_absorb };
 
     fn drive(&mut self, _cycle: u64, wires: &mut Wires) {
-        if is_idle(&self.held) {
-            clear(&self.outgoing, wires);
-        } else {
+        if self.is_holding {
             emit(&self.outgoing, &self.held, wires);
             self.held.fill(None);
+            self.is_holding = false;
+        } else {
+            clear(&self.outgoing, wires);
         }
     }
 
     fn latch(&mut self, wires: &Wires) {
-        take_in(&mut self.held, &self.incoming, wires);
+        if self.is_holding || brings_some(&self.incoming, wires) {
+            take_in(&mut self.held, &self.incoming, wires);
+            self.is_holding = true;
+        }
     }
 
     ghost outputs_after = { λ router cycle link. refl };
@@ -99,6 +106,13 @@ impl Clocked for Router {
     ghost inputs_absorb = { λ router wires link. refl };
 
     ghost absorb_agrees = { router_absorb-agrees };
+}
+
+// So many places, and a flit at none.
+fn empty_places(alloc: Global, count: usize) -> Result<Vec<Option<Flit>>, NoMemory>
+    ensures { IfOk result (λ held. held.items ≡ replicate count None) }
+{
+    Ok(vec![in alloc; None; count]?)
 }
 
 // The links on which a node sends.
@@ -133,6 +147,20 @@ fn last_wire(chip: &Chip, link: LinkId) -> LinkId
     ensures { result.0 ≡ last_wire chip.now.links link.0 }
 {
     chip.wire(link, chip.link(link).delay - 1)
+}
+
+// Whether one of these wires carries a flit.
+fn brings_some(incoming: &[LinkId], wires: &Wires) -> bool
+    requires { AreLinks (is_among (numbers_of incoming.now)) (length wires.now) }
+    ensures { result ≡ false → map (flit_on wires.now) (numbers_of incoming.now)
+        ≡ replicate (length incoming.now) None }
+{
+    for link in incoming {
+        if wires.get(*link).is_some() {
+            return true;
+        }
+    }
+    false
 }
 
 // Holds from each incoming wire what is there.

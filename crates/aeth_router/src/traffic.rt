@@ -1,7 +1,6 @@
 // What the flits that a router holds put on its output links.
 
-ghost use Rattle.std.specs.Prelude.{◌≡◌, ◌++◌, ◌∷◌, [], List, None, Option, is_none, length};
-ghost use Rattle.std.specs.List.{list_all};
+ghost use Rattle.std.specs.Prelude.{◌≡◌, ◌++◌, ◌∷◌, [], List, None, Option, length};
 ghost use Rattle.aeth_clocked.specs.Wires.{AreLinks, Drives};
 ghost use Rattle.aeth_clocked.specs.declared.flit.Flit.{Flit};
 ghost use Rattle.aeth_router.specs.Ports.{flits_for, sole};
@@ -71,13 +70,6 @@ pub(crate) fn clear(outgoing: &[LinkId], wires: &mut Wires)
     for link in outgoing {
         wires.put(*link, None);
     }
-}
-
-/// Whether no flit is held.
-pub(crate) fn is_idle(held: &[Option<Flit>]) -> bool
-    ensures { result ≡ list_all (λ flit. is_none flit) held.now }
-{
-    held.iter().all(|flit| flit.is_none())
 }
 
 // What goes to each port.

@@ -4,10 +4,18 @@ use Rattle.aeth_router.specs.Router.{RouterState, is_among, numbers_of}
 use Rattle.aeth_router.proofs.router.RouterClocked.latch.Goals as goal
 
 -- The incoming links are links.
-pub take_in-requires-clause-links : goal.take_in-requires-clause-links
-take_in-requires-clause-links c =
+pub brings_some-requires : goal.brings_some-requires
+brings_some-requires c =
     let same : numbers_of c.deref.result.now ≡ c.args.self.now.incoming =
     ap numbers_of c.deref.ensures.value
+    ∙ ap (λ (router : RouterState). router.incoming) c.self.view_is in
+    subst (λ (links : List ℕ). AreLinks (is_among links) (length c.args.wires.now)) (sym same)
+    c.requires
+
+pub take_in-requires-clause-links : goal.take_in-requires-clause-links
+take_in-requires-clause-links c =
+    let same : numbers_of c.deref-then-self.result.now ≡ c.args.self.now.incoming =
+    ap numbers_of c.deref-then-self.ensures.value
     ∙ ap (λ (router : RouterState). router.incoming) c.self.view_is in
     subst (λ (links : List ℕ). AreLinks (is_among links) (length c.args.wires.now)) (sym same)
     c.requires
