@@ -1,13 +1,12 @@
 -- Parts of an application made from tables: marks, places of names, and what holds of the parts.
 --
---   wish_stands    what holds of tables
 --   length-named_marks, named_marks-none, named_marks-known, named_marks-unknown    marks
 --   end_of-within, ni_of-within    places of names
 --   IsFixedBelow, cores_fixed, uses_marked    what holds of cores and use cases
 use Rattle.std.proofs.Common.{◌≡◌, ◌+◌, ◌++◌, ◌<◌, ℕ, zero, suc, true, false, List, [], ◌∷◌}
 use Rattle.std.proofs.Common.{length, map, Option, Some, None, refl, ap, arith, Bool}
 use Rattle.std.proofs.Common.{◌||◌, ◌==◌, inl, inr, subst}
-use Rattle.std.specs.Prelude.{All, option_map, replicate, unwrap_or, IsSome, codes}
+use Rattle.std.specs.Prelude.{All, option_map, replicate, codes}
 use Rattle.std.specs.List.{filter_map, list_any, range_with_len, slice_set}
 use Rattle.std.proofs.lemmas.Bool.{cases_Bool, ne_eqb}
 use Rattle.std.proofs.lemmas.Bool.Decides.{Decides-eqb}
@@ -15,11 +14,10 @@ use Rattle.std.proofs.lemmas.List.{append-nil}
 use Rattle.std.proofs.lemmas.List.FromFn.{length-map-range_with_len}
 use Rattle.std.proofs.lemmas.List.Elements.{filter_map-append, All-cons}
 use Rattle.std.proofs.lemmas.List.Elements.{All-nil}
-use Rattle.toml.specs.Data.{Members, no_members}
-use Rattle.aeth_document.specs.Values.{integer_at, text_if, texts_at}
+use Rattle.toml.specs.Data.{Members}
+use Rattle.aeth_document.specs.Values.{text_if, texts_at}
 use Rattle.aeth_document.specs.Walks.{place_of}
 use Rattle.aeth_app.specs.Parts.{named_marks, core_of, end_of, ni_of, use_of}
-use Rattle.aeth_app.specs.Ranges.{IsWishInRange}
 use Rattle.std.proofs.lemmas.Option.{same_Some}
 use Rattle.aeth_base.specs.declared.ids.NiId.{NiId}
 use Rattle.aeth_document.proofs.WalkLemmas.{place_of-within}
@@ -107,15 +105,6 @@ pub named_marks-unknown : (names texts : List (List ℕ)) (text : List ℕ)
     → named_marks names texts ≡ named_marks names (texts ++ text ∷ [])
 named_marks-unknown names texts text unknown =
     rw (filter_map-append (place_of names) texts (text ∷ []), ← unknown, append-nil) refl
-
--- Where a wish is in its ranges there is a table for it.
-pub wish_stands : {T : Type 0} (view : T → Members) (table : Option T) (found : Option Members)
-    → option_map view table ≡ found → IsWishInRange (unwrap_or found no_members)
-    → IsSome table
-unfolding integer_at
-wish_stands view None None is range = absurd (omega (arith, range.some_per))
-wish_stands view None (Some wish) is range = absurd (cc is)
-wish_stands view (Some table) found is range = refl
 
 end_within : (names : List (List ℕ)) (text : List ℕ) (place : Option ℕ)
     → place_of names text ≡ place → unknown names text ≡ None

@@ -185,11 +185,8 @@ impl App {
         ensures some { 1 ≤ result }
         ensures most { result ≤ self.now.slots }
     {
-        need_of(
-            self.settings.slots,
-            &self.connection(channel.conn),
-            channel.side,
-        )
+        let connection = self.connection(channel.conn);
+        need_of(self.settings.slots, &connection, channel.side)
     }
 
     /// The position of a connection at one of its ends: how many connections of the core stand
@@ -234,10 +231,7 @@ impl App {
         ensures { option_map (λ core. core.0) result
             ≡ position (bytes_eq name.now) (map (λ core. core.name) self.now.cores) }
     {
-        match place_in(&self.names.cores, name) {
-            Some(place) => Some(CoreId(place)),
-            None => None,
-        }
+        Some(CoreId(place_in(&self.names.cores, name)?))
     }
 
     /// The connection of this name; `None` exactly where no connection has it.
@@ -245,10 +239,7 @@ impl App {
         ensures { option_map (λ connection. connection.0) result ≡ position (bytes_eq name.now)
             (map (λ connection. connection.name) self.now.connections) }
     {
-        match place_in(&self.names.connections, name) {
-            Some(place) => Some(ConnId(place)),
-            None => None,
-        }
+        Some(ConnId(place_in(&self.names.connections, name)?))
     }
 
     /// The use case of this name; `None` exactly where no use case has it.
@@ -256,10 +247,7 @@ impl App {
         ensures { option_map (λ u. u.0) result
             ≡ position (bytes_eq name.now) (map (λ one. one.name) self.now.uses) }
     {
-        match place_in(&self.names.uses, name) {
-            Some(place) => Some(UseId(place)),
-            None => None,
-        }
+        Some(UseId(place_in(&self.names.uses, name)?))
     }
 }
 
@@ -277,17 +265,11 @@ fn place_in(names: &IndexSet<Name>, name: &Name) -> Option<u32>
 pub(crate) fn count_ends(connections: &[Connection], core: CoreId) -> usize
     ensures { result ≡ count_by (is_end core) connections.now }
 {
-    connections
-        .iter()
-        .filter(|connection| connection.is_end(core))
-        .count()
+    connections.iter().filter(|one| one.is_end(core)).count()
 }
 
 fn is_marked(marks: &[bool], place: u32) -> bool
     ensures { result ≡ is_marked marks.now place }
 {
-    match marks.get(place as usize) {
-        Some(mark) => *mark,
-        None => false,
-    }
+    marks.get(place as usize).copied().unwrap_or(false)
 }

@@ -17,12 +17,7 @@ use aeth_document::Walk;
 fn too_fast(wish: &Wish) -> Option<Shown>
     ensures { result ≡ too_fast wish.now }
 {
-    let words = wish.words as u64;
-    if words <= WORDS_PER_FLIT as u64 * wish.per as u64 {
-        None
-    } else {
-        Some(Shown::Number(words))
-    }
+    above(WORDS_PER_FLIT as u64 * wish.per as u64, wish.words as u64)
 }
 
 // The first wish that has more than two words a cycle.
@@ -40,10 +35,9 @@ fn rate_too_high(connections: &[Connection]) -> Option<Broken>
 fn shown_core(cores: &[Core], core: CoreId) -> Shown
     ensures { result ≡ shown_core (slice_get cores.now core.0) }
 {
-    match cores.get(core.0 as usize) {
-        None => Shown::Nothing,
-        Some(core) => Shown::Word(core.name),
-    }
+    cores
+        .get(core.0 as usize)
+        .map_or(Shown::Nothing, |core| Shown::Word(core.name))
 }
 
 fn own_end(cores: &[Core], connection: &Connection) -> Option<Shown>
@@ -71,11 +65,7 @@ fn core_to_itself(cores: &[Core], connections: &[Connection]) -> Option<Broken>
 fn above(most: u64, count: u64) -> Option<Shown>
     ensures { result ≡ above most count }
 {
-    if count <= most {
-        None
-    } else {
-        Some(Shown::Number(count))
-    }
+    (count > most).then_some(Shown::Number(count))
 }
 
 // The first core that is an end of too many connections.
@@ -103,10 +93,7 @@ fn too_few_seats(nis: u32, cores: u32) -> Option<Broken>
 fn is_fixed_to(core: &Core, ni: u32) -> bool
     ensures { result ≡ is_fixed_to ni core.now }
 {
-    match core.fixed {
-        None => false,
-        Some(fixed) => fixed.0 == ni,
-    }
+    core.fixed.is_some_and(|fixed| fixed.0 == ni)
 }
 
 fn count_fixed(cores: &[Core], ni: u32) -> usize

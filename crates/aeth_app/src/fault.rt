@@ -4,7 +4,6 @@ ghost use Rattle.aeth_app.specs.Fault.{rule_at, rule_of};
 ghost use Rattle.aeth_app.specs.declared.fault.AppFault.TheVariants.{Memory};
 
 use aeth_base::{Broken, BrokenRule, Fault, NoMemory, Shown};
-use std::alloc::{AllocError, AllocFailed};
 
 /// The first rule that an application file breaks, with the first place in its walk where it is
 /// broken, and the value there.
@@ -85,22 +84,6 @@ impl From<NoMemory> for AppFault {
     ghost from_gives = { λ _ fault. fault ≡ Memory };
 
     fn from(_: NoMemory) -> AppFault {
-        AppFault::Memory
-    }
-}
-
-impl From<AllocError> for AppFault {
-    ghost from_gives = { λ _ fault. fault ≡ Memory };
-
-    fn from(_: AllocError) -> AppFault {
-        AppFault::Memory
-    }
-}
-
-impl<T: Drop> From<AllocFailed<T>> for AppFault {
-    ghost from_gives = { λ _ fault. fault ≡ Memory };
-
-    fn from(_: AllocFailed<T>) -> AppFault {
         AppFault::Memory
     }
 }

@@ -54,17 +54,7 @@ fn wrong_wish_key(connection: &Table, side: &str) -> Option<Shown>
     }
 }
 
-// The walk after the checks of a connection's own table, its `fwd` and its `back`.
-fn connection_keys(walk: Walk, connection: &Table) -> Walk
-    ensures { result ≡ walked walk (wrong_connection_keys (table_view connection.now)) }
-{
-    walk.checks(&[
-        wrong_key(connection, &CONNECTION),
-        wrong_wish_key(connection, "fwd"),
-        wrong_wish_key(connection, "back"),
-    ])
-}
-
+// The checks of each connection's own table, its `fwd` and its `back`.
 #[tactic(auto, unfolding(aeth_document::specs::Walks::walked))]
 fn keys_of_connections(walk: Walk, connections: Tables<'_>) -> Walk
     ensures { result ≡ walked walk
@@ -72,7 +62,11 @@ fn keys_of_connections(walk: Walk, connections: Tables<'_>) -> Walk
 {
     let mut walk = walk;
     for connection in connections {
-        walk = connection_keys(walk, connection);
+        walk = walk.checks(&[
+            wrong_key(connection, &CONNECTION),
+            wrong_wish_key(connection, "fwd"),
+            wrong_wish_key(connection, "back"),
+        ]);
     }
     walk
 }

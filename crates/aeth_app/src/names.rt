@@ -1,7 +1,6 @@
 // The names of an application file's cores, connections and use cases.
-ghost use Rattle.std.specs.Prelude.{◌≡◌, ◌++◌, ◌∷◌, [], codes, option_map, true};
-ghost use Rattle.std.specs.Prelude.{false, All, IfOk, OnOk};
-ghost use Rattle.std.specs.List.{list_any, IsDistinct};
+ghost use Rattle.std.specs.Prelude.{◌≡◌, codes, option_map, true, All, IfOk};
+ghost use Rattle.std.specs.List.{IsDistinct};
 ghost use Rattle.std.specs.Str.{bytes_eq};
 ghost use Rattle.aeth_base.specs.Name.{is_name};
 ghost use Rattle.aeth_app.specs.Parts.{ni_of};
@@ -29,25 +28,15 @@ pub(crate) fn name_at(table: &Table) -> Name
     Name::new(text_at(table, "name").as_bytes()).unwrap()
 }
 
-// Adds a name at the end, which is new.
-fn add(set: &mut IndexSet<Name>, name: Name) -> Result<(), NoMemory>
-    requires { list_any (bytes_eq name) set.old.keys ≡ false }
-    ensures { OnOk result (set.new.keys ≡ set.old.keys ++ name ∷ []) }
-{
-    set.insert_full(name)?;
-    Ok(())
-}
-
 // The names of the tables, which are distinct, as a set.
 fn names_in(alloc: Global, tables: Tables<'_>) -> Result<IndexSet<Name>, NoMemory>
     requires named { All IsNamed (tables_in tables) }
     requires apart { IsDistinct bytes_eq (names_in (tables_in tables)) }
-    ensures { IfOk result (λ names. names.keys
-        ≡ names_in (tables_in tables.entry)) }
+    ensures { IfOk result (λ names. names.keys ≡ names_in (tables_in tables.entry)) }
 {
     let mut names = IndexSet::new(alloc);
     for table in tables {
-        add(&mut names, name_at(table))?;
+        names.insert_full(name_at(table))?;
     }
     Ok(names)
 }
@@ -69,11 +58,5 @@ pub(crate) fn names_of(alloc: Global, root: &Table) -> Result<Names, NoMemory>
 pub(crate) fn ni_of(chip: &Chip, text: Option<&str>) -> Option<NiId>
     ensures { result ≡ ni_of chip.now.nis (option_map (λ t. t.now) text.entry) }
 {
-    match text {
-        None => None,
-        Some(text) => match Name::new(text.as_bytes()) {
-            None => None,
-            Some(name) => chip.find_ni(&name),
-        },
-    }
+    chip.find_ni(&Name::new(text?.as_bytes())?)
 }

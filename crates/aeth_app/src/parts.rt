@@ -12,25 +12,14 @@ ghost use Rattle.toml.specs.View.{table_view};
 use crate::app::Names;
 use crate::connection::{Connection, Core, Price, Wish};
 use crate::names::{name_at, ni_of};
+use crate::ranges::wish_number;
 use crate::use_case::UseCase;
 use aeth_base::{CoreId, Name, NoMemory};
 use aeth_chip::Chip;
-use aeth_document::{
-    Tables, Texts, integer_at, place_of, size, table_at, text_at, text_if, texts_at,
-};
+use aeth_document::{Tables, Texts, place_of, size, text_at, text_if, texts_at};
 use indexmap::IndexSet;
 use std::alloc::Global;
 use toml::Table;
-
-fn core_of(chip: &Chip, table: &Table) -> Core
-    requires { IsNamed (table_view table.now) }
-    ensures { result ≡ core_of chip.now.nis (table_view table.now) }
-{
-    Core {
-        name: name_at(table),
-        fixed: ni_of(chip, text_if(table, "ni")),
-    }
-}
 
 /// The cores of the tables.
 pub(crate) fn cores_of(
@@ -44,53 +33,31 @@ pub(crate) fn cores_of(
 {
     let mut cores = Vec::new(alloc);
     for table in tables {
-        cores.push(core_of(chip, table))?;
+        cores.push(Core {
+            name: name_at(table),
+            fixed: ni_of(chip, text_if(table, "ni")),
+        })?;
     }
     Ok(cores)
 }
 
-fn wish_in(table: &Table) -> Wish
-    requires { IsWishInRange (table_view table.now) }
-    ensures { result ≡ wish_in (table_view table.now) }
-{
-    Wish {
-        words: size(integer_at(table, "words")) as u32,
-        per: size(integer_at(table, "per")) as u32,
-        latency: size(integer_at(table, "latency")) as u32,
-        delay: size(integer_at(table, "delay")) as u32,
-    }
-}
-
-fn wish_at(connection: &Table, side: &str) -> Wish
+fn wish_in(connection: &Table, side: &str) -> Wish
     requires { IsWishInRange (wish_at side.now (table_view connection.now)) }
     ensures { result ≡ wish_in (wish_at side.now (table_view connection.now)) }
 {
-    wish_in(table_at(connection, side).unwrap())
+    Wish {
+        words: size(wish_number(connection, side, "words")) as u32,
+        per: size(wish_number(connection, side, "per")) as u32,
+        latency: size(wish_number(connection, side, "latency")) as u32,
+        delay: size(wish_number(connection, side, "delay")) as u32,
+    }
 }
 
 fn end_of(cores: &IndexSet<Name>, text: &str) -> CoreId
     requires { length cores.now.keys < 2 ^ 32 }
     ensures { result ≡ end_of cores.now.keys text.now }
 {
-    match place_of(cores, text) {
-        Some(core) => CoreId(core),
-        None => CoreId(0),
-    }
-}
-
-fn connection_of(cores: &IndexSet<Name>, table: &Table) -> Connection
-    requires cores { length cores.now.keys < 2 ^ 32 }
-    requires name { IsNamed (table_view table.now) }
-    requires wishes { IsConnectionInRange (table_view table.now) }
-    ensures { result ≡ connection_of cores.now.keys (table_view table.now) }
-{
-    Connection {
-        name: name_at(table),
-        from: end_of(cores, text_at(table, "from")),
-        to: end_of(cores, text_at(table, "to")),
-        fwd: wish_at(table, "fwd"),
-        back: wish_at(table, "back"),
-    }
+    CoreId(place_of(cores, text).unwrap_or(0))
 }
 
 /// The connections of the tables, between cores of these names.
@@ -107,7 +74,13 @@ pub(crate) fn connections_of(
 {
     let mut connections = Vec::new(alloc);
     for table in tables {
-        connections.push(connection_of(cores, table))?;
+        connections.push(Connection {
+            name: name_at(table),
+            from: end_of(cores, text_at(table, "from")),
+            to: end_of(cores, text_at(table, "to")),
+            fwd: wish_in(table, "fwd"),
+            back: wish_in(table, "back"),
+        })?;
     }
     Ok(connections)
 }
@@ -141,20 +114,6 @@ fn named_marks(
     Ok(marks)
 }
 
-fn use_of(alloc: Global, names: &Names, table: &Table) -> Result<UseCase, NoMemory>
-    requires connections { length names.now.connections.keys < 2 ^ 32 }
-    requires uses { length names.now.uses.keys < 2 ^ 32 }
-    requires name { IsNamed (table_view table.now) }
-    ensures { IfOk result (λ one. one
-        ≡ use_of names.now.connections.keys names.now.uses.keys (table_view table.now)) }
-{
-    Ok(UseCase {
-        name: name_at(table),
-        has: named_marks(alloc, &names.connections, texts_at(table, "connections"))?,
-        smooth: named_marks(alloc, &names.uses, texts_at(table, "smooth"))?,
-    })
-}
-
 /// The use cases of the tables, with connections and use cases of these names.
 pub(crate) fn uses_of(
     alloc: Global,
@@ -169,7 +128,11 @@ pub(crate) fn uses_of(
 {
     let mut uses = Vec::new(alloc);
     for table in tables {
-        uses.push(use_of(alloc, names, table)?)?;
+        uses.push(UseCase {
+            name: name_at(table),
+            has: named_marks(alloc, &names.connections, texts_at(table, "connections"))?,
+            smooth: named_marks(alloc, &names.uses, texts_at(table, "smooth"))?,
+        })?;
     }
     Ok(uses)
 }

@@ -24,14 +24,8 @@ fn no_price(cost: Option<&str>) -> Option<Shown>
     ensures { result ≡ no_price (option_map (λ t. t.now) cost.entry) }
 {
     match cost {
-        None => None,
-        Some(text) => {
-            if text == "hops" || text == "pressure" {
-                None
-            } else {
-                Some(shown_text(text))
-            }
-        }
+        None | Some("hops") | Some("pressure") => None,
+        Some(text) => Some(shown_text(text)),
     }
 }
 
@@ -39,21 +33,16 @@ fn no_price(cost: Option<&str>) -> Option<Shown>
 fn numbers(walk: Walk, root: &Table) -> Walk
     ensures { result ≡ walked walk (numbers (table_view root.now)) }
 {
+    let cores = tables_at(root, "core").count_left();
+    let connections = tables_at(root, "connection").count_left();
+    let uses = tables_at(root, "use").count_left();
     walk.checks(&[
         outside(APP_VERSION, APP_VERSION, integer_at(root, "version")),
         outside(0, MAX_DETOUR as u64, integer_at(root, "detour")),
         no_price(text_if(root, "cost")),
-        count_outside(0, MAX_CORES as u64, tables_at(root, "core").count_left()),
-        count_outside(
-            0,
-            MAX_CONNECTIONS as u64,
-            tables_at(root, "connection").count_left(),
-        ),
-        count_outside(
-            MIN_USES as u64,
-            MAX_USES as u64,
-            tables_at(root, "use").count_left(),
-        ),
+        count_outside(0, MAX_CORES as u64, cores),
+        count_outside(0, MAX_CONNECTIONS as u64, connections),
+        count_outside(MIN_USES as u64, MAX_USES as u64, uses),
     ])
 }
 
@@ -68,9 +57,9 @@ fn names(walk: Walk, tables: Tables<'_>) -> Walk
     walk
 }
 
-// Where no table stands, each number is 0.
+/// A number of a connection's wish on a side; 0 where no table stands there.
 #[tactic(auto, unfolding(aeth_document::specs::Values::integer_at))]
-fn wish_number(connection: &Table, side: &str, key: &str) -> i64
+pub(crate) fn wish_number(connection: &Table, side: &str, key: &str) -> i64
     ensures { result ≡ integer_at key.now (wish_at side.now (table_view connection.now)) }
 {
     match table_at(connection, side) {

@@ -1,7 +1,7 @@
 // What a connection needs in slots.
 ghost use Rattle.std.specs.Prelude.{◌≡◌, ◌≤◌};
 ghost use Rattle.aeth_app.specs.App.{IsWish};
-ghost use Rattle.aeth_app.specs.Rates.{back_need, credit_need, fwd_need, need_of, own_need};
+ghost use Rattle.aeth_app.specs.Rates.{credit_need, need_of, own_need};
 ghost use Rattle.aeth_base.specs.Limits.{max_slots};
 
 use crate::connection::{Connection, Wish};
@@ -26,30 +26,6 @@ fn credit_need(need: u32) -> u32
     (WORDS_PER_FLIT * need).div_ceil(CREDITS_PER_FLIT)
 }
 
-fn back_need(slots: u32, connection: &Connection) -> u32
-    requires some { 1 ≤ slots }
-    requires slots { slots ≤ max_slots }
-    requires fwd { IsWish connection.now.fwd }
-    requires back { IsWish connection.now.back }
-    ensures need { result ≡ back_need slots connection.now }
-    ensures some { 1 ≤ result }
-    ensures within { result ≤ slots }
-{
-    own_need(slots, &connection.back).max(credit_need(own_need(slots, &connection.fwd)))
-}
-
-fn fwd_need(slots: u32, connection: &Connection) -> u32
-    requires some { 1 ≤ slots }
-    requires slots { slots ≤ max_slots }
-    requires fwd { IsWish connection.now.fwd }
-    requires back { IsWish connection.now.back }
-    ensures need { result ≡ fwd_need slots connection.now }
-    ensures some { 1 ≤ result }
-    ensures within { result ≤ slots }
-{
-    own_need(slots, &connection.fwd).max(credit_need(back_need(slots, connection)))
-}
-
 /// What a channel needs, in slots of a table of this size.
 #[tactic(auto, unfolding(crate::specs::Rates::need_of))]
 pub(crate) fn need_of(slots: u32, connection: &Connection, side: Side) -> u32
@@ -61,8 +37,10 @@ pub(crate) fn need_of(slots: u32, connection: &Connection, side: Side) -> u32
     ensures some { 1 ≤ result }
     ensures within { result ≤ slots }
 {
+    let fwd = own_need(slots, &connection.fwd);
+    let back = own_need(slots, &connection.back).max(credit_need(fwd));
     match side {
-        Side::Fwd => fwd_need(slots, connection),
-        Side::Back => back_need(slots, connection),
+        Side::Fwd => fwd.max(credit_need(back)),
+        Side::Back => back,
     }
 }

@@ -15,7 +15,13 @@ loop-table-preserved c =
     record {
       all = rw (
         c.in_ok-push.ensures.items,
-        c.connection_of.ensures,
+        c.name_at.ensures,
+        c.end_of.ensures,
+        c.text_at.ensures,
+        c.end_of-in-loop-table.ensures,
+        c.text_at-in-loop-table.ensures,
+        c.wish_in.ensures,
+        c.wish_in-in-loop-table.ensures,
         append_assoc c.loop-table.connections.items (connection_of c.args.cores.now.keys table ∷ [])
             (map (connection_of c.args.cores.now.keys) rest),
       ) left.all;

@@ -15,7 +15,9 @@ loop-table-preserved c =
     record {
       all = rw (
         c.in_ok-push.ensures.items,
-        c.core_of.ensures,
+        c.name_at.ensures,
+        c.ni_of.ensures,
+        c.text_if.ensures,
         append_assoc c.loop-table.cores.items (core_of c.args.chip.now.nis table ∷ [])
             (map (core_of c.args.chip.now.nis) rest),
       ) left.all;

@@ -12,12 +12,18 @@ loop-table-preserved c =
     let left = rw c.in-Some.ensures.steps at c.loop-table.invariant in
     let table = table_view c.in-Some.table.now in
     let rest = tables_in c.next.new.self in
+    let connections = c.args.names.now.connections.keys in
+    let uses = c.args.names.now.uses.keys in
     record {
       all = rw (
         c.in_ok-push.ensures.items,
-        c.in_ok-use_of.ensures,
-        append_assoc c.loop-table.uses.items (use_of c.args.names.now.connections.keys c.args.names.now.uses.keys table ∷ [])
-            (map (use_of c.args.names.now.connections.keys c.args.names.now.uses.keys) rest),
+        c.name_at.ensures,
+        c.in_ok-named_marks.ensures,
+        c.texts_at.ensures,
+        c.in_ok-named_marks-2.ensures,
+        c.texts_at-in-loop-table.ensures,
+        append_assoc c.loop-table.uses.items (use_of connections uses table ∷ [])
+            (map (use_of connections uses) rest),
       ) left.all;
       named = All-tail IsNamed table rest left.named;
     }
