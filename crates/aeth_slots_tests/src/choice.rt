@@ -36,6 +36,18 @@ fn worked_rows(rt: HostRuntime) {
             [0, 31, 33, 62].as_slice(),
             [0, 31, 33].as_slice(),
         ),
+    ];
+    for (size, need, gap, free, slots) in rows {
+        assert!(rt;
+            chooses(&set_of(size, free), need, gap, slots),
+            "{size} {need} {gap}"
+        );
+    }
+}
+
+#[test]
+fn worked_rows_past_64_slots(rt: HostRuntime) {
+    let rows = [
         (65, 1, 1, [0].as_slice(), [].as_slice()),
         (65, 1, 33, [0, 32, 33, 64].as_slice(), [0, 32].as_slice()),
         (
