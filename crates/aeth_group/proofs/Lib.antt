@@ -12,3 +12,5 @@ pub mod AppGroupsLemmas
 pub mod ListLemmas
 pub mod OccupationLemmas
 pub mod ConflictLemmas
+pub mod TableLemmas
+pub mod TableUseLemmas

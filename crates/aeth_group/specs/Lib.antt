@@ -6,3 +6,4 @@ pub mod Members
 pub mod AppGroups
 pub mod Occupation
 pub mod Conflict
+pub mod Tables
