@@ -3,7 +3,8 @@
 use Rattle.std.proofs.Common.{◌≡◌, ◌∙◌, ◌+◌, ◌<◌, ◌≤◌, ℕ, zero, suc, Bool, true, false, cond, List}
 use Rattle.std.proofs.Common.{[], ◌∷◌, Option, Some, None, length, map, Contains, refl, sym, ap}
 use Rattle.std.proofs.Common.{inl, inr, arith}
-use Rattle.std.specs.List.{range_with_len}
+use Rattle.std.specs.Bool.{Decides}
+use Rattle.std.specs.List.{list_any, range_with_len}
 use Rattle.std.proofs.lemmas.Bool.{both_ways, cases_lt, le-ltb, lt-ltb}
 use Rattle.std.proofs.lemmas.List.Folds.{Any-from_list_any, list_any-from_Any}
 use Rattle.std.proofs.lemmas.Option.{slice_get_within}
@@ -19,6 +20,7 @@ use Rattle.aeth_chip.specs.declared.node.Node.{Node}
 use Rattle.aeth_chip.specs.declared.node.Node.TheVariants.{Router, Ni}
 use Rattle.aeth_chip.specs.Chip.{ChipData, IsChip, IsNode}
 use Rattle.aeth_chip.specs.Distances.{AreBelow}
+use Rattle.aeth_chip.specs.Joined.{IsJoined}
 use Rattle.aeth_chip.specs.LeastDistance.{below, has_path, least_distance, link_ids, lists_of}
 use Rattle.aeth_chip.specs.Nodes.{IsBelow}
 use Rattle.aeth_chip.specs.PathTests.{is_path_between}
@@ -52,44 +54,7 @@ length-lists_of (suc count) xs ys has =
     let (rest, same, is_in) = map-Contains (λ rest. x ∷ rest) (lists_of count xs) ys later in
     ap (λ zs. length zs) (sym same) ∙ ap suc (length-lists_of count xs rest is_in)
 
--- ---- the function gives what the relation says
-
--- Where some list of so many links passes the test, a path has so many.
-path_from : (links : List Link) (a b : NiId) (count : ℕ) → has_path links a b count ≡ true
-    → (path : List LinkId) × IsPath links a b path × (length path ≡ count)
-unfolding has_path
-path_from links a b count found =
-    let (k, path, within, at, passes) =
-    Any-from_list_any (is_path_between links a b) (lists_of count (link_ids links)) found in (
-      path,
-      (is_path_between-Decides links a b path).0 passes,
-      length-lists_of count (link_ids links) path (k, within, at),
-    )
-
--- A path passes it at its number of links.
-from_path : (links : List Link) (a b : NiId) (path : List LinkId) → IsPath links a b path
-    → has_path links a b (length path) ≡ true
-unfolding has_path
-from_path links a b path is =
-    let (k, within, at) = Contains-lists_of (link_ids links) path (λ l has.
-    let (from, goes) =
-    joined-each (BeginsAt links) (to_of links) (Ni a) path is.joins.joined l has in
-    Contains-map (λ n. record { 0 = n }) (range_with_len 0 (length links)) l.0
-    (let low = slice_get_within links l.0 goes.link goes.is in
-    Contains-range 0 (length links) l.0 (omega arith) (omega arith))) in
-    list_any-from_Any (is_path_between links a b) (lists_of (length path) (link_ids links))
-    (k, path, within, at, (is_path_between-Decides links a b path).1 is)
-
--- A path has at least two links, and at most one more than there are routers.
-pub path-within : (links : List Link) (count : ℕ) → AreBelow links count → (a b : NiId)
-    (path : List LinkId) → IsPath links a b path
-    → (2 ≤ length path) × (length path ≤ count + 1)
-path-within links count below a b path is =
-    let one_more = joins-length links (Ni a) is.routers (Ni b) path is.joins in
-    let some = is.some in
-    let few = length-distinct_routers links count below (Ni a) is.routers (Ni b) path is.joins
-    is.distinct in
-    (omega arith, omega arith)
+-- ---- the least number of links of lists that a test tells
 
 -- The least number below a bound that passes a test, where it is below the bound, passes.
 least_below-holds : (test : ℕ → Bool) (bound : ℕ) → least_below test bound < bound
@@ -104,34 +69,92 @@ least_below-holds test (suc n) =
     ] in
     split (test 0) refl
 
+-- Lists of a chip's links, for which a property is decided by a test, and which have fewer links
+-- than a bound.
+module _ (links : List Link) (P : List LinkId → Type 0) (test : List LinkId → Bool)
+    (decides : (path : List LinkId) → Decides (test path) (P path))
+    (among : (path : List LinkId) → P path → (l : LinkId) → Contains path l
+    → l.0 < length links) (bound : ℕ)
+    (few : (path : List LinkId) → P path → length path < bound) where
+  abbrev has : ℕ → Bool
+  has count = list_any test (lists_of count (link_ids links))
+
+  -- Where some list of so many links passes the test, one with the property has so many.
+  list_from : (count : ℕ) → has count ≡ true
+      → (path : List LinkId) × P path × (length path ≡ count)
+  list_from count found =
+      let (k, path, within, at, passes) =
+      Any-from_list_any test (lists_of count (link_ids links)) found in (
+        path,
+        (decides path).0 passes,
+        length-lists_of count (link_ids links) path (k, within, at),
+      )
+
+  -- One with the property passes it at its number of links.
+  from_list : (path : List LinkId) → P path → has (length path) ≡ true
+  from_list path is =
+      let (k, within, at) = Contains-lists_of (link_ids links) path (λ l is_in.
+      Contains-map (λ n. record { 0 = n }) (range_with_len 0 (length links)) l.0
+      (let low = among path is l is_in in
+      Contains-range 0 (length links) l.0 (omega arith) (omega arith))) in
+      list_any-from_Any test (lists_of (length path) (link_ids links))
+      (k, path, within, at, (decides path).1 is)
+
+  -- The least number of links by the test is that of the property.
+  pub least-is : IsLeast P (below bound (least_below has bound))
+  least-is =
+      let first : ℕ = least_below has bound in
+      elim (cases_lt first bound) [
+        | inl low ↦
+            let (path, is, long) = list_from first (least_below-holds has bound low) in
+            rw (lt-ltb first bound low) (record {
+              path = path;
+              has = is;
+              length_is = long;
+              none_shorter = λ other route. elim (cases_lt (length other) first) [
+                | inl shorter ↦ absurd (both_ways (has (length other))
+                    (least_below-first has bound (length other) shorter)
+                    (from_list other route))
+                | inr longer ↦ longer
+              ];
+            })
+        | inr high ↦ rw (le-ltb first bound high) (λ path route.
+            let short = few path route in
+            let found = least_below-passes has bound (length path) short (from_list path route) in
+            let low = found.within in
+            omega arith)
+      ]
+
+-- A link of joined links is one of the chip's.
+pub joined-within : (links : List Link) (a : Node) (path : List LinkId)
+    → IsJoined (BeginsAt links) (to_of links) a path → (l : LinkId) → Contains path l
+    → l.0 < length links
+joined-within links a path joined l has =
+    let (from, goes) = joined-each (BeginsAt links) (to_of links) a path joined l has in
+    slice_get_within links l.0 goes.link goes.is
+
+-- ---- the function gives what the relation says
+
+-- A path has at least two links, and at most one more than there are routers.
+pub path-within : (links : List Link) (count : ℕ) → AreBelow links count → (a b : NiId)
+    (path : List LinkId) → IsPath links a b path
+    → (2 ≤ length path) × (length path ≤ count + 1)
+path-within links count below a b path is =
+    let one_more = joins-length links (Ni a) is.routers (Ni b) path is.joins in
+    let some = is.some in
+    let few = length-distinct_routers links count below (Ni a) is.routers (Ni b) path is.joins
+    is.distinct in
+    (omega arith, omega arith)
+
 -- The least number of links by the function is that of the relation.
 distance-least : (links : List Link) (count : ℕ) → AreBelow links count → (a b : NiId)
     → IsDistance links a b (below (count + 2) (least_below (has_path links a b) (count + 2)))
+unfolding has_path
 distance-least links count are_below a b =
-    let test : ℕ → Bool = has_path links a b in
-    let first : ℕ = least_below test (count + 2) in
-    elim (cases_lt first (count + 2)) [
-      | inl low ↦
-          let (path, is, long) =
-          path_from links a b first (least_below-holds test (count + 2) low) in
-          rw (lt-ltb first (count + 2) low) (record {
-            path = path;
-            has = is;
-            length_is = long;
-            none_shorter = λ other route. elim (cases_lt (length other) first) [
-              | inl shorter ↦ absurd (both_ways (test (length other))
-                  (least_below-first test (count + 2) (length other) shorter)
-                  (from_path links a b other route))
-              | inr longer ↦ longer
-            ];
-          })
-      | inr high ↦ rw (le-ltb first (count + 2) high) (λ path route.
-          let few = (path-within links count are_below a b path route).1 in
-          let found = least_below-passes test (count + 2) (length path) (omega arith)
-          (from_path links a b path route) in
-          let low = found.within in
-          omega arith)
-    ]
+    least-is links (IsPath links a b) (is_path_between links a b)
+    (is_path_between-Decides links a b)
+    (λ path is. joined-within links (Ni a) path is.joins.joined) (count + 2)
+    (λ path is. let most = (path-within links count are_below a b path is).1 in omega arith)
 
 -- There is one least number of links at most.
 pub IsLeast-unique : (P : List LinkId → Type 0) (x y : Option ℕ) → IsLeast P x → IsLeast P y
@@ -148,7 +171,7 @@ IsLeast-unique P None (Some n) first second = absurd (first second.path second.h
 IsLeast-unique P None None first second = refl
 
 -- The links of a chip lead to its routers and interfaces.
-node_below : (routers nis : List (List ℕ)) (node : Node) → IsNode routers nis node
+pub node_below : (routers nis : List (List ℕ)) (node : Node) → IsNode routers nis node
     → IsBelow (length routers) node
 node_below routers nis (Router r) within = within
 node_below routers nis (Ni n) within = tt

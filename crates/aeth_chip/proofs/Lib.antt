@@ -18,6 +18,7 @@ mod OriginLemmas
 mod WalkLemmas
 mod DistanceLemmas
 pub mod LeastDistanceLemmas
+pub mod LeastOnwardLemmas
 mod DistanceBounds
 pub mod SummaryLemmas
 mod ValueLemmas

@@ -30,7 +30,7 @@ passing test None passes = absurd (false≢true passes)
 passing test (Some link) passes = (link, refl, passes)
 
 -- Whether joined links come to a router, by the routers that they pass.
-comes-is : (links : List Link) (at : Node) (routers : List RouterId) (b : NiId)
+pub comes-is : (links : List Link) (at : Node) (routers : List RouterId) (b : NiId)
     (path : List LinkId) → Joins links at routers (Ni b) path → (r : RouterId)
     → comes_to links r path ≡ list_any (λ q. q.0 == r.0) routers
 comes-is links at routers b [] joins r = joins-none links at routers (Ni b) joins
@@ -42,7 +42,7 @@ comes-is links at (q ∷ routers) b (l ∷ path) joins r =
     rw (goes.is, goes.ends, comes-is links (Router q) routers b path rest r) refl
 
 -- They don't come to a router that is none of these, and only then.
-fresh-Decides : (routers : List RouterId) (r : RouterId)
+pub fresh-Decides : (routers : List RouterId) (r : RouterId)
     → Decides (not (list_any (λ q. q.0 == r.0) routers)) (Contains routers r → ⊥)
 fresh-Decides routers r = (
   (λ fresh (k, within, at). both_ways (list_any (λ q. q.0 == r.0) routers) (not-true _ fresh)
@@ -54,10 +54,10 @@ fresh-Decides routers r = (
 )
 
 -- Joined links through distinct routers.
-record Follows (links : List Link) (b : NiId) (at : Node) (path : List LinkId) : Type 0 where
-  routers : List RouterId
-  joins : Joins links at routers (Ni b) path
-  distinct : AreDistinct routers
+pub record Follows (links : List Link) (b : NiId) (at : Node) (path : List LinkId) : Type 0 where
+  pub routers : List RouterId
+  pub joins : Joins links at routers (Ni b) path
+  pub distinct : AreDistinct routers
 
 -- One more link, which begins at the node and leads where the others begin.
 follows_on : (links : List Link) (b : NiId) (at to : Node) (l k : LinkId) (path : List LinkId)
@@ -111,7 +111,7 @@ first_of links b at l path found =
     }
 
 -- What passes the test joins through distinct routers.
-follows-true : (links : List Link) (b : NiId) (at : Node) (l : LinkId) (path : List LinkId)
+pub follows-true : (links : List Link) (b : NiId) (at : Node) (l : LinkId) (path : List LinkId)
     → follows links b at (l ∷ path) ≡ true → Follows links b at (l ∷ path)
 follows-true links b at l [] found =
     let first = first_of links b at l [] found in
@@ -122,7 +122,7 @@ follows-true links b at l (k ∷ path) found =
     (follows-true links b first.to k path first.onward)
 
 -- What joins through distinct routers passes it.
-true-follows : (links : List Link) (b : NiId) (at : Node) (routers : List RouterId)
+pub true-follows : (links : List Link) (b : NiId) (at : Node) (routers : List RouterId)
     (path : List LinkId) → Joins links at routers (Ni b) path → AreDistinct routers
     → follows links b at path ≡ true
 true-follows links b at routers [] joins distinct = joins-none links at routers (Ni b) joins

@@ -5,6 +5,7 @@ pub mod Faults
 pub mod Index
 pub mod Joined
 pub mod LeastDistance
+pub mod LeastOnward
 pub mod Levels
 pub mod Limits
 pub mod Nodes

@@ -1,14 +1,17 @@
 // What holds of every chip and of its file, over the definitions alone.
-ghost use Rattle.std.specs.Prelude.{◌≡◌, ◌<◌, ◌≤◌, ◌+◌, ◌*◌, ℕ, pos, List, Ok, Some, length};
+ghost use Rattle.std.specs.Prelude.{◌≡◌, ◌<◌, ◌≤◌, ◌+◌, ◌*◌, ℕ, pos, List, Ok, Option, Some, length};
 ghost use Rattle.std.specs.Prelude.{position, slice_get};
 ghost use Rattle.std.specs.Str.{bytes_eq};
 ghost use Rattle.aeth_base.specs.Limits.{max_link_delay, max_path_links, min_path_links};
 ghost use Rattle.aeth_base.specs.declared.ids.LinkId.{LinkId};
 ghost use Rattle.aeth_base.specs.declared.ids.NiId.{NiId};
+ghost use Rattle.aeth_base.specs.declared.ids.RouterId.{RouterId};
 ghost use Rattle.aeth_chip.specs.Chip.{ChipData, IsChip};
 ghost use Rattle.aeth_chip.specs.ChipFile.{chip_of};
+ghost use Rattle.aeth_chip.specs.LeastOnward.{least_onward};
 ghost use Rattle.aeth_chip.specs.Nodes.{sends_on};
-ghost use Rattle.aeth_chip.specs.Paths.{IsAdmissible, IsDistance, IsPath, delay_of, offset};
+ghost use Rattle.aeth_chip.specs.Paths.{IsAdmissible, IsDistance, IsOnwardDistance, IsPath};
+ghost use Rattle.aeth_chip.specs.Paths.{delay_of, offset};
 ghost use Rattle.aeth_chip.specs.Told.{version_of};
 ghost use Rattle.aeth_chip.specs.Versions.{in_version_2};
 ghost use Rattle.aeth_chip.specs.Wires.{wire_at, wires_of};
@@ -67,6 +70,16 @@ pub fn admissible_paths()
     ensures links { (links : List Link) (detour : ℕ) (a b : NiId) (path : List LinkId)
         → IsAdmissible links detour a b path
         → (min_path_links ≤ length path) × (length path ≤ max_path_links) }
+{}
+
+/// The least number of links from a router to an interface as a function is the one of the paths, and
+/// no other number is.
+pub fn least_onward()
+    ensures least { (chip : ChipData) → IsChip chip → (router : RouterId) (ni : NiId)
+        → IsOnwardDistance chip.links router ni (least_onward chip router ni) }
+    ensures only { (chip : ChipData) → IsChip chip → (router : RouterId) (ni : NiId)
+        (least : Option ℕ) → IsOnwardDistance chip.links router ni least
+        → least ≡ least_onward chip router ni }
 {}
 
 /// Where a text of version 1 tells a chip, the same document with `version = 2` tells the equal
