@@ -1,7 +1,9 @@
--- The least and the greatest among the numbers below a bound.
-use Rattle.std.proofs.Common.{ℕ, ◌-◌, ◌<◌, ◌≤◌, ◌≡◌, ◌∙◌, zero, suc, Bool, true, false, cond, sym}
-use Rattle.std.proofs.Common.{refl, ap, inl, inr, arith}
+-- The least and the greatest among the numbers below a bound, and the greater of two numbers.
+use Rattle.std.proofs.Common.{ℕ, ◌-◌, ◌<◌, ◌≤◌, ◌≡◌, ◌∙◌, zero, suc, Bool, true, false, cond, max}
+use Rattle.std.proofs.Common.{refl, sym, ap, inl, inr, arith}
+use Rattle.std.specs.Ordering.{nat_cmp, ord_max}
 use Rattle.std.proofs.lemmas.Bool.{cases_eq, cases_lt}
+use Rattle.std.proofs.lemmas.Bool.Decides.{nat_tests}
 use Rattle.aeth_base.specs.Extremes.{least_below, greatest_below}
 
 -- A number below the bound that passes the test.
@@ -76,3 +78,7 @@ greatest_below-least value (suc n) top above =
     let last = above n (omega arith) in
     let rest = greatest_below-least value n top (λ k low. above k (omega arith)) in
     omega (arith, last, rest)
+
+-- The greater of two numbers, as `max` in code answers it.
+pub ord_max-nat : (a b : ℕ) → ord_max nat_cmp a b ≡ max a b
+ord_max-nat a b = grind (arith, nat_tests)

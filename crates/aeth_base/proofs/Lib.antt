@@ -2,11 +2,14 @@ mod Constants
 pub mod DistinctNames
 pub mod Division
 pub mod ExtremeLemmas
+pub mod Filters
 pub mod Lists
 pub mod Members
-pub mod NameLemmas
+mod NameLemmas
+mod NumberReading
 pub mod Numbers
 mod PathLemmas
 pub mod Permutations
 pub mod Ranges
 pub mod Sequences
+pub mod SideLemmas

@@ -1,20 +1,51 @@
 -- Laws of lists read by `slice_get`, where an element may be of any type and so has no default; of
 -- whether some element passes a test, and of how many do.
 use Rattle.std.proofs.Common.{◌≡◌, ◌≢◌, ◌<◌, ◌+◌, ◌∙◌, ℕ, zero, suc, Bool, true, false, List, []}
-use Rattle.std.proofs.Common.{◌∷◌, length, take, Some, None, slice_get, cond, refl, ap, inl, inr}
-use Rattle.std.proofs.Common.{◌⊎◌, ◌||◌, ◌++◌, drop, map, arith}
+use Rattle.std.proofs.Common.{◌∷◌, length, take, Option, Some, None, slice_get, cond, refl, sym, ap}
+use Rattle.std.proofs.Common.{◌⊎◌, ◌||◌, ◌++◌, drop, map, arith, inl, inr}
+use Rattle.std.specs.Option.{option_map}
 use Rattle.std.specs.List.{count_by, list_any, slice_set}
 use Rattle.std.proofs.lemmas.Bool.{cases_Bool}
 use Rattle.std.proofs.lemmas.List.Sums.{sum_by-cons}
-use Rattle.std.proofs.lemmas.List.{drop_more}
+use Rattle.std.proofs.lemmas.List.{drop_more, take-append-le, take_all, take_more}
 use Rattle.std.proofs.lemmas.Option.{get_or_from_slice_get, none-some, same_Some}
-use Rattle.std.proofs.lemmas.Option.{slice_get_within}
+use Rattle.std.proofs.lemmas.Option.{slice_get-map, slice_get_within}
 
 -- A test of what is shown of some element is a test of what is shown of all.
 pub list_any-map : {X Y : Type 0} (test : Y → Bool) (f : X → Y) (xs : List X)
     → list_any test (map f xs) ≡ list_any (λ x. test (f x)) xs
 list_any-map test f [] = refl
 list_any-map test f (x ∷ xs) = ap (λ rest. test (f x) || rest) (list_any-map test f xs)
+
+-- A list of images is empty only where the list is.
+pub map-nil : {X Y : Type 0} (f : X → Y) (xs : List X) → map f xs ≡ [] → xs ≡ []
+map-nil f [] is = refl
+map-nil f (x ∷ xs) is = absurd (cc is)
+
+-- What an image that there is stands for.
+pub option_map-some : {X Y : Type 0} (f : X → Y) (o : Option X) (y : Y) → option_map f o ≡ Some y
+    → (x : X) × (o ≡ Some x) × (f x ≡ y)
+option_map-some f None y is = absurd (none-some y is)
+option_map-some f (Some x) y is = (x, refl, same_Some (f x) y is)
+
+-- What stands at a place of a list of images is the image of what stands there.
+pub map-slice_get : {X Y : Type 0} (f : X → Y) (xs : List X) (i : ℕ) (y : Y)
+    → slice_get (map f xs) i ≡ Some y → (x : X) × (slice_get xs i ≡ Some x) × (f x ≡ y)
+map-slice_get f xs i y at = option_map-some f (slice_get xs i) y (sym (slice_get-map f xs i) ∙ at)
+
+-- The elements up to a place are those before it and the one at it.
+pub take-slice_get : {X : Type 0} (xs : List X) (i : ℕ) (x : X) → slice_get xs i ≡ Some x
+    → take (i + 1) xs ≡ take i xs ++ x ∷ []
+take-slice_get {X} xs i x at =
+    take_more xs i x (slice_get_within xs i x at)
+    ∙ ap (λ (last : X). take i xs ++ last ∷ []) (get_or_from_slice_get xs i x x at)
+
+-- A vector whose items are written over by as many has these.
+pub written_back : {X : Type 0} (old new : List X) (count : ℕ) → count ≡ length old
+    → length new ≡ length old → take count (new ++ drop (length new) old) ≡ new
+written_back old new count size same =
+    take-append-le count new (drop (length new) old) (omega arith)
+    ∙ take_all count new (omega arith)
 
 -- An element was put behind the others.
 pub slice_get-push : {X : Type 0} (xs : List X) (y x : X) (i : ℕ)

@@ -1,13 +1,14 @@
--- What is in a list, as `Contains` has it: at a head and a rest, under `map`, `filter` and `flat_map`,
--- and by a test.
+-- What is in a list, as `Contains` has it: at a head and a rest, at a place, under `map`, `filter` and
+-- `flat_map`, and by a test.
 use Rattle.std.proofs.Common.{◌≡◌, ◌≢◌, ◌<◌, ◌⊎◌, ◌∙◌, ℕ, zero, suc, Bool, true, false, cond, eqb}
-use Rattle.std.proofs.Common.{List, [], ◌∷◌, length, map, filter, Contains, refl, sym, ap, inl, inr}
-use Rattle.std.proofs.Common.{arith}
+use Rattle.std.proofs.Common.{List, [], ◌∷◌, length, map, filter, All, Contains, Some, slice_get}
+use Rattle.std.proofs.Common.{arith, refl, sym, ap, subst, inl, inr}
 use Rattle.std.specs.List.{flat_map, list_any}
 use Rattle.std.proofs.lemmas.Bool.{both_ways, eq-eqb, eqb-true, or_cases, or_left, or_right}
 use Rattle.std.proofs.lemmas.List.Concat.{flat_map-cons}
 use Rattle.std.proofs.lemmas.List.Elements.{Contains-append_cases, Contains-append_left}
 use Rattle.std.proofs.lemmas.List.Elements.{Contains-append_right}
+use Rattle.std.proofs.lemmas.Option.{get_or_from_slice_get, slice_get-get_or, slice_get_within}
 
 -- Nothing is in an empty list.
 pub Contains-nil : {X P : Type 0} {x : X} → Contains [] x → P
@@ -31,6 +32,23 @@ Contains-cases x xs y (suc k, within, at) = inr (k, omega arith, at)
 -- A list that contains something isn't empty.
 pub Contains-some : {X : Type 0} (xs : List X) (x : X) → Contains xs x → 0 < length xs
 Contains-some xs x (k, within, at) = omega arith
+
+-- What stands at a place of a list is in it.
+pub Contains-slice_get : {X : Type 0} (xs : List X) (i : ℕ) (x : X) → slice_get xs i ≡ Some x
+    → Contains xs x
+Contains-slice_get xs i x at =
+    (i, slice_get_within xs i x at, get_or_from_slice_get xs i x x at)
+
+-- What is in a list stands at a place of it.
+pub slice_get-Contains : {X : Type 0} (xs : List X) (x : X) → Contains xs x
+    → (i : ℕ) × (slice_get xs i ≡ Some x)
+slice_get-Contains xs x (i, within, at) = (i, slice_get-get_or xs i x within ∙ ap Some at)
+
+-- What holds of all elements holds of the one at a place.
+pub All-slice_get : {X : Type 0} (P : X → Type 0) (xs : List X) (i : ℕ) (x : X) → All P xs
+    → slice_get xs i ≡ Some x → P x
+All-slice_get P xs i x all at =
+    subst P (get_or_from_slice_get xs i x x at) (all i x (slice_get_within xs i x at))
 
 -- The image of what is in a list is in the list of images.
 pub Contains-map : {X Y : Type 0} (f : X → Y) (xs : List X) (x : X) → Contains xs x

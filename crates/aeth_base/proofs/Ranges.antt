@@ -30,6 +30,14 @@ Contains-range low size x least most =
     )
 
 -- Each of the numbers from 0 on is below the count.
+pub range-Contains : (n x : ℕ) → Contains (range_with_len 0 n) x → x < n
+range-Contains n x (place, within, at) =
+    let size = length-range_with_len 0 n in
+    let low : place < n = omega arith in
+    let there = get_or-range_with_len 0 n place x low in
+    omega arith
+
+-- The same of all of them.
 pub All-range : (n : ℕ) → All (λ i. i < n) (range_with_len 0 n)
 All-range n place default within =
     let size = length-range_with_len 0 n in

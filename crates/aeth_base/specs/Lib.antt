@@ -7,3 +7,4 @@ pub mod NameBytes
 pub mod Number
 pub mod PathLinks
 pub mod Shown
+pub mod Sides

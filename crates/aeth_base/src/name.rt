@@ -2,13 +2,14 @@
 ghost use Rattle.aeth_base.specs.Limits.{max_name_bytes};
 ghost use Rattle.aeth_base.specs.Name.{is_name, is_name_byte, name_of};
 ghost use Rattle.std.specs.List.{list_all};
-ghost use Rattle.std.specs.Prelude.{◌≡◌, ◌≤◌, true, length};
+ghost use Rattle.std.specs.Prelude.{◌≡◌, ◌≤◌, ◌∷◌, [], true, length};
 
 use crate::MAX_NAME_BYTES;
+use std::hash::{Hash, Hasher};
 use std::marker::Model;
 
 /// A name: 1 to 32 bytes of `a-z`, `0-9` and `_`. It is seen as the list of its bytes.
-#[derive(Clone, Copy, Debug, PartialEq, Eq, PartialOrd, Ord, Hash)]
+#[derive(Clone, Copy, Debug)]
 pub struct Name {
     bytes: [u8; MAX_NAME_BYTES],
     len: u8,
@@ -31,6 +32,42 @@ impl Model for Name {
     ghost inverse = { inside_of };
 
     ghost inverse_ok = { inside_of-view };
+}
+
+// Names are equal where their bytes are.
+impl PartialEq for Name {
+    ghost use Rattle.std.specs.Str.{bytes_eq};
+    ghost use Rattle.std.specs.Cmp.Rules.{comparing};
+    ghost use Rattle.std.proofs.Common.{rules};
+
+    ghost eq = { bytes_eq };
+
+    ghost laws = { Prim.search (comparing, rules) };
+
+    fn eq(&self, other: &Name) -> bool {
+        self.as_bytes() == other.as_bytes()
+    }
+}
+
+impl Eq for Name {
+    ghost use Rattle.std.specs.Cmp.Rules.{comparing};
+    ghost use Rattle.std.proofs.Common.{rules};
+
+    ghost laws = { Prim.search (comparing, rules) };
+}
+
+// One write a name, where a derived impl would make one for each byte.
+impl Hash for Name {
+    ghost use Rattle.std.specs.Cmp.Rules.{hashing};
+    ghost use Rattle.std.proofs.Common.{rules};
+
+    ghost hash_input = { λ name. name ∷ [] };
+
+    ghost respects_eq = { Prim.search (hashing, rules) };
+
+    fn hash<H: Hasher>(&self, state: &mut H) {
+        state.write(self.as_bytes());
+    }
 }
 
 impl Name {

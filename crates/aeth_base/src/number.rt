@@ -1,7 +1,7 @@
 // Numbers, and their decimal texts.
-ghost use Rattle.aeth_base.specs.Number.{number_of};
+ghost use Rattle.aeth_base.specs.Number.{IsLed, number_of, with_digit};
 ghost use Rattle.std.specs.Int.{div_ceil};
-ghost use Rattle.std.specs.Prelude.{◌≡◌, ◌<◌, ◌++◌, OnOk, OnErr, decimal};
+ghost use Rattle.std.specs.Prelude.{◌≡◌, ◌<◌, ◌↔◌, ◌++◌, IsTrue, OnOk, OnErr, decimal};
 
 use crate::NoMemory;
 use itoa::Buffer;
@@ -11,12 +11,31 @@ use itoa::Buffer;
 pub fn read_number(text: &[u8]) -> Option<u64>
     ensures { result ≡ number_of text.now }
 {
-    let n = str::from_utf8(text).ok()?.parse::<u64>().ok()?;
-    if Buffer::new().format(n).as_bytes() == text {
-        Some(n)
-    } else {
-        None
+    if !is_led(text) {
+        return None;
     }
+    let mut value = 0;
+    'digits: for i in 0..text.len() {
+        value = with_digit(value, text[i])?;
+    }
+    Some(value)
+}
+
+// Whether there is a first byte, and a `0` only where there is no other.
+fn is_led(text: &[u8]) -> bool
+    ensures { IsTrue result ↔ IsLed text.now }
+{
+    !text.is_empty() && (text.len() == 1 || text[0] != b'0')
+}
+
+// The number with a digit behind its own; `None` where the byte is no digit, or 64 bits too few.
+fn with_digit(value: u64, byte: u8) -> Option<u64>
+    ensures { result ≡ with_digit value byte }
+{
+    if !(b'0' <= byte && byte <= b'9') {
+        return None;
+    }
+    value.checked_mul(10)?.checked_add(u64::from(byte - b'0'))
 }
 
 /// Appends the canonical decimal text of the number. Where memory is wanting the text stays as it
