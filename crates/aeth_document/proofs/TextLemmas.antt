@@ -4,13 +4,8 @@ use Rattle.std.specs.List.{list_any}
 use Rattle.std.specs.Str.{bytes_eq}
 use Rattle.std.proofs.lemmas.Bool.{cases_Bool}
 use Rattle.std.proofs.lemmas.List.{map-append}
+use Rattle.aeth_base.proofs.Lists.{list_any-map}
 use Rattle.indexmap.specs.IndexSet.{insert_key}
-
--- A test passes in a mapped list where the test of what it maps to passes.
-pub list_any-map : {X Y : Type 0} (p : Y → Bool) (f : X → Y) (xs : List X)
-    → list_any p (map f xs) ≡ list_any (λ x. p (f x)) xs
-list_any-map p f [] = refl
-list_any-map p f (x ∷ xs) = ap (λ rest. p (f x) || rest) (list_any-map p f xs)
 
 -- What a list shows of its elements, after one is put at its end where it is new.
 pub map-insert_key : {X : Type 0} (f : X → List ℕ) (xs : List X) (x : X)

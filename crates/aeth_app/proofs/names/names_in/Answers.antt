@@ -1,9 +1,7 @@
-use Rattle.std.proofs.Common.{◌∙◌, ◌++◌, ◌∷◌, [], ap, append_assoc, if◌then◌else◌}
+use Rattle.std.proofs.Common.{◌∷◌, [], append_assoc}
 use Rattle.std.specs.Prelude.{codes}
-use Rattle.std.specs.List.{list_any}
 use Rattle.std.proofs.lemmas.List.Elements.{All-tail}
 use Rattle.toml.specs.View.{table_view}
-use Rattle.aeth_base.proofs.NameLemmas.{eq-bytes_eq_at}
 use Rattle.aeth_document.specs.Arrays.{tables_in}
 use Rattle.aeth_document.specs.Values.{text_at}
 use Rattle.aeth_app.specs.Ranges.{IsNamed}
@@ -18,9 +16,7 @@ loop-table-preserved c =
     let name = text_at (codes "name") (table_view c.in-Some.table.now) in
     let rest = names_in (tables_in c.next.new.self) in
     let keys = c.loop-table.names.keys in
-    let set = c.in_ok-insert_full.ensures.keys
-    ∙ ap (λ f. if list_any f keys then keys else keys ++ c.name_at.result ∷ [])
-    (eq-bytes_eq_at c.name_at.result) in
+    let set = c.in_ok-insert_full.ensures.keys in
     let put = rw (c.name_at.ensures, new_name keys name rest (rw left.all c.requires.apart)) at set in
     record {
       all = rw (put, append_assoc keys (name ∷ []) rest) left.all;

@@ -1,6 +1,7 @@
 use Rattle.std.proofs.Common.{ap, map, not, sym, ◌∙◌}
 use Rattle.std.specs.Str.{bytes_eq}
-use Rattle.aeth_document.proofs.TextLemmas.{list_any-map, map-insert_key}
+use Rattle.aeth_base.proofs.Lists.{list_any-map}
+use Rattle.aeth_document.proofs.TextLemmas.{map-insert_key}
 use Rattle.aeth_document.proofs.names.add_text.Goals as goal
 
 -- Whether the text is new, where texts are compared by their bytes.

@@ -1,16 +1,9 @@
-use Rattle.std.proofs.Common.{ap, ◌∙◌}
-use Rattle.std.specs.Prelude.{position}
-use Rattle.aeth_base.proofs.NameLemmas.{eq-bytes_eq_at}
 use Rattle.aeth_chip.proofs.chip.Chip.find_ni.Goals as goal
 
 -- The place of the name among the interfaces, where names are compared by their bytes.
 pub returns-in-Some : goal.returns-in-Some
-returns-in-Some c =
-    rw (← c.self.view_is) (c.in-Some.ensures.index
-    ∙ ap (λ f. position f c.self.inside.nis.keys) (eq-bytes_eq_at c.args.name.now))
+returns-in-Some c = rw (← c.self.view_is) c.in-Some.ensures.index
 
 -- No place, for the same reason.
 pub returns-in-None : goal.returns-in-None
-returns-in-None c =
-    rw (← c.self.view_is) (c.in-None.ensures.index
-    ∙ ap (λ f. position f c.self.inside.nis.keys) (eq-bytes_eq_at c.args.name.now))
+returns-in-None c = rw (← c.self.view_is) c.in-None.ensures.index
