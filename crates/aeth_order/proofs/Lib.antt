@@ -5,3 +5,4 @@ mod FilterLemmas
 mod GridLemmas
 mod QueueLemmas
 mod StartLemmas
+mod LeastLemmas

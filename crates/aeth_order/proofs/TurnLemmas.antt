@@ -46,12 +46,12 @@ pub told-in-turn : (places : List (Option Place)) (units : List UnitKeys) → Ar
 told-in-turn places units told a b has has' is = told a b has has' (then-Equal _ _ is).1
 
 -- A number is equal to itself.
-itself : (o : Ordering) → o ≡ ordering_reverse o → o ≡ Equal
+pub itself : (o : Ordering) → o ≡ ordering_reverse o → o ≡ Equal
 itself Less is = cc is
 itself Equal is = refl
 itself Greater is = cc is
 
-same-number : (k : ℕ) → nat_cmp k k ≡ Equal
+pub same-number : (k : ℕ) → nat_cmp k k ≡ Equal
 same-number k = itself (nat_cmp k k) (nat_cmp_total.antisymm k k)
 
 -- Of units with one key, the one that comes later in a turn comes later in their own order.

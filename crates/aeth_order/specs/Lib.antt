@@ -1,3 +1,4 @@
 pub mod Order
 pub mod Units
 pub mod Grid
+pub mod Turn

@@ -11,7 +11,7 @@ use aeth_seats::Seats;
 use std::cmp::Ordering;
 
 /// A unit, with what its place in the order rests on.
-#[derive(Clone, Copy, Debug)]
+#[derive(Clone, Copy)]
 pub struct UnitKeys {
     pub unit: Unit,
     /// The core that sends forward.

@@ -3,6 +3,7 @@
 
 mod grid;
 mod keys;
+pub mod laws;
 mod queue;
 mod units;
 
