@@ -25,10 +25,11 @@ use Rattle.aeth_group.proofs.Ranges.{any_from_passer}
 use Rattle.aeth_group.specs.Occupation.{enters, holds_in}
 use Rattle.aeth_book.specs.Book.{AreApart, BookData, IsBook, IsFit, with_grant}
 use Rattle.aeth_book.specs.Free.{free_starts, is_occupied, is_open, is_taken}
-use Rattle.aeth_book.specs.Masks.{Changes, IsKept, IsTable, hits_uses}
+use Rattle.aeth_group.specs.Tables.{Changes, IsTable, hits_uses}
+use Rattle.aeth_book.specs.Masks.{IsKept}
 use Rattle.aeth_group.proofs.OccupationLemmas.{is_at, or-false}
 use Rattle.aeth_book.proofs.UseLemmas.{taken_from_blocked}
-use Rattle.aeth_book.proofs.TableLemmas.{either, table-same}
+use Rattle.aeth_group.proofs.TableLemmas.{either, table-same}
 use Rattle.aeth_group.proofs.ListLemmas.{any_from_passes, passes_from_any}
 
 -- A row that begins within a table is one of its rows.

@@ -19,7 +19,7 @@ use Rattle.aeth_group.proofs.ListLemmas.{any_from_passes, passes_from_any, same_
 use Rattle.aeth_book.specs.Book.{BookData}
 use Rattle.aeth_book.specs.Free.{is_open, is_taken, narrowed}
 use Rattle.aeth_book.specs.Free.{taken_slots}
-use Rattle.aeth_book.proofs.TableLemmas.{has_slot-rotated}
+use Rattle.aeth_group.proofs.TableLemmas.{has_slot-rotated}
 use Rattle.aeth_book.proofs.FilterLemmas.{filter_same, filter_twice}
 
 and-assoc : (a b c : Bool) → (a && (b && c)) ≡ ((a && b) && c)

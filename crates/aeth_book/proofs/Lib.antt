@@ -1,5 +1,4 @@
 pub mod FilterLemmas
-mod TableLemmas
 pub mod FreeLemmas
 pub mod UseLemmas
 pub mod StartLemmas

@@ -4,7 +4,7 @@ ghost use Rattle.std.specs.Prelude.{◌≡◌, ◌<◌, ◌≤◌, ◌+◌, ◌*
 ghost use Rattle.aeth_base.specs.Limits.{max_link_delay};
 ghost use Rattle.aeth_chip.specs.Paths.{delay_of};
 ghost use Rattle.aeth_book.specs.Book.{AreShort};
-ghost use Rattle.aeth_book.specs.Masks.{Changes, HasTable, changed, hits_row, hits_uses};
+ghost use Rattle.aeth_group.specs.Tables.{Changes, HasTable, changed, hits_row, hits_uses};
 
 use aeth_base::{LinkId, Path, Unit, UseId};
 use aeth_chip::Link;

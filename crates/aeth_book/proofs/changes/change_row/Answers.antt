@@ -3,9 +3,9 @@ use Rattle.aeth_base.specs.declared.ids.LinkId.{LinkId}
 use Rattle.aeth_chip.specs.Paths.{offset}
 use Rattle.aeth_chip.proofs.OffsetLemmas.{offset-more}
 use Rattle.aeth_slots.specs.SlotSet.{Slots}
-use Rattle.aeth_book.specs.Masks.{changed, hits_row}
+use Rattle.aeth_group.specs.Tables.{changed, hits_row}
 use Rattle.aeth_group.proofs.ListLemmas.{all_at}
-use Rattle.aeth_book.proofs.TableLemmas.{mask_size, row_step, still_table}
+use Rattle.aeth_group.proofs.TableLemmas.{mask_size, row_step, still_table}
 use Rattle.aeth_book.proofs.changes.change_row.Goals as goal
 
 -- The mask is of the table's size.
@@ -50,7 +50,7 @@ loop-i-preserved c =
       after = sym more;
       bound = omega (arith, c.loop-i.invariant.bound, c.delay-after.ensures.within);
       changes =
-          row_step c.args.slots.now links c.args.u path c.loop-i.i k c.loop-i.after c.args.put
+          row_step c.args.slots.now.size c.args.slots.now links c.args.u path c.loop-i.i k c.loop-i.after c.args.put
           c.args.masks.now c.loop-i.masks c.index-masks-at.result c.rotate.result c.changed.result
           c.link-link.ensures c.loop-i.invariant.after low
           (omega (arith, c.requires.row, c.loop-i.auto.masks)) c.index-masks-at.is c.rotate.ensures

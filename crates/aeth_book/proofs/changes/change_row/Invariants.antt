@@ -1,7 +1,7 @@
 use Rattle.std.proofs.Common.{◌≡◌, ◌≤◌, ◌*◌, take, length}
 use Rattle.aeth_chip.specs.Paths.{offset}
 use Rattle.aeth_base.specs.Limits.{max_link_delay}
-use Rattle.aeth_book.specs.Masks.{Changes, hits_row}
+use Rattle.aeth_group.specs.Tables.{Changes, hits_row}
 use Rattle.aeth_book.proofs.changes.change_row.Given as goal
 
 -- The masks have changed by the links so far.
