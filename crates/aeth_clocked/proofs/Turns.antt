@@ -58,11 +58,6 @@ module _ {P : Type 0} (change : P → P) where
     pub at : (i : ℕ) → slice_get now i
         ≡ option_map (λ part. cond (is_among numbers i) (change part) part) (slice_get old i)
 
-  -- Before the first turn.
-  pub Changed-none : (parts : List P) → Changed [] parts parts
-  Changed-none parts =
-      record { size = refl; at = λ i. sym (option_map-same (slice_get parts i)) }
-
   -- A component that has had no turn is as it was.
   Changed-left : (numbers : List ℕ) (old now : List P) (i : ℕ) (part : P)
       → Changed numbers old now → is_among numbers i ≡ false → slice_get now i ≡ Some part

@@ -1,6 +1,6 @@
 -- Laws of what components do to wires.
 use Rattle.std.proofs.Common.{ℕ, ◌<◌, ◌≡◌, refl, sym, ap, ◌∙◌, inl, inr, arith}
-use Rattle.std.proofs.Common.{Bool, true, false, eqb, ◌||◌, Option, Some, None}
+use Rattle.std.proofs.Common.{Bool, true, eqb, ◌||◌, Option, Some, None}
 use Rattle.std.proofs.Common.{List, length, length-set, map}
 use Rattle.std.specs.List.{range_with_len, slice_set}
 use Rattle.std.proofs.lemmas.Bool.{cases_eq, cases_lt, eq-eqb}
@@ -14,11 +14,6 @@ use Rattle.aeth_clocked.specs.Wires.{AreLinks, Drives}
 -- A component with one output: that output is a link.
 pub AreLinks-one : (output count : ℕ) → AreLinks (λ link. eqb output link) count → output < count
 AreLinks-one output count links = links output (eq-eqb output output refl)
-
--- No output, no change.
-pub Drives-none : (flit_on : ℕ → Option Flit) (wires : List (Option Flit))
-    → Drives (λ link. false) flit_on wires wires
-Drives-none flit_on wires = record { links = refl; at = λ link within. refl }
 
 -- A component with one output: a write to it.
 pub Drives-slice_set : (output : ℕ) (flit_on : ℕ → Option Flit) (old : List (Option Flit))

@@ -3,7 +3,7 @@
 /// A flit: one header word and up to two payload words, after Æthereal (2005).
 ///
 /// The header's payload count says how many words there are; an absent word is 0.
-#[derive(Clone, Copy, Debug, PartialEq, Eq, Hash)]
+#[derive(Clone, Copy, Debug, PartialEq)]
 pub struct Flit {
     /// The header word.
     pub header: u32,

@@ -9,7 +9,7 @@ use std::alloc::{AllocError, Global};
 use std::marker::Model;
 
 /// An order of components: a permutation of the numbers below its length, seen as their list.
-#[derive(Debug, Drop)]
+#[derive(Drop)]
 pub struct Order {
     numbers: Vec<u32>,
 }

@@ -12,7 +12,7 @@ use std::marker::Model;
 ///
 /// The first wire of a link has the link's number. The further wires of links with a delay are
 /// numbered behind all links, and are links here as those are.
-#[derive(Debug, Drop)]
+#[derive(Drop)]
 pub struct Wires {
     links: Vec<Option<Flit>>,
 }
