@@ -27,7 +27,7 @@ pub const QUEUES_OF_INTERFACE: usize = 32;
 ///
 /// In a slot whose entry names a queue it sends up to two words and up to 15 credits on its leaving
 /// link. What comes on its entering link lands in the queue that the header names.
-#[derive(Debug, Drop)]
+#[derive(Drop)]
 pub struct Ni {
     number: NiId,
     leaving: LinkId,

@@ -21,7 +21,7 @@ use std::marker::Model;
 pub const WAITING_WORDS: usize = 8;
 
 /// Where the flits of a queue go.
-#[derive(Clone, Copy, Debug, PartialEq, Eq)]
+#[derive(Clone, Copy)]
 pub struct Route {
     /// The output ports on the way, as in a header: below 2^21.
     pub ports: u32,
@@ -30,7 +30,7 @@ pub struct Route {
 }
 
 /// The source queue, the receive queue and the credits of one queue number.
-#[derive(Debug, Drop)]
+#[derive(Drop)]
 pub(crate) struct Queue {
     route: Option<Route>,
     waiting: HeapCircularBuffer<u32>,
