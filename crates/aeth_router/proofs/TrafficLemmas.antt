@@ -1,31 +1,19 @@
 -- Laws of the table of traffic.
 use Rattle.std.proofs.Common.{◌≡◌, ◌≢◌, ◌<◌, ◌≤◌, ℕ, refl, sym, ap, ◌∙◌, inl, inr, arith}
 use Rattle.std.proofs.Common.{List, [], ◌∷◌, ◌++◌, length, length-set, get_or}
-use Rattle.std.proofs.Common.{replicate, Option, Some, None}
+use Rattle.std.proofs.Common.{Option, Some, None}
 use Rattle.std.specs.List.{slice_set}
 use Rattle.std.proofs.lemmas.Bool.{cases_eq}
-use Rattle.std.proofs.lemmas.List.{append-nil, get_or-replicate}
-use Rattle.std.proofs.lemmas.Option.{get_or_from_slice_get, slice_get-get_or}
+use Rattle.std.proofs.lemmas.List.{append-nil}
+use Rattle.std.proofs.lemmas.Option.{get_or_from_slice_get}
 use Rattle.aeth_base.proofs.Lists.{slice_get-slice_set_same, slice_get-slice_set_other}
 use Rattle.aeth_clocked.specs.declared.flit.Flit.{Flit}
 use Rattle.aeth_header.specs.Header.{port_of, next_word}
 use Rattle.aeth_router.specs.declared.traffic.Traffic.{Traffic}
-use Rattle.aeth_router.specs.declared.traffic.Traffic.TheVariants.{Free}
 use Rattle.aeth_router.specs.Ports.{flits_for, hopped, sole}
 use Rattle.aeth_router.specs.Traffic.{IsTraffic, named_ports, traffic_of}
 use Rattle.aeth_router.proofs.PortLemmas.{flits_for-past, flits_for-push, toward-other}
 use Rattle.aeth_router.proofs.PortLemmas.{toward-same}
-
--- Before any flit each port is free.
-pub IsTraffic-start : IsTraffic (replicate named_ports Free) []
-IsTraffic-start =
-    record {
-      size = refl;
-      at = λ port within.
-          slice_get-get_or (replicate named_ports Free) port Free within
-          ∙ ap (λ (traffic : Traffic). Some traffic)
-          (get_or-replicate named_ports port Free Free within);
-    }
 
 -- Where a link brought no flit, nothing more goes anywhere.
 pub IsTraffic-none : (table : List Traffic) (before : List (Option Flit))

@@ -11,7 +11,7 @@ use aeth_clocked::{Clocked, Wires};
 use aeth_ni::Ni;
 
 /// A component of a network.
-#[derive(Debug, Drop)]
+#[derive(Drop)]
 pub enum Part {
     /// A network interface.
     Interface(Ni),

@@ -22,7 +22,7 @@ use std::marker::Model;
 /// names, and moves the header on by one port. A port that two or more latched flits name carries
 /// none of them, and they are lost. A flit whose port is past the router's last is lost. Every
 /// other flit is driven.
-#[derive(Debug, Drop)]
+#[derive(Drop)]
 pub struct Router {
     incoming: Vec<LinkId>,
     outgoing: Vec<LinkId>,

@@ -14,7 +14,7 @@ use std::marker::Model;
 ///
 /// A flit that it latches in a cycle it drives in the next, unchanged. A link whose delay is `d`
 /// cycles has `d - 1` stages.
-#[derive(Debug, Drop)]
+#[derive(Drop)]
 pub struct Stage {
     input: LinkId,
     output: LinkId,
