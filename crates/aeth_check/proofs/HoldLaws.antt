@@ -1,6 +1,6 @@
 -- Masks that hold grants.
-use Rattle.std.proofs.Common.{◌≡◌, ◌∙◌, ◌+◌, ◌*◌, ◌&&◌, ◌||◌, ℕ, Bool, false, List, []}
-use Rattle.std.proofs.Common.{◌∷◌, All, Some, length, ltb, eqb, refl, sym, ap, inl, inr}
+use Rattle.std.proofs.Common.{◌≡◌, ◌∙◌, ◌+◌, ◌*◌, ◌&&◌, ◌||◌, ℕ, Bool, true, false, cond, List}
+use Rattle.std.proofs.Common.{[], ◌∷◌, All, Some, length, ltb, eqb, refl, sym, ap, inl, inr}
 use Rattle.std.specs.Prelude.{filter}
 use Rattle.std.specs.List.{range_with_len}
 use Rattle.std.proofs.lemmas.Bool.{cases_lt, le-ltb, lt-ltb}
@@ -10,8 +10,9 @@ use Rattle.aeth_chip.specs.Chip.{ChipData}
 use Rattle.aeth_group.specs.Members.{GroupsData, group_at, has_unit, use_has}
 use Rattle.aeth_group.specs.Occupation.{enters}
 use Rattle.aeth_group.specs.declared.grant.Grant.{Grant}
-use Rattle.aeth_check.specs.Masks.{Holds, Puts, hits_uses, is_held}
-use Rattle.aeth_check.proofs.MaskLaws.{table-same}
+use Rattle.aeth_group.specs.Tables.{Changes, hits_uses}
+use Rattle.aeth_group.proofs.TableLemmas.{table-same}
+use Rattle.aeth_check.specs.Masks.{Holds, is_held}
 
 filter-none : (xs : List ℕ) → filter (λ x. false) xs ≡ []
 filter-none [] = refl
@@ -39,14 +40,19 @@ beyond groups grant u on = elim (cases_lt u (length groups.uses)) [
       && eqb (group_at groups u) grant.unit.group.0) && on) (slice_get_past groups.uses u past)))
 ]
 
+put-or : (hit held : Bool) → cond hit true held ≡ (hit || held)
+put-or true held = refl
+put-or false held = refl
+
 -- What was put into masks is held beside what they held.
 pub holds-more : (chip : ChipData) (groups : GroupsData) (grant : Grant) (grants : List Grant)
     (old new : List Slots)
-    → Puts chip.slots (length chip.links) (hits_uses grant.slots chip.links groups grant.unit
-    grant.path (length groups.uses)) old new
+    → Changes chip.slots (length chip.links) (hits_uses grant.slots chip.links groups grant.unit
+    grant.path (length groups.uses)) true old new
     → Holds chip groups grants old → Holds chip groups (grant ∷ grants) new
 holds-more chip groups grant grants old new puts holds =
     table-same chip.slots (length chip.links) _ (is_held chip.links groups (grant ∷ grants)) new
     (puts.table (is_held chip.links groups grants) holds)
-    (λ u l s low within below. ap (λ b. b || is_held chip.links groups grants u l s)
+    (λ u l s low within below. put-or _ (is_held chip.links groups grants u l s)
+    ∙ ap (λ b. b || is_held chip.links groups grants u l s)
     (beyond groups grant u (enters grant.slots chip.links 0 grant.path l s)))

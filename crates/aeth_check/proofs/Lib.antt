@@ -1,8 +1,6 @@
 mod Walks
 mod UnitLists
 mod SlotLaws
-mod MaskLaws
-mod UseLaws
 mod MeetLaws
 mod TouchLaws
 mod ConflictLaws

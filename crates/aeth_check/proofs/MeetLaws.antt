@@ -18,7 +18,7 @@ use Rattle.aeth_slots.proofs.TestLemmas.{Contains-where}
 use Rattle.aeth_base.proofs.Lists.{drop-slice_get}
 use Rattle.aeth_group.proofs.ListLemmas.{any_from_passes, passes_from_any, same_tests}
 use Rattle.aeth_check.specs.Meetings.{meets}
-use Rattle.aeth_check.specs.Masks.{IsTable}
+use Rattle.aeth_group.specs.Tables.{IsTable}
 
 some_item : (xs : List ℕ) → 0 < length xs → (x : ℕ) × Contains xs x
 some_item [] some = absurd (omega arith)

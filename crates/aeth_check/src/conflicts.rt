@@ -1,7 +1,8 @@
 // Rule 7: grants that conflict, by a mask for each use case and link.
 ghost use Rattle.aeth_check.specs.Calls.{IsPlaced, first_meeting};
 ghost use Rattle.aeth_check.specs.Firsts.{first_line, first_pair};
-ghost use Rattle.aeth_check.specs.Masks.{HasTable, Holds};
+ghost use Rattle.aeth_group.specs.Tables.{HasTable};
+ghost use Rattle.aeth_check.specs.Masks.{Holds};
 ghost use Rattle.aeth_check.specs.Meetings.{conflicts};
 ghost use Rattle.aeth_check.specs.Verdict.{conflict};
 ghost use Rattle.std.specs.List.{list_any};

@@ -5,6 +5,7 @@ mod channels;
 mod conflicts;
 mod grants;
 mod judging;
+pub mod laws;
 mod lines;
 mod masks;
 mod routes;

@@ -1,9 +1,9 @@
 // A mask for each use case and link: the slots that grants occupy there.
 ghost use Rattle.aeth_check.specs.Calls.{IsPlaced};
-ghost use Rattle.aeth_check.specs.Masks.{HasTable, IsTable, Puts, hits_row, hits_uses};
+ghost use Rattle.aeth_group.specs.Tables.{Changes, HasTable, IsTable, hits_row, hits_uses};
 ghost use Rattle.aeth_check.specs.Meetings.{meets, touches};
 ghost use Rattle.aeth_slots.specs.SlotSet.{common};
-ghost use Rattle.std.specs.Prelude.{◌≡◌, ◌≤◌, ◌+◌, ◌*◌, [], ℕ, Bool, All, IfOk};
+ghost use Rattle.std.specs.Prelude.{◌≡◌, ◌≤◌, ◌+◌, ◌*◌, [], ℕ, Bool, true, All, IfOk};
 ghost use Rattle.std.specs.Prelude.{length, nat_lt};
 
 use aeth_base::{NoMemory, UseId};
@@ -82,8 +82,8 @@ fn put_row(chip: &Chip, u: u32, grant: &Grant, masks: &mut [SlotSet])
     requires row { u * length chip.now.links + length chip.now.links ≤ length masks.old }
     requires grant { IsPlaced chip.now grant.now }
     requires table { HasTable chip.now.slots (length chip.now.links) masks.old }
-    ensures { Puts chip.now.slots (length chip.now.links)
-        (hits_row grant.now.slots chip.now.links u grant.now.path) masks.old masks.new }
+    ensures { Changes chip.now.slots (length chip.now.links)
+        (hits_row grant.now.slots chip.now.links u grant.now.path) true masks.old masks.new }
 {
     for i in 0..grant.path.len() {
         let link = grant.path.link(i);
@@ -98,9 +98,9 @@ pub(crate) fn put(chip: &Chip, groups: &Groups, grant: &Grant, masks: &mut [Slot
     requires rows { length masks.old ≡ length groups.now.uses * length chip.now.links }
     requires grant { IsPlaced chip.now grant.now }
     requires table { HasTable chip.now.slots (length chip.now.links) masks.old }
-    ensures { Puts chip.now.slots (length chip.now.links)
+    ensures { Changes chip.now.slots (length chip.now.links)
         (hits_uses grant.now.slots chip.now.links groups.now grant.now.unit grant.now.path
-        (length groups.now.uses)) masks.old masks.new }
+        (length groups.now.uses)) true masks.old masks.new }
 {
     for u in 0..groups.uses() {
         if groups.has_unit(UseId(u), grant.unit) {

@@ -2,7 +2,7 @@ use Rattle.std.proofs.Common.{◌≡◌, ◌-◌, ◌&&◌, ℕ, Bool, length}
 use Rattle.std.specs.List.{list_any, range_with_len}
 use Rattle.aeth_group.specs.Members.{has_unit}
 use Rattle.aeth_check.specs.Meetings.{meets}
-use Rattle.aeth_check.specs.Masks.{IsTable}
+use Rattle.aeth_group.specs.Tables.{IsTable}
 use Rattle.aeth_check.specs.Meetings.{touches}
 use Rattle.aeth_check.proofs.masks.meets.Given as goal
 

@@ -1,7 +1,7 @@
 use Rattle.std.proofs.Common.{◌≡◌, ℕ, Bool, drop, length}
 use Rattle.aeth_chip.specs.Paths.{offset}
 use Rattle.aeth_check.specs.Meetings.{meets}
-use Rattle.aeth_check.specs.Masks.{IsTable}
+use Rattle.aeth_group.specs.Tables.{IsTable}
 use Rattle.aeth_check.proofs.masks.meets_row.Given as goal
 
 -- Whether flits meet is decided by the links that are left.

@@ -1,13 +1,13 @@
-use Rattle.std.proofs.Common.{length, ◌∙◌, sym}
-use Rattle.aeth_check.proofs.MaskLaws.{still_table}
-use Rattle.aeth_check.proofs.UseLaws.{uses_skip, uses_step}
+use Rattle.std.proofs.Common.{length, true, ◌∙◌, sym}
+use Rattle.aeth_group.proofs.TableLemmas.{still_table}
+use Rattle.aeth_group.proofs.TableUseLemmas.{uses_skip, uses_step}
 use Rattle.aeth_check.proofs.masks.put.Goals as goal
 use Rattle.aeth_check.proofs.masks.put.Goals.{then-has_unit, else-has_unit}
 
 -- What has been put in so far is a table.
 pub put_row-requires-clause-table : goal.put_row-requires-clause-table
 put_row-requires-clause-table c =
-    still_table c.args.chip.now.slots (length c.args.chip.now.links) _ c.args.masks.now
+    still_table c.args.chip.now.slots (length c.args.chip.now.links) _ true c.args.masks.now
     c.loop-u.masks c.loop-u.invariant c.requires.table
 
 -- The use case has the slots if it has the unit.
@@ -17,11 +17,11 @@ loop-u-preserved c =
     elim c.if-has_unit.branch [
       | then-has_unit w ↦ rw w.masks-is
           (uses_step c.args.chip.now.slots grant.slots c.args.chip.now.links c.args.groups.now
-          grant.unit grant.path c.loop-u.u c.args.masks.now c.loop-u.masks
+          grant.unit grant.path c.loop-u.u true c.args.masks.now c.loop-u.masks
           w.put_row.new.masks (sym c.has_unit.ensures ∙ w.if-has_unit.true)
           c.loop-u.invariant w.put_row.ensures)
       | else-has_unit w ↦ rw w.masks-is
           (uses_skip c.args.chip.now.slots grant.slots c.args.chip.now.links c.args.groups.now
-          grant.unit grant.path c.loop-u.u c.args.masks.now c.loop-u.masks
+          grant.unit grant.path c.loop-u.u true c.args.masks.now c.loop-u.masks
           (sym c.has_unit.ensures ∙ w.if-has_unit.false) c.loop-u.invariant)
     ]

@@ -1,8 +1,8 @@
-use Rattle.std.proofs.Common.{◌<◌, ◌+◌, ◌*◌, ◌∙◌, length, sym, ap, arith}
+use Rattle.std.proofs.Common.{◌<◌, ◌+◌, ◌*◌, ◌∙◌, length, true, sym, ap, arith}
 use Rattle.aeth_base.specs.declared.ids.LinkId.{LinkId}
 use Rattle.aeth_slots.specs.SlotSet.{Slots, joined}
 use Rattle.aeth_group.proofs.ListLemmas.{all_at}
-use Rattle.aeth_check.proofs.MaskLaws.{mask_size, row_step, still_table}
+use Rattle.aeth_group.proofs.TableLemmas.{mask_size, row_step, still_table}
 use Rattle.aeth_check.proofs.masks.put_row.Goals as goal
 
 -- The mask is of the table's size.
@@ -16,7 +16,7 @@ join-requires c =
     omega (arith, c.requires.row, c.loop-i.auto.masks) in
     rw c.links.ensures.links (mask_size c.args.chip.now.slots (length links) c.loop-i.masks c.args.u
     c.link-link.result.0 c.index-masks-at.result
-    (still_table c.args.chip.now.slots (length links) _ c.args.masks.now c.loop-i.masks
+    (still_table c.args.chip.now.slots (length links) _ true c.args.masks.now c.loop-i.masks
     c.loop-i.invariant c.requires.table) low within)
     ∙ sym c.requires.grant.size ∙ sym (ap (λ (s : Slots). s.size) c.rotate-slots.ensures)
 
@@ -42,7 +42,7 @@ loop-i-preserved c =
     omega (arith, c.requires.row, c.loop-i.auto.masks) in
     let at = rw c.links.ensures.links at c.index-masks-at.is in
     rw c.links.ensures.links (row_step c.args.chip.now.slots c.args.grant.now.slots links c.args.u
-    c.args.grant.now.path c.loop-i.i c.link-link.result c.offset.result c.args.masks.now
+    c.args.grant.now.path c.loop-i.i c.link-link.result c.offset.result true c.args.masks.now
     c.loop-i.masks c.index-masks-at.result c.rotate-slots.result c.join.result
     c.link-link.ensures c.offset.ensures.offset low within at c.rotate-slots.ensures
     (rw c.links.ensures.links at c.join.ensures
