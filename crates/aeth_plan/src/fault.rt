@@ -7,7 +7,7 @@ use aeth_base::{BrokenRule, Fault, NoMemory, Shown};
 use std::alloc::{AllocError, AllocFailed};
 
 /// The first rule that a plan text breaks, and the first line that breaks it. Lines count from 1.
-#[derive(Clone, Copy, Debug, PartialEq, Eq)]
+#[derive(Clone, Copy)]
 pub enum PlanFault {
     /// The line hasn't the form that belongs at its position, or lacks its line feed.
     BadLine { line: u32 },

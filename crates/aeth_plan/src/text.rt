@@ -3,7 +3,7 @@ use aeth_base::{Name, Path, Side};
 use std::marker::Model;
 
 /// What a `seat` line says.
-#[derive(Clone, Copy, Debug)]
+#[derive(Clone, Copy)]
 pub(crate) struct SeatText {
     pub core: Name,
     pub ni: Name,
