@@ -115,7 +115,8 @@ pub next-is_next : (units : UnitsData) (places : List (Option Place)) (unit : Gr
     → next_unit units places ≡ Some unit → IsNext units places unit
 next-is_next units places unit is =
     let order = turn_order places in
-    let (keys, found, unit_is) = of-unit (first_by order units.waiting) unit is in
+    let (keys, both) = of-unit (first_by order units.waiting) unit is in
+    let (found, unit_is) = both in
     record {
       keys = keys;
       unit_is = unit_is;
