@@ -14,7 +14,8 @@ use Rattle.std.proofs.lemmas.Option.{get_or_from_slice_get}
 use Rattle.aeth_base.specs.declared.ids.Channel.{Channel}
 use Rattle.aeth_base.specs.declared.ids.Side.{Side}
 use Rattle.aeth_base.specs.declared.ids.Side.TheVariants.{Back, Fwd}
-use Rattle.aeth_trace.specs.Channels.{channel_number, is_channel, is_side, list_at, rows_on}
+use Rattle.aeth_base.specs.Sides.{same_side}
+use Rattle.aeth_trace.specs.Channels.{channel_number, is_channel, list_at, rows_on}
 use Rattle.aeth_trace.specs.Channels.{side_number}
 
 -- There are as many numbers as rows.
@@ -84,8 +85,8 @@ numbers-more test rows row number numbers at same =
     ])
 
 -- Numbers of sides differ as sides do, also beside twice a number.
-same_sides : (a b : ℕ) (one other : Side)
-    → (2 * a + side_number one == 2 * b + side_number other) ≡ (a == b && is_side one other)
+pub same_sides : (a b : ℕ) (one other : Side)
+    → (2 * a + side_number one == 2 * b + side_number other) ≡ (a == b && same_side one other)
 same_sides a b Fwd Fwd = grind (arith, nat_tests)
 same_sides a b Fwd Back = grind (arith, nat_tests)
 same_sides a b Back Fwd = grind (arith, nat_tests)

@@ -2,8 +2,8 @@ mod Steps
 mod Lefts
 mod RowLemmas
 mod ToldLemmas
-mod FileLemmas
-mod IndexLemmas
+pub mod FileLemmas
+pub mod IndexLemmas
 mod PullLemmas
 pub mod KnownLemmas
 pub mod OrderLemmas

@@ -1,7 +1,7 @@
 -- Rows whose cycles don't fall, and of these the ones up to a cycle: the first ones.
 use Rattle.std.proofs.Common.{◌≡◌, ◌<◌, ◌≤◌, ◌+◌, ℕ, zero, suc, Bool, List, [], ◌∷◌}
 use Rattle.std.proofs.Common.{length, take, filter, map, slice_get, Some, refl, ap, arith}
-use Rattle.std.proofs.Common.{inl, inr, nat_le, get_or}
+use Rattle.std.proofs.Common.{inl, inr, nat_le}
 use Rattle.std.specs.Prelude.{All}
 use Rattle.std.specs.List.Sorted.{IsNonDecreasingBy}
 use Rattle.std.proofs.lemmas.Bool.{cases_Bool}
@@ -9,21 +9,24 @@ use Rattle.std.proofs.lemmas.Bool.Decides.{nat_tests}
 use Rattle.std.proofs.lemmas.List.Elements.{All-cons, All-nil, All-filter, All-head, All-tail}
 use Rattle.std.proofs.lemmas.List.Elements.{All-weaker}
 use Rattle.std.proofs.lemmas.List.Sums.{length-filter, count_by-le-length}
-use Rattle.std.proofs.lemmas.Option.{same_Some, slice_get_within, get_or_from_slice_get}
+use Rattle.std.proofs.lemmas.Option.{same_Some}
 use Rattle.std.specs.Prelude.{Ok}
+use Rattle.aeth_base.proofs.Members.{All-slice_get}
 use Rattle.aeth_trace.specs.Channels.{rows_until}
 use Rattle.aeth_trace.specs.Rules.{are_in_order}
 
 -- The first isn't above the later ones.
-first_least : {X : Type 0} (n : X → ℕ) (x : X) (xs : List X) → IsNonDecreasingBy n (x ∷ xs)
+pub first_least : {X : Type 0} (n : X → ℕ) (x : X) (xs : List X) → IsNonDecreasingBy n (x ∷ xs)
     → All (λ y. n x ≤ n y) xs
 first_least n x xs rises = λ k d within. rises 0 (suc k) d (omega arith) (omega arith)
 
-later_rise : {X : Type 0} (n : X → ℕ) (x : X) (xs : List X) → IsNonDecreasingBy n (x ∷ xs)
+-- Those behind the first don't fall either.
+pub later_rise : {X : Type 0} (n : X → ℕ) (x : X) (xs : List X) → IsNonDecreasingBy n (x ∷ xs)
     → IsNonDecreasingBy n xs
 later_rise n x xs rises = λ i j d le within. rises (suc i) (suc j) d (omega arith) (omega arith)
 
-rise-cons : {X : Type 0} (n : X → ℕ) (x : X) (xs : List X) → All (λ y. n x ≤ n y) xs
+-- One before others that aren't less.
+pub rise-cons : {X : Type 0} (n : X → ℕ) (x : X) (xs : List X) → All (λ y. n x ≤ n y) xs
     → IsNonDecreasingBy n xs → IsNonDecreasingBy n (x ∷ xs)
 rise-cons n x xs least rises zero zero d le within = omega arith
 rise-cons n x xs least rises zero (suc j) d le within = least j d (omega arith)
@@ -42,13 +45,6 @@ rise-filter n test (x ∷ xs) rises =
           (All-filter test (λ y. n x ≤ n y) xs (first_least n x xs rises)) later)
       | inr fails ↦ rw fails later
     ]
-
--- What is true of all is true of the element at a place.
-All-at : {X : Type 0} (P : X → Type 0) (xs : List X) (k : ℕ) (x : X) → All P xs
-    → slice_get xs k ≡ Some x → P x
-All-at P xs k x all at =
-    let read : get_or xs k x ≡ x = get_or_from_slice_get xs k x x at in
-    rw read at (all k x (slice_get_within xs k x at))
 
 -- None is up to a number below all.
 none_up_to : {X : Type 0} (n : X → ℕ) (most : ℕ) (xs : List X) → All (λ y. most < n y) xs
@@ -76,7 +72,7 @@ until_at n most (y ∷ ys) zero x rises at =
     )
 until_at n most (y ∷ ys) (suc k) x rises at =
     let later = until_at n most ys k x (later_rise n y ys rises) at in
-    let least : n y ≤ n x = All-at (λ z. n y ≤ n z) ys k x (first_least n y ys rises) at in (
+    let least : n y ≤ n x = All-slice_get (λ z. n y ≤ n z) ys k x (first_least n y ys rises) at in (
       λ low.
           let rest = later.0 low in
           grind (arith, nat_tests),

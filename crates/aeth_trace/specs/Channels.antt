@@ -1,28 +1,22 @@
 -- The rows of a channel, and of these the ones up to a cycle.
 --
---   is_side, is_channel      whether two sides or channels are the same
+--   is_channel      whether two channels are the same
 --   rows_on, rows_until      the rows of a channel; those that aren't later than a cycle
 --   side_number, channel_number      channels in their order
 --   list_at, IsByChannel      an index of rows by their channels
 -- This project's own.
-use Rattle.std.specs.Prelude.{◌≡◌, ℕ, ◌+◌, ◌*◌, ◌&&◌, ◌==◌, nat_le, Bool, true, false, List, []}
+use Rattle.std.specs.Prelude.{◌≡◌, ℕ, ◌+◌, ◌*◌, ◌&&◌, ◌==◌, nat_le, Bool, List, []}
 use Rattle.std.specs.Prelude.{Option, Some, None, filter, map, slice_get}
 use Rattle.std.specs.declared.alloc.Global.{Global}
 use Rattle.std.specs.declared.vec.Vec.{Vec}
+use Rattle.aeth_base.specs.Sides.{same_side}
 use Rattle.aeth_base.specs.declared.ids.Channel.{Channel}
 use Rattle.aeth_base.specs.declared.ids.Side.{Side}
 use Rattle.aeth_base.specs.declared.ids.Side.TheVariants.{Back, Fwd}
 
--- Whether two sides are the same.
-abbrev pub is_side : Side → Side → Bool
-is_side Fwd Fwd = true
-is_side Back Back = true
-is_side Fwd Back = false
-is_side Back Fwd = false
-
 -- Whether two channels are the same.
 abbrev pub is_channel : Channel → Channel → Bool
-is_channel one other = one.conn.0 == other.conn.0 && is_side one.side other.side
+is_channel one other = one.conn.0 == other.conn.0 && same_side one.side other.side
 
 -- The rows of a channel, in file order, where this is the channel of a row.
 abbrev pub rows_on : {R : Type 0} → (R → Channel) → Channel → List R → List R

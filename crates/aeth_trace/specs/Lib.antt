@@ -9,3 +9,4 @@ pub mod Words
 pub mod Receivers
 pub mod Spans
 pub mod Switches
+pub mod SwitchFaults

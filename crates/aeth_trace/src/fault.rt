@@ -8,7 +8,7 @@ use std::alloc::{AllocError, AllocFailed};
 
 /// The first rule that a trace file breaks, and the first row that breaks it. The header is row 0,
 /// and the rows under it count from 1.
-#[derive(Clone, Copy, Debug, PartialEq, Eq)]
+#[derive(Clone, Copy)]
 pub enum TraceFault {
     /// The record isn't the header, or a row hasn't the fields of its columns. It has no value. A
     /// file without a header breaks it at row 0.

@@ -1,8 +1,9 @@
 // The rules that all trace files have, once their rows are read.
-ghost use Rattle.std.specs.Prelude.{◌≡◌, ◌+◌, length, map, IfOk, OnErr};
+ghost use Rattle.std.specs.Prelude.{◌≡◌, ◌+◌, length, map, IfErr, IfOk};
 ghost use Rattle.aeth_base.specs.Faults.{Reads};
 ghost use Rattle.aeth_trace.specs.Fault.{rule_of};
 ghost use Rattle.aeth_trace.specs.Rules.{are_few, are_in_order, are_known};
+ghost use Rattle.aeth_trace.specs.SwitchFaults.{IsPlain};
 
 use crate::fault::TraceFault;
 use crate::row::Row;
@@ -20,7 +21,8 @@ pub(crate) fn next_row_number(row: u32) -> Result<u32, NoMemory>
 
 // Judges that each row names one of so many things, in this field.
 pub(crate) fn judge_known<R: Row>(rows: &[R], field: u32, count: u32) -> Result<(), TraceFault>
-    ensures { Reads rule_of (λ u. u) result (are_known field count 1 (map R.names rows.now)) }
+    ensures reads { Reads rule_of (λ u. u) result (are_known field count 1 (map R.names rows.now)) }
+    ensures plain { IfErr result IsPlain }
 {
     let mut number = 1;
     for row in rows {
@@ -34,7 +36,8 @@ pub(crate) fn judge_known<R: Row>(rows: &[R], field: u32, count: u32) -> Result<
 
 // Judges that no row's cycle is less than that of the row before.
 pub(crate) fn judge_order<R: Row>(rows: &[R]) -> Result<(), TraceFault>
-    ensures { Reads rule_of (λ u. u) result (are_in_order 0 1 (map R.at rows.now)) }
+    ensures reads { Reads rule_of (λ u. u) result (are_in_order 0 1 (map R.at rows.now)) }
+    ensures plain { IfErr result IsPlain }
 {
     let mut last = 0;
     let mut number = 1;
@@ -51,7 +54,8 @@ pub(crate) fn judge_order<R: Row>(rows: &[R]) -> Result<(), TraceFault>
 
 // Judges that there are at most so many rows.
 pub(crate) fn judge_count(rows: usize, most: u32) -> Result<(), TraceFault>
-    ensures { Reads rule_of (λ u. u) result (are_few most rows) }
+    ensures reads { Reads rule_of (λ u. u) result (are_few most rows) }
+    ensures plain { IfErr result IsPlain }
 {
     if rows <= most as usize {
         return Ok(());

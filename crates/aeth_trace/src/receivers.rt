@@ -25,7 +25,7 @@ pub const MAX_PULL: u32 = 255;
 const USUAL_PULL: u32 = 2;
 
 /// How many words a channel's receiver takes in a cycle at most, from a cycle on.
-#[derive(Clone, Copy, Debug, PartialEq, Eq)]
+#[derive(Clone, Copy)]
 pub struct PullRow {
     pub channel: Channel,
     pub cycle: u32,

@@ -6,8 +6,8 @@ use aeth_base::UseId;
 use std::marker::Model;
 
 /// How long the switches between an application's use cases take: for each pair of them the lag,
-/// which is the greatest number of links of a channel that closes, and the number of writes, which
-/// are one a cycle.
+/// which is the greatest path delay of a channel that closes, in cycles, and the number of writes,
+/// which are one a cycle.
 #[derive(Drop)]
 pub struct Spans {
     uses: u32,
@@ -35,7 +35,7 @@ impl Spans {
         Spans { uses, pairs }
     }
 
-    /// The greatest number of links of a channel that closes when one use case is left for another.
+    /// The greatest path delay of a channel that closes when one use case is left for another.
     pub fn lag(&self, u: UseId, v: UseId) -> u32
         requires u { u.0 < self.now.uses }
         requires v { v.0 < self.now.uses }

@@ -1,9 +1,10 @@
 // The switches between use cases.
-ghost use Rattle.std.specs.Prelude.{◌≡◌, ◌<◌, length, All, IfOk};
+ghost use Rattle.std.specs.Prelude.{◌≡◌, ◌<◌, ◌∷◌, length, All, IfErr, IfOk};
 ghost use Rattle.csv.specs.Records.{fields_of};
 ghost use Rattle.aeth_base.specs.Faults.{Reads};
 ghost use Rattle.aeth_trace.specs.Fault.{rule_of};
 ghost use Rattle.aeth_trace.specs.Switches.{AreSwitchesOf, are_apart, are_apart_from, go_after};
+ghost use Rattle.aeth_trace.specs.SwitchFaults.{IsOfRow, switches_told};
 ghost use Rattle.aeth_trace.specs.Switches.{is_first_at_zero, switches_of};
 
 use crate::fault::TraceFault;
@@ -23,7 +24,7 @@ pub const MAX_SWITCH_ROWS: u32 = 1_024;
 
 /// A switch to a use case: from a cycle on no words are accepted by the channels that it closes,
 /// and after so many cycles of drain they inject nothing more.
-#[derive(Clone, Copy, Debug, PartialEq, Eq)]
+#[derive(Clone, Copy)]
 pub struct SwitchRow {
     pub cycle: u32,
     pub to: UseId,
@@ -98,8 +99,9 @@ impl Switches {
     }
 }
 
-// The cycle in which the channels begin that a switch opens.
-fn go_after(spans: &Spans, from: UseId, row: &SwitchRow) -> u64
+/// The cycle in which the channels begin that a switch opens, where it leaves this use case: after
+/// its drain, its lag and its writes.
+pub fn go_after(spans: &Spans, from: UseId, row: &SwitchRow) -> u64
     requires from { from.0 < spans.now.uses }
     requires to { row.now.to.0 < spans.now.uses }
     ensures { result ≡ go_after spans.now from.0 row.now }
@@ -114,7 +116,10 @@ fn go_after(spans: &Spans, from: UseId, row: &SwitchRow) -> u64
 fn judge_later(spans: &Spans, first: UseId, rows: &[SwitchRow]) -> Result<(), TraceFault>
     requires first { first.0 < spans.now.uses }
     requires rows { All (λ row. row.to.0 < spans.now.uses) rows.now }
-    ensures { Reads rule_of (λ u. u) result (are_apart_from spans.now first.0 0 2 rows.now) }
+    ensures reads { Reads rule_of (λ u. u) result
+        (are_apart_from spans.now first.0 0 2 rows.now) }
+    ensures of_row { IfErr result (λ fault. (front : SwitchRow)
+        → IsOfRow (front ∷ rows.now) fault) }
 {
     let mut from = first;
     let mut go = 0;
@@ -138,7 +143,8 @@ fn judge_later(spans: &Spans, first: UseId, rows: &[SwitchRow]) -> Result<(), Tr
 // Judges that no switch begins before the one before it is done.
 fn judge_apart(spans: &Spans, rows: &[SwitchRow]) -> Result<(), TraceFault>
     requires { All (λ row. row.to.0 < spans.now.uses) rows.now }
-    ensures { Reads rule_of (λ u. u) result (are_apart spans.now rows.now) }
+    ensures reads { Reads rule_of (λ u. u) result (are_apart spans.now rows.now) }
+    ensures of_row { IfErr result (IsOfRow rows.now) }
 {
     match rows {
         [] => Ok(()),
@@ -148,7 +154,8 @@ fn judge_apart(spans: &Spans, rows: &[SwitchRow]) -> Result<(), TraceFault>
 
 // Judges that the first switch has cycle 0 and drain 0.
 fn judge_first(rows: &[SwitchRow]) -> Result<(), TraceFault>
-    ensures { Reads rule_of (λ u. u) result (is_first_at_zero rows.now) }
+    ensures reads { Reads rule_of (λ u. u) result (is_first_at_zero rows.now) }
+    ensures of_row { IfErr result (IsOfRow rows.now) }
 {
     match rows {
         [] => Err(TraceFault::FirstNotZero {
@@ -170,8 +177,8 @@ fn judge_first(rows: &[SwitchRow]) -> Result<(), TraceFault>
 }
 
 /// The switches of a file's bytes, for an application whose switches take so long; or the first
-/// rule that the file breaks; or memory ran out. Its columns are `cycle,use,drain`: cycles and
-/// drains are 0 to 1,000,000.
+/// rule that the file breaks; or memory ran out. A fault has the cycle and the drain of the row that
+/// it names. The columns are `cycle,use,drain`: cycles and drains are 0 to 1,000,000.
 #[tactic(auto, unfolding(crate::specs::Switches::switches_of))]
 pub fn read_switches(
     alloc: Global,
@@ -183,6 +190,7 @@ pub fn read_switches(
     ensures reads { Reads rule_of (λ switches. switches) result
         (switches_of app.now spans.now bytes.now) }
     ensures switches { IfOk result (λ switches. AreSwitchesOf app.now spans.now switches) }
+    ensures of_row { IfErr result (IsOfRow (switches_told app.now bytes.now)) }
 {
     let rows: Vec<SwitchRow> = read_table(alloc, bytes, app)?;
     judge_known(&rows, 2, app.uses())?;

@@ -1,9 +1,11 @@
 // Reading the rows of a file: the rule on their fields.
+ghost use Rattle.std.specs.Prelude.{IfErr};
 ghost use Rattle.aeth_base.specs.Faults.{Reads};
 ghost use Rattle.aeth_trace.specs.Fault.{rule_of};
 ghost use Rattle.aeth_trace.specs.Left.{IsReading, left};
 ghost use Rattle.aeth_trace.specs.Records.{records_of};
 ghost use Rattle.aeth_trace.specs.Rules.{rows_from, table_of};
+ghost use Rattle.aeth_trace.specs.SwitchFaults.{IsPlain};
 
 use crate::fault::TraceFault;
 use crate::records::{next_row, open};
@@ -29,8 +31,9 @@ fn rows_of<R: Row>(
     fields: &mut ByteRecord,
 ) -> Result<Vec<R>, TraceFault>
     requires { IsReading reader.old }
-    ensures { Reads rule_of (λ rows. rows.items) result
+    ensures reads { Reads rule_of (λ rows. rows.items) result
         (rows_from (R.told app.now) 1 (left reader.old)) }
+    ensures plain { IfErr result IsPlain }
 {
     let mut rows = Vec::with_capacity(alloc, room)?;
     for row in 1..u32::MAX {
@@ -45,22 +48,38 @@ fn rows_of<R: Row>(
     Err(TraceFault::Memory)
 }
 
+// The rows of the records that a reader has left, of which the first is the header.
+fn table_in<R: Row>(
+    alloc: Global,
+    app: &App,
+    room: usize,
+    reader: &mut Reader<&[u8]>,
+) -> Result<Vec<R>, TraceFault>
+    requires { IsReading reader.old }
+    ensures reads { Reads rule_of (λ rows. rows.items) result
+        (table_of R.heads (R.told app.now) (left reader.old)) }
+    ensures plain { IfErr result IsPlain }
+{
+    let mut fields = ByteRecord::new(alloc);
+    if !next_row(reader, &mut fields)? {
+        return Err(TraceFault::BadRow { row: 0 });
+    }
+    if !R::is_header(&fields) {
+        return Err(TraceFault::BadRow { row: 0 });
+    }
+    rows_of(alloc, app, room, reader, &mut fields)
+}
+
 // The rows of a file, where it has its header and each row has the fields of its columns.
 pub(crate) fn read_table<R: Row>(
     alloc: Global,
     bytes: &[u8],
     app: &App,
 ) -> Result<Vec<R>, TraceFault>
-    ensures { Reads rule_of (λ rows. rows.items) result
+    ensures reads { Reads rule_of (λ rows. rows.items) result
         (table_of R.heads (R.told app.now) (records_of bytes.now)) }
+    ensures plain { IfErr result IsPlain }
 {
     let mut reader = open(alloc, bytes);
-    let mut fields = ByteRecord::new(alloc);
-    if !next_row(&mut reader, &mut fields)? {
-        return Err(TraceFault::BadRow { row: 0 });
-    }
-    if !R::is_header(&fields) {
-        return Err(TraceFault::BadRow { row: 0 });
-    }
-    rows_of(alloc, app, room_for(bytes), &mut reader, &mut fields)
+    table_in(alloc, app, room_for(bytes), &mut reader)
 }

@@ -23,7 +23,7 @@ pub const MAX_ROWS: u32 = 1_000_000;
 pub const MAX_VALUE: u32 = 4_294_967_295;
 
 /// A word that is offered to a channel in a cycle.
-#[derive(Clone, Copy, Debug, PartialEq, Eq)]
+#[derive(Clone, Copy)]
 pub struct WordRow {
     pub channel: Channel,
     pub cycle: u32,

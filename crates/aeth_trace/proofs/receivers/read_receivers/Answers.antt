@@ -15,13 +15,13 @@ of-requires-clause-known c =
       ← c.connections.ensures.connections,
     )
     (are_known-All (λ (row : PullRow). row.channel.conn.0) 1 c.connections.result 1 c.deref.result.now
-    c.in_ok-judge_known.field-0 c.in_ok-judge_known.ensures)
+    c.in_ok-judge_known.field-0 c.in_ok-judge_known.ensures.reads)
 
 -- Cycles ascend, and the index has the rows of each channel.
 pub invariant_of-result : goal.invariant_of-result
 invariant_of-result c =
     let rises = (in_order-rises (λ (row : PullRow). row.cycle) 0 1 c.deref-2.result.now
-    c.in_ok-judge_order.field-0 c.in_ok-judge_order.ensures).1 in
+    c.in_ok-judge_order.field-0 c.in_ok-judge_order.ensures.reads).1 in
     (rw c.deref-2.ensures.value at rises, rw c.deref-3.ensures.value at c.in_ok-index.ensures)
 
 -- The rows keep the rules.
@@ -29,7 +29,7 @@ pub returns-clause-receivers : goal.returns-clause-receivers
 returns-clause-receivers c =
     are_receivers c.args.app.now (records_of c.args.bytes.now) c.in_ok-rows.rows.items
     c.in_ok-judge_known.field-0 c.in_ok-judge_order.field-0 c.in_ok-judge_count.field-0
-    c.in_ok-rows.ensures
-    (rw (c.deref.ensures.value, c.connections.ensures.connections) at c.in_ok-judge_known.ensures)
-    (rw c.deref-2.ensures.value at c.in_ok-judge_order.ensures)
-    (rw (c.len.ensures, c.in_ok-rows.rows.ok.0) at c.in_ok-judge_count.ensures)
+    c.in_ok-rows.ensures.reads
+    (rw (c.deref.ensures.value, c.connections.ensures.connections) at c.in_ok-judge_known.ensures.reads)
+    (rw c.deref-2.ensures.value at c.in_ok-judge_order.ensures.reads)
+    (rw (c.len.ensures, c.in_ok-rows.rows.ok.0) at c.in_ok-judge_count.ensures.reads)
