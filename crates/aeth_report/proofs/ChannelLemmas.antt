@@ -8,7 +8,9 @@ use Rattle.std.proofs.lemmas.List.Elements.{All-contains, All-contains_itself}
 use Rattle.aeth_base.specs.declared.ids.Channel.{Channel}
 use Rattle.aeth_base.specs.declared.ids.Side.{Side}
 use Rattle.aeth_base.specs.declared.ids.Side.TheVariants.{Back, Fwd}
-use Rattle.aeth_trace.specs.Channels.{is_channel, is_side}
+use Rattle.aeth_base.specs.Sides.{same_side}
+use Rattle.aeth_base.proofs.SideLemmas.{same_side-is, same_side-itself}
+use Rattle.aeth_trace.specs.Channels.{is_channel}
 use Rattle.aeth_base.proofs.Members.{Contains-cases, Contains-map, Contains-nil, flat_map-Contains}
 use Rattle.aeth_base.proofs.Ranges.{All-range}
 use Rattle.aeth_report.specs.Channels.{channels_of, channels_with}
@@ -49,24 +51,16 @@ log-known connections log same k default within =
 
 -- ---- channels that are one
 
--- Sides that the test says are one are.
-pub same_side : (one other : Side) → is_side one other ≡ true → one ≡ other
-same_side Fwd Fwd is = refl
-same_side Fwd Back is = absurd (cc is)
-same_side Back Fwd is = absurd (cc is)
-same_side Back Back is = refl
-
--- So are channels.
+-- Channels that the test says are one are.
 pub same_channel : (one other : Channel) → is_channel one other ≡ true → one ≡ other
 same_channel one other is =
-    let parts = and_parts (one.conn.0 == other.conn.0) (is_side one.side other.side) is in
+    let parts = and_parts (one.conn.0 == other.conn.0) (same_side one.side other.side) is in
     let conn = eqb-true one.conn.0 other.conn.0 parts.0 in
-    let side = same_side one.side other.side parts.1 in
+    let side = same_side-is one.side other.side parts.1 in
     λ k. record { conn = record { 0 = conn k }; side = side k }
 
 -- A channel is itself.
 pub is_channel-itself : (channel : Channel) → is_channel channel channel ≡ true
 is_channel-itself channel =
-    let sides : (side : Side) → is_side side side ≡ true = elim [ Fwd ↦ refl | Back ↦ refl ] in
-    and_from (channel.conn.0 == channel.conn.0) (is_side channel.side channel.side)
-    (eq-eqb channel.conn.0 channel.conn.0 refl) (sides channel.side)
+    and_from (channel.conn.0 == channel.conn.0) (same_side channel.side channel.side)
+    (eq-eqb channel.conn.0 channel.conn.0 refl) (same_side-itself channel.side)

@@ -12,11 +12,11 @@ use Rattle.aeth_group.specs.Occupation.{Occupies, holds_in, occupies}
 use Rattle.aeth_group.specs.declared.grant.Grant.{Grant}
 use Rattle.aeth_group.proofs.ConflictLemmas.{conflict_from_held}
 use Rattle.aeth_group.proofs.OccupationLemmas.{occupies-Decides}
-use Rattle.aeth_trace.specs.Channels.{is_side}
 use Rattle.aeth_report.specs.Design.{Design, grant_at, is_for, no_grant}
 use Rattle.aeth_report.specs.Sessions.{AreTogether}
 use Rattle.aeth_report.specs.Sound.{AreGranted}
-use Rattle.aeth_report.proofs.ChannelLemmas.{same_side}
+use Rattle.aeth_base.specs.Sides.{same_side}
+use Rattle.aeth_base.proofs.SideLemmas.{same_side-is}
 
 -- What a search finds in a list is in it, and passes the test.
 find-passes : {X : Type 0} (test : X → Bool) (xs : List X)
@@ -54,14 +54,14 @@ module _ (design : Design) where
         | None ↦ λ none there. absurd (cc there)
         | Some grant ↦ λ some there.
             let group = grant.unit.group.0 == g in
-            let side = is_side grant.side channel.side in
+            let side = same_side grant.side channel.side in
             let outer = and_parts (grant.unit.conn.0 == channel.conn.0) (group && side) some.1 in
             let inner = and_parts group side outer.1 in
             record {
               has = some.0;
               conn = eqb-true grant.unit.conn.0 channel.conn.0 outer.0;
               group = eqb-true grant.unit.group.0 g inner.0;
-              side = same_side grant.side channel.side inner.1;
+              side = same_side-is grant.side channel.side inner.1;
             }
       ] in
       cases (find (is_for channel g) design.grants)

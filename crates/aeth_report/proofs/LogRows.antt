@@ -1,5 +1,5 @@
 -- The rows of a session's log: its landings, by their due cycles.
-use Rattle.std.proofs.Common.{◌≡◌, ◌≤◌, ◌<◌, ◌∙◌, ℕ, ◌+◌, ◌-◌, List, Some}
+use Rattle.std.proofs.Common.{◌≡◌, ◌≤◌, ◌<◌, ◌∙◌, ℕ, ◌+◌, ◌-◌, ◌*◌, List, Some}
 use Rattle.std.proofs.Common.{slice_get, refl, sym, ap, subst, inl, inr, arith}
 use Rattle.std.proofs.lemmas.Bool.{cases_lt}
 use Rattle.std.proofs.lemmas.Option.{slice_get-map, slice_get_within}
@@ -17,7 +17,7 @@ use Rattle.aeth_server.proofs.SingleWord.{lands-alone}
 use Rattle.aeth_slots.specs.SlotSet.{Ascends}
 use Rattle.aeth_server.proofs.PrivateServerLemmas.{has-grown}
 use Rattle.aeth_report.specs.declared.log.Landing.{Landing}
-use Rattle.aeth_report.specs.Bounds.{IsLoggedBy}
+use Rattle.aeth_report.specs.Bounds.{IsLoggedBy, IsLoggedInTime}
 use Rattle.aeth_report.specs.RunLog.{counted_to, due_of, landing_of, session_log}
 use Rattle.aeth_report.proofs.Places.{range-place}
 use Rattle.aeth_report.proofs.SessionMeetings.{mapped_at}
@@ -27,7 +27,7 @@ module _ (server : PrivateServer) (paths : HasPaths server.shape) (cycles : ℕ)
   counted = counted_to cycles server
 
   -- A word lands before each cycle by which it has landed.
-  lands-before : (i p t : ℕ) → LandsAt server i p → i ≤ landed server t → p < t
+  pub lands-before : (i p t : ℕ) → LandsAt server i p → i ≤ landed server t → p < t
   lands-before i p t lands there = elim (cases_lt p t) [
     | inl below ↦ below
     | inr above ↦
@@ -37,7 +37,7 @@ module _ (server : PrivateServer) (paths : HasPaths server.shape) (cycles : ℕ)
   ]
 
   -- It lands once.
-  lands-once : (i p q : ℕ) → LandsAt server i p → LandsAt server i q → p ≡ q
+  pub lands-once : (i p q : ℕ) → LandsAt server i p → LandsAt server i q → p ≡ q
   lands-once i p q lands again =
       let one = lands-before i p (q + 1) lands again.after in
       let other = lands-before i q (p + 1) again lands.after in
@@ -100,26 +100,30 @@ module _ (server : PrivateServer) (paths : HasPaths server.shape) (cycles : ℕ)
       let below = lands-before i _ (t + 1) lands there in
       record { row = landing_of cycles server values (i - 1); at = at; lands = omega arith }
 
-  -- A word that lands by its due time has a row that says that it landed by its due cycle.
+  -- A word that lands by its due time has a row that says so.
   pub logged_in_time : (i t : ℕ) → 1 ≤ i → 1 ≤ server.shape.rate
       → LandsBy server i (due_time server i)
       → IsLoggedBy (session_log cycles server values) i t
-      → IsLoggedBy (session_log cycles server values) i (due_of server i)
+      → IsLoggedInTime server (session_log cycles server values) i
   logged_in_time i t least some by logged =
       let next : i - 1 + 1 ≡ i = omega arith in
       let is = row-is (i - 1) logged.row logged.at in
       let lands : LandsAt server i logged.row.landed = rw next at is.lands in
       let same = lands-once i logged.row.landed by.cycle lands by.lands in
-      let early =
-      due-in-time server.shape.rate (due_time server i) by.cycle some by.early in
-      record { row = logged.row; at = logged.at; lands = omega arith }
+      let early : server.shape.rate * logged.row.landed ≤ due_time server i = rw same by.early in
+      record {
+        row = logged.row;
+        at = logged.at;
+        early = early;
+        lands = due-in-time server.shape.rate (due_time server i) logged.row.landed some early;
+      }
 
-  -- A word that is due by a cycle of the run has a row by then, and by its due cycle, while the
-  -- receiver keeps its delay.
+  -- A word that is due by a cycle of the run has a row by then, and in time, while the receiver keeps
+  -- its delay.
   pub due_logged : (i t : ℕ) → IsGranted server.shape → IsNonDecreasing server.offers
       → buffer_of server.shape ≤ server.buffer → IsDue server i t → t + 1 ≤ counted
       → IsLoggedBy (session_log cycles server values) i t
-      × IsLoggedBy (session_log cycles server values) i (due_of server i)
+      × IsLoggedInTime server (session_log cycles server values) i
   due_logged i t granted order enough due early =
       let there = landed-due server granted order enough i t due in
       let logged = logged_by i t due.least there early in

@@ -17,11 +17,11 @@ use Rattle.aeth_trace.specs.Channels.{is_channel}
 use Rattle.aeth_trace.specs.Words.{words_on}
 use Rattle.aeth_trace.specs.declared.words.WordRow.{WordRow}
 use Rattle.aeth_report.specs.declared.session.Session.{Session}
-use Rattle.aeth_report.specs.Bounds.{IsLandingOf, IsLoggedBy}
+use Rattle.aeth_report.specs.Bounds.{IsLandingOf, IsLoggedBy, IsLoggedInTime}
 use Rattle.aeth_report.specs.declared.log.Landing.{Landing}
 use Rattle.aeth_report.specs.Flows.{Run, close_at, flow_of, server_of, sessions_in, values_of}
 use Rattle.aeth_report.specs.Flows.{words_in}
-use Rattle.aeth_report.specs.RunLog.{counted_to, due_of, flow_log}
+use Rattle.aeth_report.specs.RunLog.{counted_to, flow_log}
 use Rattle.aeth_report.specs.Sound.{IsSound}
 use Rattle.aeth_report.proofs.ClosingLemmas.{lands_by_finish}
 use Rattle.aeth_report.proofs.AlikeLemmas.{filter-map}
@@ -101,12 +101,12 @@ module _ (run : Run) (sound : IsSound run) (order : IsNonDecreasingBy (λ row. r
   within t early inside =
       let lands = lands_by_finish run sound channel session has in omega arith
 
-  -- A word that is due by a cycle of the run has a row by then, and by its due cycle.
+  -- A word that is due by a cycle of the run has a row by then, and in time.
   pub due_words : IsGranted (server_of run channel session).shape → (i t : ℕ)
       → IsDue (server_of run channel session) i t → t < run.cycles
       → IsLoggedBy (flow_log run.cycles (flow_of run channel session)) i t
-      × IsLoggedBy (flow_log run.cycles (flow_of run channel session)) i
-      (due_of (server_of run channel session) i)
+      × IsLoggedInTime (server_of run channel session)
+      (flow_log run.cycles (flow_of run channel session)) i
   due_words granted i t due inside =
       let server = server_of run channel session in
       due_logged server (session-paths run sound channel session has) run.cycles

@@ -5,6 +5,7 @@ use Rattle.std.proofs.Common.{None, slice_get, refl, sym, ap, subst, inl, inr, a
 use Rattle.std.proofs.lemmas.Bool.{cases_lt, le-ltb, lt-ltb}
 use Rattle.std.proofs.lemmas.Option.{slice_get-map, same_Some}
 use Rattle.std.specs.Prelude.{IfSome, Ok, ⊤, option_map}
+pub use Rattle.aeth_base.proofs.Lists.{map-slice_get as mapped_at}
 use Rattle.aeth_base.proofs.Members.{Contains-nil, map-Contains}
 use Rattle.aeth_group.specs.Members.{GroupsData}
 use Rattle.aeth_trace.specs.Spans.{SpanData}
@@ -16,17 +17,6 @@ use Rattle.aeth_report.specs.Sessions.{session_of, sessions_of, stays_of}
 use Rattle.aeth_report.proofs.Stays.{switch_of}
 use Rattle.aeth_report.proofs.StayMeetings.{AreRising, Covers, stays_meet}
 use Rattle.aeth_report.proofs.StaysAlone.{stays_alone}
-
--- What an image stands for.
-mapped : {X Y : Type 0} (f : X → Y) (o : Option X) (y : Y) → option_map f o ≡ Some y
-    → (x : X) × (o ≡ Some x) × (f x ≡ y)
-mapped f None y at = absurd cc
-mapped f (Some x) y at = (x, refl, same_Some (f x) y at)
-
--- And at a place of a list.
-pub mapped_at : {X Y : Type 0} (f : X → Y) (xs : List X) (i : ℕ) (y : Y)
-    → slice_get (map f xs) i ≡ Some y → (x : X) × (slice_get xs i ≡ Some x) × (f x ≡ y)
-mapped_at f xs i y at = mapped f (slice_get xs i) y (sym (slice_get-map f xs i) ∙ at)
 
 -- Behind use case u, no row comes before `low`, and none before the channels are in use that the row
 -- before it opens.

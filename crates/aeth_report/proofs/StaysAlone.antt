@@ -6,17 +6,13 @@ use Rattle.std.proofs.lemmas.Bool.{cases_Bool, and_right, both_ways, not_from_tr
 use Rattle.std.proofs.lemmas.Option.{get_or_from_slice_get, slice_get_within}
 use Rattle.std.specs.Prelude.{IfSome, not}
 use Rattle.aeth_base.proofs.Members.{Contains-nil}
+pub use Rattle.aeth_base.proofs.Members.{Contains-slice_get as at-Contains}
 use Rattle.aeth_group.specs.Members.{GroupsData, has_at, is_kept}
 use Rattle.aeth_trace.specs.declared.switches.SwitchRow.{SwitchRow}
 use Rattle.aeth_report.specs.Sessions.{Stay, Switch, closing_in, opens, stay_with, stays_behind}
 use Rattle.aeth_report.specs.Sessions.{stays_from}
 use Rattle.aeth_report.proofs.Stays.{opened, stay_with-cases, stay_with-place, switch_of}
 use Rattle.aeth_report.proofs.StayMeetings.{AreRising, Covers, closed_before, row_opens}
-
--- What stands at a place is there.
-pub at-Contains : {X : Type 0} (xs : List X) (i : ℕ) (x : X) → slice_get xs i ≡ Some x
-    → Contains xs x
-at-Contains xs i x at = (i, slice_get_within xs i x at, get_or_from_slice_get xs i x x at)
 
 module _ (groups : GroupsData) (bound : Switch → ℕ) where
   -- A stay ends before those behind it begin.

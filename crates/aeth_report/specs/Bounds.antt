@@ -1,8 +1,9 @@
 -- What a log shows of a session: which landings its rows tell, and by when its words have one.
 -- Due cycles: after the latency-rate server (Stiliadis and Varma, 1998), for whole words.
-use Rattle.std.specs.Prelude.{◌≡◌, ◌≤◌, ◌<◌, ℕ, ◌-◌, Some, slice_get}
+use Rattle.std.specs.Prelude.{◌≡◌, ◌≤◌, ◌<◌, ℕ, ◌-◌, ◌*◌, Some, slice_get}
 use Rattle.aeth_base.specs.declared.ids.Channel.{Channel}
-use Rattle.aeth_server.specs.Landing.{LandsAt}
+use Rattle.aeth_server.specs.Landing.{LandsAt, due_time}
+use Rattle.aeth_server.specs.PrivateServer.{PrivateServer}
 use Rattle.aeth_trace.specs.declared.words.WordRow.{WordRow}
 use Rattle.aeth_report.specs.declared.log.Landing.{Landing}
 use Rattle.aeth_report.specs.declared.session.Session.{Session}
@@ -28,3 +29,12 @@ pub record IsLoggedBy (log : SessionData) (i by : ℕ) : Type 0 where
   pub row : Landing
   pub at : slice_get log.rows (i - 1) ≡ Some row
   pub lands : row.landed ≤ by
+
+-- The i-th word of a session has a row in its log, and has landed in time: the rate times the cycle
+-- is at most the due time. So it has landed by its due cycle, which is that time over the rate,
+-- rounded up.
+pub record IsLoggedInTime (server : PrivateServer) (log : SessionData) (i : ℕ) : Type 0 where
+  pub row : Landing
+  pub at : slice_get log.rows (i - 1) ≡ Some row
+  pub early : server.shape.rate * row.landed ≤ due_time server i
+  pub lands : row.landed ≤ due_of server i

@@ -1,31 +1,21 @@
 -- Channels: those of an application in their order, the opposite one, and the cores at their ends.
 --
---   channels_with, channels_of      the channels of a connection, and of so many connections
---   other_side, opposite      the channel back
+--   channels_of      the channels of so many connections
+--   opposite      the channel back
 --   sender, receiver      the cores that send and receive on a side
 -- A connection with a channel each way: after Æthereal (2005).
-use Rattle.std.specs.Prelude.{ℕ, List, [], ◌∷◌, flat_map}
+use Rattle.std.specs.Prelude.{ℕ, List, flat_map}
 use Rattle.std.specs.List.{range_with_len}
+pub use Rattle.aeth_base.specs.Sides.{channels_with, other_side}
 use Rattle.aeth_base.specs.declared.ids.Channel.{Channel}
 use Rattle.aeth_base.specs.declared.ids.CoreId.{CoreId}
 use Rattle.aeth_base.specs.declared.ids.Side.{Side}
 use Rattle.aeth_base.specs.declared.ids.Side.TheVariants.{Back, Fwd}
 use Rattle.aeth_app.specs.declared.connection.Connection.{Connection}
 
--- The channels of a connection: forward, and back.
-abbrev pub channels_with : ℕ → List Channel
-channels_with c =
-    record { conn = record { 0 = c }; side = Fwd }
-    ∷ record { conn = record { 0 = c }; side = Back } ∷ []
-
 -- The channels of so many connections, in channel order.
 abbrev pub channels_of : ℕ → List Channel
 channels_of connections = flat_map channels_with (range_with_len 0 connections)
-
--- The other side of a connection.
-abbrev pub other_side : Side → Side
-other_side Fwd = Back
-other_side Back = Fwd
 
 -- The channel that brings back the credits of a channel.
 abbrev pub opposite : Channel → Channel

@@ -9,11 +9,11 @@ ghost use Rattle.aeth_server.specs.PrivateServer.{landed, taken};
 ghost use Rattle.aeth_server.specs.Shape.{IsGranted};
 ghost use Rattle.aeth_trace.specs.Words.{words_on};
 ghost use Rattle.aeth_report.specs.Alike.{IsGivenAlike};
-ghost use Rattle.aeth_report.specs.Bounds.{IsLandingOf, IsLoggedBy};
+ghost use Rattle.aeth_report.specs.Bounds.{IsLandingOf, IsLoggedBy, IsLoggedInTime};
 ghost use Rattle.aeth_report.specs.Carries.{IsCarried, IsSendable, carries, flit_at, header_at};
 ghost use Rattle.aeth_report.specs.Flows.{Flow, Run, flow_of, server_of, sessions_in};
 ghost use Rattle.aeth_report.specs.Regular.{IsRegular, offered_in};
-ghost use Rattle.aeth_report.specs.RunLog.{channel_log, due_of, flow_log, log_of};
+ghost use Rattle.aeth_report.specs.RunLog.{channel_log, flow_log, log_of};
 ghost use Rattle.aeth_report.specs.Sessions.{AreTogether, IsInUse};
 ghost use Rattle.aeth_report.specs.Sound.{IsSound, IsWithinLimits};
 ghost use Rattle.aeth_report.specs.declared.log.Landing.{Landing};
@@ -111,9 +111,9 @@ pub fn rows_are_landings()
         → IsLandingOf run channel session (k + 1) row }
 {}
 
-/// A word that is due by a cycle of the run has a row, and has landed by that cycle and by its due
-/// cycle, while the receiver keeps its delay. The credits may bind, and words may come faster than the
-/// rate without limit.
+/// A word that is due by a cycle of the run has a row, and has landed by that cycle and in time,
+/// while the receiver keeps its delay: the rate times the cycle of its landing is at most its due
+/// time. The credits may bind, and words may come faster than the rate without limit.
 pub fn due_words_land()
     ensures lands { (run : Run) → IsSound run → IsNonDecreasingBy (λ row. row.cycle) run.words
         → (channel : Channel) (session : Session)
@@ -126,8 +126,8 @@ pub fn due_words_land()
         → Contains (sessions_in run channel.conn.0) session
         → IsGranted (server_of run channel session).shape → (i t : ℕ)
         → IsDue (server_of run channel session) i t → t < run.cycles
-        → IsLoggedBy (flow_log run.cycles (flow_of run channel session)) i
-        (due_of (server_of run channel session) i) }
+        → IsLoggedInTime (server_of run channel session)
+        (flow_log run.cycles (flow_of run channel session)) i }
 {}
 
 /// A word that waits alone, with a credit left, has a row within the latency for which the slots are

@@ -4,7 +4,7 @@ use std::marker::Model;
 
 /// A word that has landed: the cycle in which it was offered, that in which it landed, that by which
 /// it was due, and its value.
-#[derive(Clone, Copy, Debug, PartialEq, Eq)]
+#[derive(Clone, Copy)]
 pub struct Landing {
     pub offered: u32,
     pub landed: u32,
