@@ -15,7 +15,7 @@ use Rattle.aeth_ni.specs.Program.{closing_writes, opening_writes, write_count}
 use Rattle.aeth_ni.specs.declared.row.ChannelRow.{ChannelRow}
 use Rattle.aeth_ni.specs.declared.write.Write.{Write}
 use Rattle.aeth_ni.specs.declared.write.Write.TheVariants.{ClearRoute, ClearSlot, SetSlot}
-use Rattle.aeth_trace.specs.Channels.{is_channel, is_side}
+use Rattle.aeth_trace.specs.Channels.{is_channel}
 use Rattle.aeth_reconf.specs.Rows.{RowOf}
 use Rattle.aeth_reconf.specs.Windows.{ahead_of}
 use Rattle.aeth_report.proofs.ChannelLemmas.{is_channel-itself, same_channel}

@@ -16,7 +16,8 @@ use Rattle.aeth_base.proofs.Ranges.{All-range}
 use Rattle.std.proofs.lemmas.List.Elements.{All-contains}
 use Rattle.aeth_group.specs.Members.{GroupsData, group_at}
 use Rattle.aeth_ni.specs.Program.{closing_writes, opening_writes, write_count}
-use Rattle.aeth_trace.specs.Channels.{is_channel, is_side}
+use Rattle.aeth_base.specs.Sides.{same_side}
+use Rattle.aeth_trace.specs.Channels.{is_channel}
 use Rattle.aeth_trace.specs.Spans.{SpanData}
 use Rattle.aeth_report.specs.Channels.{channels_with}
 use Rattle.aeth_report.specs.Sessions.{Switch, closes, opens}
@@ -86,7 +87,7 @@ module _ (test : ℕ → Bool) where
         let beside : (other : Channel) → Contains (back ∷ rest) other
         → is_channel fwd other ≡ false = λ other has. elim (Contains-cases back rest other has) [
           | inl same ↦ told_apart fwd other (λ is.
-              absurd (cc (ap (λ (ch : Channel). is_side ch.side Fwd) (is ∙ sym same))))
+              absurd (cc (ap (λ (ch : Channel). same_side ch.side Fwd) (is ∙ sym same))))
           | inr more ↦ behind fwd refl other more
         ] in
         let all : AreDifferent (channels_with low ++ rest) =

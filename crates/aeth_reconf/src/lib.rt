@@ -4,8 +4,10 @@
 
 pub mod laws;
 mod timeline;
+mod times;
 mod writes;
 
 pub use aeth_report::{Close, Session};
 pub use timeline::Timeline;
+pub use times::{close_by, go_by};
 pub use writes::program;

@@ -1,14 +1,15 @@
 // The sessions of each connection.
 ghost use Rattle.aeth_group.specs.Members.{groups_of};
 ghost use Rattle.aeth_reconf.specs.Timeline.{begun, closed_of, rest_of, sessions_at, timeline_of};
-ghost use Rattle.aeth_report.specs.Sessions.{close_by, go_by, sessions_of};
+ghost use Rattle.aeth_report.specs.Sessions.{sessions_of};
 ghost use Rattle.aeth_trace.specs.declared.switches.SwitchRow.{SwitchRow};
 ghost use Rattle.std.specs.Prelude.{◌≡◌, ◌<◌, ◌++◌, ◌∷◌, List, All, IfOk, OnOk, length};
 
+use crate::times::{close_by, go_by};
 use aeth_app::App;
 use aeth_base::{Channel, ConnId, NoMemory, UseId};
 use aeth_group::Groups;
-use aeth_report::{Close, Session};
+use aeth_report::Session;
 use aeth_trace::{Spans, SwitchRow, Switches};
 use std::alloc::Global;
 use std::marker::Model;
@@ -194,28 +195,4 @@ fn begun(groups: &Groups, conn: ConnId, to: UseId, go: u64) -> Option<Session>
         group: groups.group_of(to),
         close: None,
     })
-}
-
-// How the channels close that a switch closes, which leaves this use case.
-fn close_by(spans: &Spans, from: UseId, row: &SwitchRow) -> Close
-    requires from { from.0 < spans.now.uses }
-    requires to { row.now.to.0 < spans.now.uses }
-    ensures { result ≡ close_by spans.now (record { leaves = from.0; row = row.now }) }
-{
-    let until = row.cycle as u64;
-    let stop = until + row.drain as u64;
-    let fin = stop + spans.lag(from, row.to) as u64;
-    Close { until, stop, fin }
-}
-
-// The cycle from which on the channels are in use that it opens.
-fn go_by(spans: &Spans, from: UseId, row: &SwitchRow) -> u64
-    requires from { from.0 < spans.now.uses }
-    requires to { row.now.to.0 < spans.now.uses }
-    ensures { result ≡ go_by spans.now (record { leaves = from.0; row = row.now }) }
-{
-    row.cycle as u64
-        + row.drain as u64
-        + spans.lag(from, row.to) as u64
-        + spans.writes(from, row.to) as u64
 }
