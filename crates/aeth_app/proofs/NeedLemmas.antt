@@ -39,7 +39,7 @@ own_need-fits slots wish some per = (
 )
 
 -- Credits need no more slots than the words that they are for.
-credit_need-le : (need : ℕ) → credit_need need ≤ need
+pub credit_need-le : (need : ℕ) → credit_need need ≤ need
 credit_need-le need =
     div_ceil-le (words_per_flit * need) credits_per_flit need (omega arith) (omega arith)
 

@@ -10,21 +10,14 @@ use Rattle.aeth_document.specs.Values.{integer_at, text_at}
 use Rattle.aeth_document.specs.Walks.{first_broken, next_place, no_name}
 use Rattle.aeth_document.proofs.WalkLemmas.{first_broken-after, first_broken-before}
 use Rattle.aeth_document.proofs.WalkLemmas.{first_broken-head, first_broken-none}
-use Rattle.aeth_document.proofs.WalkLemmas.{first_broken-tail, outside-size, outside-within}
+use Rattle.aeth_document.proofs.WalkLemmas.{first_broken-tail, no_name-none, outside-size}
+use Rattle.aeth_document.proofs.WalkLemmas.{outside-within}
 use Rattle.aeth_app.specs.Limits.{max_connections, max_cores, max_detour, max_latency, max_per}
 use Rattle.aeth_app.specs.Limits.{max_uses, max_words, min_uses}
 use Rattle.aeth_app.specs.Ranges.{IsConnectionInRange, IsInRange, IsNamed, IsWishInRange}
 use Rattle.aeth_app.specs.Ranges.{connection_ranges, numbers, out_of_range, range_checks}
 use Rattle.aeth_app.specs.Ranges.{wish_ranges}
 use Rattle.aeth_app.specs.Tables.{connections_in, cores_in, names_in, uses_in, wish_at}
-
--- A text that isn't refused is a name.
-is_named : (text : List ℕ) → no_name text ≡ None → is_name text ≡ true
-is_named text none =
-    elim (cases_Bool (is_name text)) [
-      | inl named ↦ named
-      | inr other ↦ absurd (cc (rw other at none))
-    ]
 
 -- Tables none of whose names is refused are named.
 named : (place : ℕ) (tables : List Members) → first_broken place (map no_name (names_in tables)) ≡ None
@@ -34,7 +27,7 @@ named place (table ∷ tables) none =
     let name = text_at (codes "name") table in
     let rest = map no_name (names_in tables) in
     All-cons IsNamed table tables
-    (is_named name (first_broken-head place (no_name name) rest none))
+    (no_name-none name (first_broken-head place (no_name name) rest none))
     (named (next_place place) tables (first_broken-tail place (no_name name) rest none))
 
 -- A wish none of whose numbers is refused is in its ranges.

@@ -12,7 +12,7 @@ use Rattle.aeth_base.specs.declared.shown.Shown.TheVariants.{Nothing}
 use Rattle.aeth_app.specs.App.{AppData}
 use Rattle.aeth_app.specs.Demands.{demands}
 use Rattle.aeth_app.specs.Keys.{wrong_keys}
-use Rattle.aeth_app.specs.Parts.{connection_of, core_of, price_of, use_of}
+use Rattle.aeth_app.specs.Parts.{connection_of, core_of, told_price, use_of}
 use Rattle.aeth_app.specs.Ranges.{out_of_range}
 use Rattle.aeth_app.specs.Repeats.{name_twice}
 use Rattle.aeth_app.specs.Tables.{connections_in, cores_in, names_in, uses_in}
@@ -23,7 +23,7 @@ unfoldable pub told_app : ChipData → Members → AppData
 told_app chip root = record {
   slots = chip.slots;
   detour = size_of (integer_at (codes "detour") root);
-  price = price_of (text_if (codes "cost") root);
+  price = told_price (text_if (codes "cost") root);
   cores = map (core_of chip.nis) (cores_in root);
   connections = map (connection_of (names_in (cores_in root))) (connections_in root);
   uses = map (use_of (names_in (connections_in root)) (names_in (uses_in root))) (uses_in root);

@@ -1,5 +1,6 @@
 pub mod Limits
 pub mod App
+pub mod Connections
 pub mod Rates
 pub mod Tables
 pub mod Keys

@@ -2,7 +2,7 @@
 --
 --   core_of, wish_in, connection_of    a core, a wish and a connection from their tables
 --   marks_of, use_of    marks at some places, and a use case from its table
---   price_of    what links cost
+--   told_price    what links cost
 -- This project's own.
 use Rattle.std.specs.Prelude.{ℕ, ◌==◌, Bool, List, map, length, codes, Option, Some, None}
 use Rattle.std.specs.Prelude.{option_map, option_and_then, unwrap_or, if◌then◌else◌}
@@ -73,6 +73,6 @@ use_of connections uses table = record {
 }
 
 -- What links cost by a text: pressure where it says so, else each the same.
-abbrev pub price_of : Option (List ℕ) → Price
-price_of None = Hops
-price_of (Some text) = if bytes_eq text (codes "pressure") then Pressure else Hops
+abbrev pub told_price : Option (List ℕ) → Price
+told_price None = Hops
+told_price (Some text) = if bytes_eq text (codes "pressure") then Pressure else Hops

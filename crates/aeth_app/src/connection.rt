@@ -16,7 +16,7 @@ pub const MAX_LATENCY: u32 = 4_096;
 
 /// What a channel wishes: so many words in each `per` cycles. A word that comes alone lands within
 /// `latency` cycles, and the receiver takes a landed word at most `delay` cycles later.
-#[derive(Clone, Copy, Debug, PartialEq, Eq)]
+#[derive(Clone, Copy)]
 pub struct Wish {
     /// 0 to 2,000,000, and at most two a cycle.
     pub words: u32,
@@ -29,14 +29,14 @@ pub struct Wish {
 }
 
 /// A core that sends and receives, and the network interface to which it is fixed, if it is.
-#[derive(Clone, Copy, Debug, PartialEq, Eq)]
+#[derive(Clone, Copy)]
 pub struct Core {
     pub name: Name,
     pub fixed: Option<NiId>,
 }
 
 /// A connection from a core to another: a channel forward, and one back. After Æthereal (2005).
-#[derive(Clone, Copy, Debug, PartialEq, Eq)]
+#[derive(Clone, Copy)]
 pub struct Connection {
     pub name: Name,
     pub from: CoreId,
@@ -47,7 +47,7 @@ pub struct Connection {
 
 /// What a link costs when paths are compared: each the same, or more the more of its slots are
 /// used. After UMARS (2005).
-#[derive(Clone, Copy, Debug, PartialEq, Eq)]
+#[derive(Clone, Copy, Debug, PartialEq)]
 pub enum Price {
     Hops,
     Pressure,

@@ -7,7 +7,7 @@ use aeth_base::{Broken, BrokenRule, Fault, NoMemory, Shown};
 
 /// The first rule that an application file breaks, with the first place in its walk where it is
 /// broken, and the value there.
-#[derive(Clone, Copy, Debug, PartialEq, Eq)]
+#[derive(Clone, Copy)]
 pub enum AppFault {
     /// The bytes are no UTF-8 or no TOML. It has the place 0 and no value.
     BadToml,

@@ -1,13 +1,14 @@
 //! What holds of every application, over the definitions alone.
-ghost use Rattle.std.specs.Prelude.{◌≡◌, ◌<◌, ◌≤◌, ◌*◌, ◌↔◌, ℕ, IsSomeAnd, IsTrue, List, Some};
+ghost use Rattle.std.specs.Prelude.{◌≡◌, ◌<◌, ◌≤◌, ◌*◌, ◌↔◌, ℕ, IsSomeAnd, IsTrue, List, Ok, Some};
 ghost use Rattle.std.specs.Prelude.{length, map, position, slice_get};
 ghost use Rattle.std.specs.Str.{bytes_eq};
 ghost use Rattle.aeth_base.specs.Limits.{words_per_flit};
 ghost use Rattle.aeth_base.specs.declared.ids.CoreId.{CoreId};
 ghost use Rattle.aeth_base.specs.declared.ids.NiId.{NiId};
 ghost use Rattle.aeth_base.specs.declared.ids.Side.{Side};
-ghost use Rattle.aeth_chip.specs.Chip.{ChipData};
+ghost use Rattle.aeth_chip.specs.Chip.{ChipData, IsChip};
 ghost use Rattle.aeth_app.specs.App.{AppData, IsApp, IsAppOf, IsWish, UseData, is_end, position_of};
+ghost use Rattle.aeth_app.specs.AppFile.{app_of};
 ghost use Rattle.aeth_app.specs.Rates.{need_of, own_need};
 ghost use Rattle.aeth_app.specs.declared.connection.Connection.{Connection};
 ghost use Rattle.aeth_app.specs.declared.connection.Core.{Core};
@@ -55,4 +56,10 @@ pub fn fixed_cores()
     ensures { (chip : ChipData) → (app : AppData) → IsAppOf chip app → (i : ℕ) → (core : Core)
         → (ni : NiId) → slice_get app.cores i ≡ Some core → core.fixed ≡ Some ni
         → ni.0 < length chip.nis }
+{}
+
+/// What the bytes of a file tell with a chip is an application, and one for that chip.
+pub fn files()
+    ensures { (chip : ChipData) → (bytes : List ℕ) → (app : AppData) → IsChip chip
+        → app_of chip bytes ≡ Ok app → IsApp app × IsAppOf chip app }
 {}

@@ -2,7 +2,7 @@
 ghost use Rattle.std.specs.Prelude.{◌≡◌, ◌<◌, ◌^◌, ◌++◌, ◌∷◌, [], ℕ, codes, length, map};
 ghost use Rattle.std.specs.Prelude.{option_map, All, IfOk, List};
 ghost use Rattle.aeth_app.specs.Tables.{wish_at};
-ghost use Rattle.aeth_app.specs.Parts.{connection_of, core_of, end_of, named_marks, price_of};
+ghost use Rattle.aeth_app.specs.Parts.{connection_of, core_of, end_of, named_marks, told_price};
 ghost use Rattle.aeth_app.specs.Parts.{use_of, wish_in};
 ghost use Rattle.aeth_app.specs.Ranges.{IsConnectionInRange, IsNamed, IsWishInRange};
 ghost use Rattle.aeth_document.specs.Arrays.{tables_in, texts_in};
@@ -138,8 +138,8 @@ pub(crate) fn uses_of(
 }
 
 /// What links cost by a text: pressure where it says so, else each the same.
-pub(crate) fn price_of(text: Option<&str>) -> Price
-    ensures { result ≡ price_of (option_map (λ t. t.now) text.entry) }
+pub(crate) fn told_price(text: Option<&str>) -> Price
+    ensures { result ≡ told_price (option_map (λ t. t.now) text.entry) }
 {
     match text {
         Some("pressure") => Price::Pressure,

@@ -18,7 +18,7 @@ use crate::demands::judge_demands;
 use crate::fault::AppFault;
 use crate::keys::wrong_keys;
 use crate::names::names_of;
-use crate::parts::{connections_of, cores_of, price_of, uses_of};
+use crate::parts::{connections_of, cores_of, told_price, uses_of};
 use crate::ranges::out_of_range;
 use crate::repeats::name_twice;
 use crate::unknown::unknown_name;
@@ -45,13 +45,36 @@ fn told_parts(
     let settings = Settings {
         slots: chip.slots(),
         detour: size(integer_at(root, "detour")) as u32,
-        price: price_of(text_if(root, "cost")),
+        price: told_price(text_if(root, "cost")),
     };
     let parts = Parts {
         cores: cores_of(alloc, chip, tables_at(root, "core"))?,
         connections: connections_of(alloc, &names.cores, tables_at(root, "connection"))?,
         uses: uses_of(alloc, names, tables_at(root, "use"))?,
     };
+    Ok((settings, parts))
+}
+
+// The same where the parts keep the rules on what they ask for, and else the first that they break.
+fn judged_parts(
+    alloc: Global,
+    chip: &Chip,
+    root: &Table,
+    names: &Names,
+) -> Result<(Settings, Parts), AppFault>
+    requires names { AreNamesOf (table_view root.now) names.now }
+    requires range { IsInRange (table_view root.now) }
+    ensures gives { Reads rule_of (λ told. app_with told.0 told.1) result
+        (demanded (length chip.now.nis) (told_app chip.now (table_view root.now))) }
+    ensures told { IfOk result (λ told.
+        app_with told.0 told.1 ≡ told_app chip.now (table_view root.now)) }
+    ensures within { IfOk result (λ _. IsWithinDemands (length chip.now.nis)
+        (told_app chip.now (table_view root.now)).cores
+        (told_app chip.now (table_view root.now)).connections) }
+    ensures chip { IsChip chip.now }
+{
+    let (settings, parts) = told_parts(alloc, chip, root, names)?;
+    judge_demands(chip.nis(), &parts.cores, &parts.connections)?;
     Ok((settings, parts))
 }
 
@@ -66,8 +89,7 @@ fn told_app(alloc: Global, chip: &Chip, root: &Table, names: Names) -> Result<Ap
         (demanded (length chip.now.nis) (told_app chip.now (table_view root.now))) }
     ensures chip { IfOk result (IsAppOf chip.now) }
 {
-    let (settings, parts) = told_parts(alloc, chip, root, &names)?;
-    judge_demands(chip.nis(), &parts.cores, &parts.connections)?;
+    let (settings, parts) = judged_parts(alloc, chip, root, &names)?;
     Ok(App::new(settings, parts, names))
 }
 

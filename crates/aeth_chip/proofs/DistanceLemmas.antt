@@ -18,7 +18,7 @@ use Rattle.aeth_chip.specs.Levels.{HasPlace, HasPlaces, IsOrigin, ReachesGoal, n
 use Rattle.aeth_chip.specs.Distances.{AreRows, entry_in, entry_of}
 use Rattle.aeth_chip.proofs.JoinedLaws.{joined-by, joins-first, joins-more, joins-none}
 use Rattle.aeth_chip.proofs.PathLemmas.{IsShortest, shortest_distinct}
-use Rattle.aeth_chip.proofs.Pushes.{slice_get-push}
+use Rattle.aeth_base.proofs.Lists.{slice_get-push}
 use Rattle.aeth_chip.proofs.WalkLemmas.{Walk, begins_placed, ends_placed, path_reaches}
 use Rattle.aeth_chip.proofs.WalkLemmas.{reaches_path}
 

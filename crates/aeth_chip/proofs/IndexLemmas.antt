@@ -53,15 +53,6 @@ links_listed chip end lists is_chip listed router =
           rw none (sym (nothing_past_last chip end is_chip router.0 (omega arith)))
     ]
 
--- No link so far.
-pub none_listed : (end : End) (routers : ℕ) (lists : List (Vec LinkId Global))
-    → length lists ≡ routers → ((place : ℕ) → list_at lists place ≡ [])
-    → AreListed end [] routers lists
-none_listed end routers lists size empty = record {
-  size = size;
-  each = λ router within. rw (empty router) refl;
-}
-
 -- The node at an end of a link.
 abbrev pub node_of : End → Link → Node
 node_of From link = link.from

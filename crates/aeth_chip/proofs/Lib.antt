@@ -3,6 +3,7 @@ pub mod NameLemmas
 mod RangeLemmas
 mod PortLemmas
 mod LinkLemmas
+pub mod FileLemmas
 pub mod NodeLemmas
 mod IndexLemmas
 pub mod OffsetLemmas

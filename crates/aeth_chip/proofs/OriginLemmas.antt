@@ -54,20 +54,6 @@ enters-add routers link old new from to begins ends router size here others = re
       subst (λ (r : ℕ). Contains (items_at new q) r) (begins ∙ step.begins) at;
 }
 
--- A link between two interfaces is left out.
-pub enters-none : (routers : ℕ) (link : Link) (lists : List (Vec ℕ Global)) (from to : ℕ)
-    → from ≡ node_place routers link.from → to ≡ node_place routers link.to → routers ≤ from
-    → routers ≤ to → Enters routers link lists lists
-enters-none routers link lists from to begins ends far away = record {
-  size = refl;
-  only = λ p q has. inl has;
-  kept = λ p q has. has;
-  each = λ p q step.
-      let first : from ≡ p = begins ∙ step.begins in
-      let last : to ≡ q = ends ∙ step.ends in
-      elim step.router [ inl low ↦ absurd (omega arith) | inr low ↦ absurd (omega arith) ];
-}
-
 -- With one more link.
 origins-push : (routers places : ℕ) (links : List Link) (link : Link)
     (old new : List (Vec ℕ Global))

@@ -14,19 +14,6 @@ use Rattle.std.specs.declared.vec.Vec.{Vec}
 use Rattle.std.specs.declared.alloc.Global.{Global}
 use Rattle.aeth_chip.specs.Levels.{HasLevel, SpreadsLevel, count_none, items_at, items_in}
 
--- Nothing has changed, and no place was to get a level.
-pub spreads-none : (P : ℕ → Type 0) (level routers : ℕ) (levels : List (Option ℕ))
-    (next : List ℕ) → ((place : ℕ) → P place → ⊥)
-    → SpreadsLevel P level routers levels levels next next
-spreads-none P level routers levels next none = record {
-  size = refl;
-  kept = λ place k at. at;
-  fresh = λ place k at. inl at;
-  all = λ place has. absurd (none place has);
-  lists = λ lists. lists;
-  count = omega arith;
-}
-
 -- Some places got a level, and then some others.
 pub spreads-then : (P Q R : ℕ → Type 0) (level routers : ℕ) (old mid new : List (Option ℕ))
     (before between after : List ℕ) → SpreadsLevel P level routers old mid before between

@@ -108,10 +108,6 @@ distances_before-more chip a b least is =
     (least_distance chip (record { 0 = a }) (record { 0 = b }) ∷ []))
     ∙ ap (λ o. distances_before chip a b ++ o ∷ []) (sym is)
 
--- Before the first pair.
-pub summary-start : (chip : ChipData) → IsSummaryBefore chip 0 0 0 0
-summary-start chip = record { far_is = refl; unreached_is = refl }
-
 -- One more pair, with a path.
 pub summary-some : (chip : ChipData) (a b far unreached least new_far new_unreached : ℕ)
     → IsSummaryBefore chip a b far unreached

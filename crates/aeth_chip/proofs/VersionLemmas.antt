@@ -1,25 +1,24 @@
 -- A file of version 1 tells the same chip as one of version 2.
 use Rattle.std.proofs.Common.{◌≡◌, ◌++◌, ℕ, ℤ, pos, negsuc, false, List, [], ◌∷◌, length, map}
 use Rattle.std.proofs.Common.{Option, Some, None, refl, ap, arith}
-use Rattle.std.specs.Prelude.{codes, option_and_then, unwrap_or, Result, Ok, Err}
+use Rattle.std.specs.Prelude.{codes, option_and_then, unwrap_or, Ok}
 use Rattle.std.specs.List.{AllByRecursion}
 use Rattle.toml.specs.Data.{Data, Members, as_integer, get_member, string, integer, float, boolean}
 use Rattle.toml.specs.Data.{datetime, array, table, same_key}
-use Rattle.aeth_base.specs.Faults.{BrokenRule}
 use Rattle.aeth_base.specs.Limits.{max_link_delay, max_slots}
 use Rattle.aeth_base.specs.declared.shown.Shown.{Shown}
 use Rattle.aeth_chip.specs.Chip.{ChipData}
 use Rattle.aeth_chip.specs.ChipFile.{chip_in, chip_of, delays, end_fields, ends_are_known}
-use Rattle.aeth_chip.specs.ChipFile.{is_in_range, keys_fit, link_fields, names_differ, numbers}
-use Rattle.aeth_chip.specs.ChipFile.{root_fields, wrong_keys}
+use Rattle.aeth_chip.specs.ChipFile.{is_in_range, keys_fit, link_fields, judged_links, names_differ}
+use Rattle.aeth_chip.specs.ChipFile.{numbers, root_fields, wrong_keys}
 use Rattle.aeth_chip.specs.Limits.{max_links, max_nis, max_routers, max_slots_of_version_1}
 use Rattle.aeth_chip.specs.Told.{delay_at, link_tables, nis_of, routers_of, slots_of, told_chip}
 use Rattle.aeth_chip.specs.Told.{version_of}
 use Rattle.aeth_chip.specs.Versions.{in_version_2}
+use Rattle.aeth_chip.proofs.FileLemmas.{kept_first}
 use Rattle.aeth_chip.proofs.RangeLemmas.{delays_are_1, in_range}
 use Rattle.aeth_chip.proofs.ValueLemmas.{get_member-other, get_member-own, wrong_key-absent}
 use Rattle.aeth_chip.proofs.ValueLemmas.{wrong_key-kept}
-use Rattle.aeth_document.specs.Chain.{◌>>=◌}
 use Rattle.aeth_document.specs.Document.{document_of}
 use Rattle.aeth_document.specs.Keys.{wrong_key}
 use Rattle.aeth_document.specs.Values.{integer_at, items_at}
@@ -154,15 +153,10 @@ is_in_range-version_2 root is fit kept =
 same_chip : (root : Members) → told_chip (in_version_2 root) ≡ told_chip root
 same_chip root = rw (same_slots root, same_routers root, same_nis root, same_links root) refl
 
-kept_first : {X : Type 0} (rule : Result (Unit {0}) BrokenRule) (next : Result X BrokenRule)
-    (value : X) → (rule >>= (λ kept. next)) ≡ Ok value → (rule ≡ Ok tt) × (next ≡ Ok value)
-kept_first (Ok kept) next value is = (refl, is)
-kept_first (Err broken) next value is = absurd (cc is)
-
 -- Where the root table of a file of version 1 tells a chip, it tells the same in version 2.
 chip_in-version_2 : (root : Members) (chip : ChipData) → version_of root ≡ pos 1
     → chip_in root ≡ Ok chip → chip_in (in_version_2 root) ≡ Ok chip
-unfolding chip_in names_differ ends_are_known
+unfolding chip_in judged_links names_differ ends_are_known
 chip_in-version_2 root chip is told =
     let (fit, further) = kept_first (keys_fit root) _ chip told in
     let (range, rest) = kept_first (is_in_range root) _ chip further in

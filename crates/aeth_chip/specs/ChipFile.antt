@@ -5,6 +5,7 @@
 --   toml_of    rule 1
 --   keys_fit, is_in_range, names_differ, ends_are_known    rules 2 to 5
 --   ports_are_few, nis_are_single    rules 6 and 7
+--   judged_links    the links of a root table, by rules 5 to 7
 --   chip_in, chip_of    the chip of a root table, and of a file's bytes
 -- This project's own.
 use Rattle.std.specs.Prelude.{ℕ, ◌+◌, ℤ, pos, codes, Bool, false, List, [], ◌∷◌, ◌++◌, map, length}
@@ -23,7 +24,7 @@ use Rattle.aeth_chip.specs.Limits.{max_links, max_nis, max_ports, max_routers}
 use Rattle.aeth_chip.specs.Limits.{max_slots_of_version_1}
 use Rattle.aeth_chip.specs.Nodes.{begins_at, ends_at, sends_on, receives_on, router_of}
 use Rattle.aeth_chip.specs.Told.{allows_delays, delay_at, link_tables, nis_of, node_of, routers_of}
-use Rattle.aeth_chip.specs.Told.{slots_of, told_chip, version_of}
+use Rattle.aeth_chip.specs.Told.{slots_of, told_chip, told_links, version_of}
 use Rattle.aeth_chip.specs.declared.node.Link.{Link}
 use Rattle.aeth_chip.specs.declared.node.Node.{Node}
 use Rattle.aeth_chip.specs.declared.node.Node.TheVariants.{Router, Ni}
@@ -183,15 +184,21 @@ nis_are_single nis links = judged 7 (codes "NiNotSingle") (first_broken 0 (not_s
 
 -- ---- the chip of a file
 
+-- The links of a root table, or the first rule on them that the table breaks.
+unfoldable pub judged_links : Members → Result (List Link) BrokenRule
+judged_links root = do
+  ends ← ends_are_known root
+  ports ← ports_are_few (length (routers_of root)) (told_links root)
+  single ← nis_are_single (nis_of root) (told_links root)
+  Ok (told_links root)
+
 -- The chip of a root table, or the first rule that the table breaks.
 unfoldable pub chip_in : Members → Result ChipData BrokenRule
 chip_in root = do
   keys ← keys_fit root
   range ← is_in_range root
   names ← names_differ root
-  ends ← ends_are_known root
-  ports ← ports_are_few (length (routers_of root)) (told_chip root).links
-  single ← nis_are_single (nis_of root) (told_chip root).links
+  links ← judged_links root
   Ok (told_chip root)
 
 -- The chip of a file's bytes, or the first rule that the file breaks.

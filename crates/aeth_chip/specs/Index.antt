@@ -19,7 +19,7 @@ use Rattle.aeth_chip.specs.declared.node.Node.{Node}
 use Rattle.aeth_chip.specs.declared.node.Node.TheVariants.{Router, Ni}
 
 -- A list has an entry for each number below a count, and each entry what is asked at its place.
-pub record IsTable {X : Type 0} (P : ℕ → X → Type 0) (count : ℕ) (entries : List X) : Type 0 where
+pub record HasEntries {X : Type 0} (P : ℕ → X → Type 0) (count : ℕ) (entries : List X) : Type 0 where
   pub size : length entries ≡ count
   pub each : (i : ℕ) (entry : X) → slice_get entries i ≡ Some entry → P i entry
 
@@ -53,7 +53,7 @@ IsPort links l port = (router : RouterId) → sender_of links l ≡ Some router
 pub record AreRouterLinks (links : List Link) (routers : ℕ) (its : RouterLinks) : Type 0 where
   pub outgoing : AreListed From links routers its.outgoing.items
   pub incoming : AreListed To links routers its.incoming.items
-  pub ports : IsTable (IsPort links) (length links) its.ports.items
+  pub ports : HasEntries (IsPort links) (length links) its.ports.items
 
 -- The one link on which a network interface sends, and the one on which it receives.
 pub record IsEnds (links : List Link) (ni : ℕ) (ends : Ends) : Type 0 where
@@ -67,6 +67,6 @@ IsFurther links l count = count ≡ further_wires (take l links)
 -- The index of links between so many routers and network interfaces.
 pub record IsIndex (links : List Link) (routers nis : ℕ) (index : Index) : Type 0 where
   pub listed : AreRouterLinks links routers index.routers
-  pub ends : IsTable (IsEnds links) nis index.ends.items
-  pub further : IsTable (IsFurther links) (length links) index.further.items
+  pub ends : HasEntries (IsEnds links) nis index.ends.items
+  pub further : HasEntries (IsFurther links) (length links) index.further.items
   pub wires : index.wires ≡ wires_of links

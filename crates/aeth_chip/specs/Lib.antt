@@ -1,5 +1,6 @@
 pub mod Chip
 pub mod ChipFile
+pub mod ChipParts
 pub mod Distances
 pub mod Faults
 pub mod Index

@@ -9,7 +9,7 @@ use std::alloc::{AllocError, AllocFailed};
 
 /// The first rule that a chip file breaks, with the first place of its walk and the value there; or
 /// want of memory.
-#[derive(Clone, Copy, Debug, PartialEq, Eq)]
+#[derive(Clone, Copy)]
 pub enum ChipFault {
     /// The bytes are no UTF-8 or no TOML. The place is 0, and there is no value.
     BadToml(Broken),

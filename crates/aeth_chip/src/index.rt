@@ -5,7 +5,7 @@ ghost use Rattle.aeth_base.specs.Limits.{max_link_delay};
 ghost use Rattle.aeth_base.specs.declared.ids.NiId.{NiId};
 ghost use Rattle.aeth_base.specs.declared.ids.RouterId.{RouterId};
 ghost use Rattle.aeth_chip.specs.Chip.{IsSingle};
-ghost use Rattle.aeth_chip.specs.Index.{AreRouterLinks, IsEnds, IsFurther, IsIndex, IsTable};
+ghost use Rattle.aeth_chip.specs.Index.{AreRouterLinks, IsEnds, IsFurther, IsIndex, HasEntries};
 ghost use Rattle.aeth_chip.specs.Index.{entry_for, list_at};
 ghost use Rattle.aeth_chip.specs.Limits.{max_links};
 ghost use Rattle.aeth_chip.specs.Nodes.{IsBelow, router_of};
@@ -191,7 +191,7 @@ fn further_of(alloc: Global, links: &[Link]) -> Result<(Vec<u32>, u32), NoMemory
     requires delays { (l : ℕ) (link : Link) → slice_get links.now l ≡ Some link
         → (1 ≤ link.delay) × (link.delay ≤ max_link_delay) }
     ensures further { IfOk result (λ made.
-        IsTable (IsFurther links.now) (length links.now) made.0.items) }
+        HasEntries (IsFurther links.now) (length links.now) made.0.items) }
     ensures wires { IfOk result (λ made. made.1 ≡ wires_of links.now) }
 {
     let mut further = Vec::new(alloc);
@@ -222,7 +222,7 @@ fn ends_at(links: &[Link], ni: NiId) -> Ends
 fn ends_of(alloc: Global, nis: u32, links: &[Link]) -> Result<Vec<Ends>, NoMemory>
     requires few { length links.now < 2 ^ 32 }
     requires single { (ni : NiId) → ni.0 < nis → IsSingle links.now ni }
-    ensures { IfOk result (λ ends. IsTable (IsEnds links.now) nis ends.items) }
+    ensures { IfOk result (λ ends. HasEntries (IsEnds links.now) nis ends.items) }
 {
     let mut ends = Vec::new(alloc);
     for ni in 0..nis {

@@ -89,3 +89,8 @@ pub fn versions()
         → document_of old ≡ Some root → document_of new ≡ Some (in_version_2 root)
         → version_of root ≡ pos 1 → chip_of old ≡ Ok chip → chip_of new ≡ Ok chip }
 {}
+
+/// What the bytes of a file tell is a chip.
+pub fn files()
+    ensures { (bytes : List ℕ) (chip : ChipData) → chip_of bytes ≡ Ok chip → IsChip chip }
+{}

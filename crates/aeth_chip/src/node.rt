@@ -39,7 +39,7 @@ impl Node {
 }
 
 /// One of the two ends of a link.
-#[derive(Clone, Copy, Debug, PartialEq, Eq)]
+#[derive(Clone, Copy)]
 pub(crate) enum End {
     From,
     To,

@@ -2,9 +2,11 @@
 ghost use Rattle.std.specs.Prelude.{◌≡◌, ◌≤◌, ◌++◌, [], Ok, length, IfOk};
 ghost use Rattle.aeth_base.specs.Faults.{Reads};
 ghost use Rattle.aeth_base.specs.Limits.{max_slots};
+ghost use Rattle.aeth_chip.specs.Chip.{IsChip};
 ghost use Rattle.aeth_chip.specs.ChipFile.{chip_in, chip_of, delays, ends_are_known, is_in_range};
-ghost use Rattle.aeth_chip.specs.ChipFile.{most_slots, names_differ, nis_are_single, numbers};
-ghost use Rattle.aeth_chip.specs.ChipFile.{ports_are_few};
+ghost use Rattle.aeth_chip.specs.ChipFile.{keys_fit, judged_links, most_slots, names_differ};
+ghost use Rattle.aeth_chip.specs.ChipFile.{nis_are_single, numbers, ports_are_few};
+ghost use Rattle.aeth_chip.specs.ChipParts.{chip_with};
 ghost use Rattle.aeth_chip.specs.Faults.{rule_of};
 ghost use Rattle.aeth_chip.specs.Limits.{max_links, max_nis, max_routers};
 ghost use Rattle.aeth_chip.specs.Told.{nis_of, routers_of, slots_of, version_of};
@@ -158,6 +160,35 @@ fn slots_of(root: &Table) -> u32
     size(integer_at(root, "slots")) as u32
 }
 
+// The links of a file whose routers and network interfaces have these names, or the first rule on
+// links that it breaks.
+#[tactic(auto, unfolding(crate::specs::ChipFile::judged_links))]
+fn judged_links(alloc: Global, root: &Table, names: &Names) -> Result<Vec<Link>, ChipFault>
+    requires keys { keys_fit (table_view root.now) ≡ Ok tt }
+    requires range { is_in_range (table_view root.now) ≡ Ok tt }
+    requires routers { names.now.routers.keys ≡ routers_of (table_view root.now) }
+    requires nis { names.now.nis.keys ≡ nis_of (table_view root.now) }
+    requires few_routers { length names.now.routers.keys ≤ max_routers }
+    requires few_nis { length names.now.nis.keys ≤ max_nis }
+    ensures { Reads rule_of (λ links. links.items) result (judged_links (table_view root.now)) }
+{
+    judge_ends(names, root)?;
+    let links = links_of(alloc, names, link_tables(root))?;
+    judge_ports(names.routers.len() as u32, &links)?;
+    judge_nis(root, &links)?;
+    Ok(links)
+}
+
+// The chip of these parts, with an index of its links.
+fn with_index(alloc: Global, slots: u32, names: Names, links: Vec<Link>) -> Result<Chip, NoMemory>
+    requires { IsChip (chip_with slots names links.items) }
+    ensures { IfOk result (λ chip. chip ≡ chip_with slots names links.items) }
+{
+    let routers = names.routers.len() as u32;
+    let index = index_of(alloc, routers, names.nis.len() as u32, &links)?;
+    Ok(Chip::new(slots, names.routers, names.nis, links, index))
+}
+
 #[tactic(auto, unfolding(crate::specs::ChipFile::chip_in))]
 fn chip_in(alloc: Global, root: &Table) -> Result<Chip, ChipFault>
     ensures { Reads rule_of (λ chip. chip) result (chip_in (table_view root.now)) }
@@ -166,17 +197,8 @@ fn chip_in(alloc: Global, root: &Table) -> Result<Chip, ChipFault>
     judge_ranges(root)?;
     judge_names(alloc, root)?;
     let names = names_in(alloc, root)?;
-    judge_ends(&names, root)?;
-    let links = links_of(alloc, &names, link_tables(root))?;
-    judge_ports(names.routers.len() as u32, &links)?;
-    judge_nis(root, &links)?;
-    let index = index_of(
-        alloc,
-        names.routers.len() as u32,
-        names.nis.len() as u32,
-        &links,
-    )?;
-    Ok(Chip::new(slots_of(root), names.routers, names.nis, links, index))
+    let links = judged_links(alloc, root, &names)?;
+    Ok(with_index(alloc, slots_of(root), names, links)?)
 }
 
 /// The chip of a file's bytes, or the first rule that the file breaks; or memory ran out.

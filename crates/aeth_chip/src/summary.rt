@@ -8,7 +8,7 @@ use aeth_base::NiId;
 
 /// How far the network interfaces of a chip are apart, over all ordered pairs, each with itself
 /// among them.
-#[derive(Clone, Copy, Debug, PartialEq, Eq)]
+#[derive(Clone, Copy)]
 pub struct Summary {
     /// The greatest least number of links; 0 where no pair has a path.
     pub far: u32,

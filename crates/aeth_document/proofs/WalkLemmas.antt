@@ -22,10 +22,6 @@ use Rattle.aeth_document.specs.Walks.{place_of, repeated, repeats, size_of, step
 use Rattle.aeth_document.specs.declared.walk.Walk.{Walk}
 use Rattle.aeth_document.specs.declared.walk.Walk.TheVariants.{At, Stopped}
 
--- Places never pass the last one.
-pub place_within : (place : ℕ) → next_place place ≤ last_place
-place_within place = omega arith
-
 -- A walk over one list and then another is the walk over the two in one.
 pub walked-append : (walk : Walk) (xs ys : List (Option Shown))
     → walked (walked walk xs) ys ≡ walked walk (xs ++ ys)
@@ -136,7 +132,7 @@ outside-size low high (pos n) none = outside-within low high n none
 outside-size low high (negsuc n) none = absurd (cc none)
 
 -- A text that isn't refused is a name.
-no_name-none : (text : List ℕ) → no_name text ≡ None → is_name text ≡ true
+pub no_name-none : (text : List ℕ) → no_name text ≡ None → is_name text ≡ true
 no_name-none text none =
     elim (cases_Bool (is_name text)) [
       | inl named ↦ named

@@ -212,15 +212,6 @@ whole-suitable free need gap set is subset suitable =
     (round-whole free gap (length set.slots) is (set.slots, round, refl) room)
     (omega (arith, room, suitable.enough))
 
--- Some subset is suitable exactly where the whole set is.
-pub subset-suitable : (free : Slots) (need gap : ℕ) → IsSlotSet free
-    → ((set : Slots) × Contains (subsets free) set × IsSuitable need gap set)
-    ↔ IsSuitable need gap free
-subset-suitable free need gap is = (
-  (λ (set, subset, suitable). whole-suitable free need gap set is subset suitable),
-  (λ suitable. (free, subsets-itself free, suitable)),
-)
-
 -- A set is chosen exactly where the whole free set is suitable.
 pub chosen-whole : (free : Slots) (need gap : ℕ) → IsSlotSet free
     → IsSome (chosen free need gap) ↔ IsSuitable need gap free

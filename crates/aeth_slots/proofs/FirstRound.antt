@@ -45,16 +45,6 @@ pub record IsBegun (free : Slots) (gap more first from left : ℕ) (slots : List
       → AddsFirstWay free.slots (first + free.size) gap from left slots round
       → IsFirstRound free gap (more + 1) round
 
--- It begins with the least first slot.
-pub round_begins : {free : Slots} {gap more first : ℕ} → IsFirstMember free gap more first
-    → IsBegun free gap more first first more (first ∷ [])
-round_begins {free} {gap} {more} {first} is = record {
-  member = is.member;
-  reaches = is.reaches;
-  below = (omega arith, omega arith, tt);
-  whole = λ round adds. first_round free gap more first round is adds;
-}
-
 -- A round has no more slots than the table.
 pub round_short : {free : Slots} {gap more first : ℕ} → IsSlotSet free
     → IsFirstMember free gap more first → more < free.size

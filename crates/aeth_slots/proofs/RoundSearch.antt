@@ -20,15 +20,6 @@ pub record IsSearching (free : List ℕ) (end gap first count earliest : ℕ) : 
   pub is_earliest : IsEarliest free end gap count earliest
   pub fewest : (way : List ℕ) → IsWay free end gap first way → count ≤ length way
 
--- Where the earliest slot is up to the first one, the fewest are found.
-pub fewest_found : (free : List ℕ) (end gap first count earliest : ℕ) → Contains free first
-    → IsSearching free end gap first count earliest → earliest ≤ first
-    → IsFewest free end gap first count
-fewest_found free end gap first count earliest has is order = record {
-  reaches = is.is_earliest.later first has order;
-  fewest = is.fewest;
-}
-
 -- Where it comes later, one slot more is needed.
 pub fewest_more : (free : List ℕ) (end gap first count earliest : ℕ) → Contains free first
     → IsSearching free end gap first count earliest → first < earliest

@@ -14,11 +14,6 @@ use Rattle.aeth_slots.proofs.Ascending.{Ascends-wider, with_slot-last}
 use Rattle.aeth_slots.proofs.Ways.{within_from_exact, exact_from_within, Reaches-none}
 use Rattle.aeth_slots.proofs.Ways.{Reaches-first_step}
 
--- What an absent value says may be weakened.
-pub IfNone_then : {X P Q : Type 0} (o : Option X) → IfNone o P → (P → Q) → IfNone o Q
-IfNone_then None says then = then says
-IfNone_then (Some x) says then = tt
-
 -- ---- the next slot
 
 -- The least slot after a start and not before the earliest is the next on the way.

@@ -4,6 +4,7 @@ use Rattle.std.proofs.Common.{sym, arith}
 use Rattle.std.specs.Prelude.{replicate}
 use Rattle.std.proofs.lemmas.List.{take_all, drop_all, append-nil, nil_from_length}
 use Rattle.std.proofs.lemmas.Bool.{eqb-true, eqb-false}
+use Rattle.aeth_base.proofs.Lists.{written_back}
 use Rattle.aeth_chip.specs.Levels.{IsOrigin}
 use Rattle.aeth_chip.proofs.LevelLemmas.{Found, found-start, found-round, found-all, front-below}
 use Rattle.aeth_chip.proofs.levels.levels_to.Goals as goal
@@ -35,13 +36,6 @@ spread_all-requires-clause-places c = λ from to origin.
     let same = ap length c.deref_mut.ensures.value in
     omega arith
 
--- What a slice was written back as.
-written_back : (len : ℕ) (new old : List (Option ℕ)) → length new ≡ length old → len ≡ length old
-    → take len (new ++ drop (length new) old) ≡ new
-written_back len new old same is =
-    ap (λ (xs : List (Option ℕ)). take len (new ++ xs)) (drop_all (length new) old (omega arith))
-    ∙ ap (take len) (append-nil new) ∙ take_all len new (omega arith)
-
 -- A list whose test for emptiness says so.
 tested_empty : (len : ℕ) (test : Bool) → test ≡ nat_eq len 0 → test ≡ true → len ≡ 0
 tested_empty len test is passed = eqb-true len 0 (sym is ∙ passed)
@@ -68,7 +62,7 @@ rounds-preserved c =
     subst (λ (xs : List (Option ℕ)).
     Found (IsOrigin origins) c.args.routers c.args.goal (length origins) (c.rounds.level + 1)
     next xs)
-    (sym (written_back c.rounds.levels.len new c.rounds.levels.items same_length (omega arith)))
+    (sym (written_back c.rounds.levels.items new c.rounds.levels.len (omega arith) same_length))
     round
 
 -- Nothing is left to go on from.

@@ -1,7 +1,6 @@
-use Rattle.std.proofs.Common.{◌≡◌, ◌∙◌, ℕ, List, Option, Some, None, max, subst, arith}
-use Rattle.std.specs.Ordering.{nat_cmp, ord_max}
-use Rattle.std.proofs.lemmas.Bool.Decides.{nat_tests}
+use Rattle.std.proofs.Common.{◌≡◌, ◌∙◌, ℕ, List, Option, Some, None, subst, arith}
 use Rattle.aeth_base.specs.declared.ids.NiId.{NiId}
+use Rattle.aeth_base.proofs.ExtremeLemmas.{ord_max-nat}
 use Rattle.aeth_chip.specs.declared.node.Link.{Link}
 use Rattle.aeth_chip.specs.Chip.{ChipData, IsChip}
 use Rattle.aeth_chip.specs.LeastDistance.{least_distance}
@@ -20,10 +19,6 @@ given_least chip links is_chip same a b least distance =
     distance_is_least_distance chip is_chip a b least
     (subst (λ (ls : List Link). IsDistance ls a b least) same distance)
 
--- The greater of two numbers.
-max_is : (a b : ℕ) → ord_max nat_cmp a b ≡ max a b
-max_is a b = grind (arith, nat_tests)
-
 -- There are at most so many pairs.
 pub overflow_add-unreached : goal.overflow_add-unreached
 overflow_add-unreached c =
@@ -41,7 +36,7 @@ loop-b-preserved c =
       | in-Some w ↦ summary-some c.args.chip.now c.loop-a.a c.loop-b.b c.loop-b.far
           c.loop-b.unreached w.in-Some.least c.match-between.far c.match-between.unreached
           c.loop-b.invariant (given (Some w.in-Some.least) w.in-Some.ensures.distance)
-          (w.far-is ∙ w.max-far.ensures ∙ max_is c.loop-b.far w.in-Some.least) w.unreached-is
+          (w.far-is ∙ w.max-far.ensures ∙ ord_max-nat c.loop-b.far w.in-Some.least) w.unreached-is
       | in-None w ↦ summary-none c.args.chip.now c.loop-a.a c.loop-b.b c.loop-b.far
           c.loop-b.unreached c.match-between.far c.match-between.unreached c.loop-b.invariant
           (given None w.in-None.ensures.distance) w.far-is w.unreached-is
