@@ -7,8 +7,6 @@ mod grant;
 mod groups;
 pub mod laws;
 mod numbering;
-#[cfg(test)]
-mod tests;
 
 pub use grant::{Grant, SeatLine};
 pub use groups::Groups;
