@@ -1,12 +1,13 @@
 """The chip as a map: routers on their places, interfaces with their cores beside them, and each link with a line
 and with its table of slots as a strip of cells.
 
-A link between routers that stand next to each other lies between them. Any other link between routers is a curve, and
-its strip stands in the **card** of the router where it begins, to the lower right of it, under the interfaces there.
+A link between routers that stand next to each other lies between them. Any other link between routers goes by corridors,
+and its strip stands in the **card** of the router where it begins, to the lower right of it, under the interfaces there.
 """
 from dataclasses import dataclass
 import math
 
+from corridors import Corridors
 from placing import place_routers
 import svg
 
@@ -19,20 +20,25 @@ LEAST_ROOM = 120  # beside a router, for an interface with its cores
 
 
 class Strip:
-    """The shape of all tables of slots: rows of cells, of 32 slots at most."""
+    """The shape of all tables of slots: rows of cells. Where colours alone don't tell the connections apart, cells are wide
+    enough for the numbers of so many channels."""
 
-    def __init__(self, slots):
+    def __init__(self, slots, channels, connections):
         self.slots = slots
-        self.rows = math.ceil(slots / 32)
+        self.number_width = 6 * len(str(channels)) + 2
+        self.is_wide = connections > svg.COLOURS and slots > 8
+        self.rows = math.ceil(slots / (16 if self.is_wide else 32))
         self.row = math.ceil(slots / self.rows)
-        self.cell = min(20, max(5, 160 // self.row))
-        self.height = 20 if self.cell >= 16 else {1: 10, 2: 8}.get(self.rows, 6)
+        self.cell = max(8, self.number_width) if self.is_wide else min(20, max(5, 160 // self.row))
+        self.height = {1: 10, 2: 8}.get(self.rows, 6)
+        if self.has_numbers:
+            self.height = 12 if self.is_wide else 20
         self.length = self.row * self.cell
         self.breadth = self.rows * self.height
 
     @property
     def has_numbers(self):
-        return self.cell >= 16
+        return self.cell >= self.number_width
 
     def free_cells(self):
         """One table without channels, of which each link's is a copy."""
@@ -44,12 +50,14 @@ class Strip:
 
 @dataclass(frozen=True)
 class Lane:
-    """Where a link is drawn: the path data of its line from its source on, and where its strip begins."""
+    """Where a link is drawn: the path data of its line from its source on, and where its strip begins. A strip that
+    stands apart from its line is named."""
 
     route: str
     left: float
     top: float
     upright: bool = False
+    apart: bool = False
 
     def cell(self, strip, slot):
         """The middle of the beginning of a slot's cell, and the letter of the way along it."""
@@ -64,23 +72,22 @@ def line(*points):
     return "L".join(f"{svg.number(x)} {svg.number(y)}" for x, y in points)
 
 
-
-
 class ChipMap:
     """The places of all that is drawn of a chip. `lanes` has a lane for each link, by its number."""
 
     def __init__(self, design):
         self.design = design
-        self.strip = Strip(design.slots)
-        self.places, self.is_mesh = place_routers(design.routers, design.links)
+        self.strip = Strip(design.slots, len(design.channels), len({c.connection for c in design.channels}))
+        self.places = place_routers(design.routers, design.links)
         self.at_router = {router: [] for router in design.routers}
         for interface in design.interfaces:
             self.at_router[design.router_of(interface)].append(interface)
         self.sort_links()
         self.band = 2 * self.strip.breadth + LINES
-        self.box_width = self.band + 4 * APART * max(map(len, self.at_router.values()))
+        ports = self.band + 4 * APART * max(map(len, self.at_router.values()))
+        self.box_width = max(ports, self.corridors.edge_width())
         self.room = max(self.strip.length, LEAST_ROOM)
-        self.pitch = self.box_width + self.room + 3 * GAP
+        self.set_columns()
         self.set_rows()
         self.lanes = {}
         self.lay_pairs()
@@ -88,8 +95,8 @@ class ChipMap:
             self.lay_card(router)
 
     def sort_links(self):
-        """Which links lie between neighbours, of each ordered pair the first; and which are curves, by router."""
-        self.between, self.curves = {}, {router: [] for router in self.design.routers}
+        """Which links lie between neighbours, of each ordered pair the first; and which go by corridors, by router."""
+        self.between, self.apart = {}, {router: [] for router in self.design.routers}
         for link in self.design.links:
             ends = link.source, link.target
             if all(end in self.places for end in ends):
@@ -97,7 +104,8 @@ class ChipMap:
                 if far == 1 and ends not in self.between:
                     self.between[ends] = link
                 else:
-                    self.curves[link.source].append(link)
+                    self.apart[link.source].append(link)
+        self.corridors = Corridors([link for links in self.apart.values() for link in links], self.places)
 
     def interface_height(self, interface):
         seats = len(self.design.seats.get(interface, []))
@@ -105,43 +113,36 @@ class ChipMap:
 
     def card_height(self, router):
         interfaces = sum(self.interface_height(interface) + GAP for interface in self.at_router[router])
-        return interfaces + len(self.curves[router]) * (self.strip.breadth + 18)
+        return interfaces + len(self.apart[router]) * (self.strip.breadth + 18)
+
+    def set_columns(self):
+        """The left edge of each column of routers, right of its corridor, and the whole width."""
+        columns = 1 + max(x for x, _ in self.places.values())
+        self.lefts = [self.corridors.width(0)]
+        for column in range(1, columns + 1):
+            pitch = self.box_width + self.room + 3 * GAP
+            self.lefts.append(self.lefts[-1] + pitch + self.corridors.width(column))
+        self.width = self.lefts[-1]
 
     def set_rows(self):
-        """The upper edge of each row of routers, and the whole width and height."""
-        columns = 1 + max(x for x, _ in self.places.values())
+        """The upper edge of each row of routers, below its corridor, and the whole height."""
         rows = 1 + max(y for _, y in self.places.values())
-        self.tops = [0]
+        self.tops = [self.corridors.height(0)]
         for row in range(rows):
             cards = [self.card_height(router) for router, (_, y) in self.places.items() if y == row]
             below = self.strip.length + 2 * GAP if row + 1 < rows else 0
-            self.tops.append(self.tops[-1] + self.band + max(below, 2 * GAP + max(cards, default=0)))
-        self.width, self.height = columns * self.pitch, self.tops[-1]
+            high = self.band + max(below, 2 * GAP + max(cards, default=0))
+            self.tops.append(self.tops[-1] + high + self.corridors.height(row + 1))
+        self.height = self.tops[-1]
 
     def box(self, router):
         """The left and upper edge of a router."""
         x, y = self.places[router]
-        return x * self.pitch, self.tops[y]
+        return self.lefts[x], self.tops[y]
 
     def middle(self, router):
         left, top = self.box(router)
         return left + self.box_width // 2, top + self.band // 2
-
-    def edge(self, router, aim):
-        """The point of a router's edge from its middle towards another point."""
-        x, y = self.middle(router)
-        wide, high = aim[0] - x, aim[1] - y
-        part = 1 / max(abs(wide) / (self.box_width / 2), abs(high) / (self.band / 2), 1)
-        return x + wide * part, y + high * part
-
-    def curve(self, source, target):
-        """A curve that leaves the straight way to its right, so that two links between two routers are apart."""
-        (x0, y0), (x1, y1) = self.middle(source), self.middle(target)
-        if source == target:
-            left, top = self.box(source)
-            return f"{left} {top + 9}C{left - 20} {top + 9} {left + 9} {top - 20} {left + 9} {top}"
-        bend = (x0 + x1) / 2 - (y1 - y0) * 0.12, (y0 + y1) / 2 + (x1 - x0) * 0.12
-        return f"{line(self.edge(source, bend))}Q{line(bend)} {line(self.edge(target, bend))}"
 
     def lay_pairs(self):
         """Links between neighbours: to the right above, to the left below; downwards right, upwards left."""
@@ -158,20 +159,21 @@ class ChipMap:
                 ahead = 1 if y1 > y0 else -1
                 x, half = x0 + ahead * LINE_AT, self.band // 2
                 left = x0 + LINES // 2 if ahead == 1 else x0 - across
-                room = abs(y1 - y0) - self.band - self.strip.length
+                lower = max(self.places[source][1], self.places[target][1])
+                room = abs(y1 - y0) - self.band - self.corridors.height(lower) - self.strip.length
                 route = line((x, y0 + ahead * half), (x, y1 - ahead * half))
                 self.lanes[link.number] = Lane(route, left, min(y0, y1) + half + room // 2, upright=True)
 
     def lay_card(self, router):
-        """The interfaces of a router with their links, then the strips of its curves."""
+        """The interfaces of a router with their links, then the strips of its links that go by corridors."""
         left, top = self.box(router)
         right, bottom = left + self.box_width, top + self.band
         x, y = right + GAP, bottom + GAP
         for number, interface in enumerate(self.at_router[router]):
             self.lay_interface(interface, x, y, right - 6 - 2 * APART * number, bottom)
             y += self.interface_height(interface) + GAP
-        for link in self.curves[router]:
-            self.lanes[link.number] = Lane(self.curve(router, link.target), x, y + 13)
+        for link in self.apart[router]:
+            self.lanes[link.number] = Lane(line(*self.corridors.points(link, self)), x, y + 13, apart=True)
             y += self.strip.breadth + 18
 
     def lay_interface(self, interface, x, y, post, bottom):

@@ -41,8 +41,8 @@ def draw_interface(chip_map, interface):
 
 
 def draw_link(chip_map, link, used):
-    """A link's line, the wider the more is in use, and its table with no channel in it yet: what lies below all
-    others, a curve, and what doesn't."""
+    """A link's line, the wider the more is in use, and its table with no channel in it yet. A table that stands apart
+    from the line has the names of the link's ends above it."""
     design, lane = chip_map.design, chip_map.lanes[link.number]
     delay = f", delay {link.delay}" if link.delay > 1 else ""
     tells = f"link {link.number}, {link.source} to {link.target}{delay}: {used} of {design.slots} slots in use"
@@ -50,16 +50,15 @@ def draw_link(chip_map, link, used):
     turn = f"matrix(0 1 1 0 {x} {y})" if lane.upright else f"translate({x} {y})"
     way = svg.tag("path", class_="line", d="M" + lane.route, stroke_width=1 + 6 * used / design.slots)
     table = svg.tag("use", href="#table", transform=turn)
-    if link not in chip_map.curves.get(link.source, []):
-        return "", svg.tag("g", svg.title(tells), way, table)
-    name = svg.label(f"{svg.ARROW} {link.target}", x, y - 3, "less", chip_map.room)
-    return svg.tag("g", svg.title(tells), way, class_="curve"), svg.tag("g", svg.title(tells), name, table)
+    name = ""
+    if lane.apart:
+        name = svg.label(f"{link.source} {svg.ARROW} {link.target}", x, y - 3, "less", chip_map.room)
+    return svg.tag("g", svg.title(tells), way, name, table)
 
 
 def draw_chip(chip_map):
-    """The chip without its channels: curves first, so that they lie below all else."""
+    """The chip without its channels."""
     design, used = chip_map.design, chip_map.design.used_slots()
-    pairs = [draw_link(chip_map, link, used[link.number]) for link in design.links]
-    parts = [curve for curve, _ in pairs if curve] + [other for _, other in pairs]
+    parts = [draw_link(chip_map, link, used[link.number]) for link in design.links]
     parts += [draw_router(chip_map, router) for router in design.routers]
     return parts + [draw_interface(chip_map, interface) for interface in design.interfaces]

@@ -3,7 +3,8 @@
 The files are read only after `aeth` has accepted them, so nothing is judged here.
 """
 from dataclasses import dataclass
-import tomllib
+
+import toml_lines
 
 
 @dataclass(frozen=True)
@@ -33,6 +34,10 @@ class Channel:
     @property
     def name(self):
         return f"{self.connection} {self.side}"
+
+    def nodes(self, links):
+        """The nodes of its path, from the sender's interface to the receiver's."""
+        return [links[self.path[0]].source] + [links[number].target for number in self.path]
 
 
 @dataclass(frozen=True)
@@ -67,9 +72,8 @@ class Design:
         return used
 
 
-def read_toml(path):
-    with open(path, "rb") as file:
-        return tomllib.load(file)
+def read_toml(data):
+    return toml_lines.read(data)[0]
 
 
 def read_links(chip):
@@ -119,11 +123,10 @@ def channels_of(app, plan, tables, use):
     return channels
 
 
-def read_design(chip_path, app_path, plan_path, use, tables):
-    """The design of three files and of the text that `aeth tables` prints of them."""
-    chip, app = read_toml(chip_path), read_toml(app_path)
-    with open(plan_path, encoding="ascii") as file:
-        plan = file.read()
+def read_design(chip_data, app_data, plan_data, use, tables):
+    """The design of the bytes of three files and of the text that `aeth tables` prints of them."""
+    chip, app = read_toml(chip_data), read_toml(app_data)
+    plan = plan_data.decode("ascii")
     return Design(
         slots=chip["slots"],
         routers=chip["routers"],

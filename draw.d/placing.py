@@ -1,7 +1,7 @@
 """Where the routers of a chip stand: each on a place (column, row) of a grid.
 
-A mesh is recognised, whatever the names and the order of its routers. Any other chip is placed so that routers
-with a link between them are near.
+A mesh, a torus and a ring are recognised, whatever the names and the order of their routers. Any other chip is placed so
+that routers with a link between them are near.
 """
 from collections import deque
 
@@ -59,6 +59,83 @@ def mesh_places(routers, near):
     meshes = [mesh_between(corner, other, near, distances) for corner in corners for other in corners]
     by_file = lambda places: [places[router][::-1] for router in routers]
     return min(filter(None, meshes), key=by_file, default=None)
+
+
+MOST_STEPS = 20_000  # of a search for a torus
+
+
+def next_to(place, size, wraps):
+    """The places next to a place of a torus, or of a mesh whose rows or columns alone are closed."""
+    found = set()
+    for axis, step in ((0, 1), (0, -1), (1, 1), (1, -1)):
+        other = list(place)
+        other[axis] += step
+        if wraps[axis] and size[axis] > 2:
+            other[axis] %= size[axis]
+        if 0 <= other[axis] < size[axis]:
+            found.add(tuple(other))
+    return found
+
+
+def torus_of(routers, near, size, wraps):
+    """The places of a torus of a size, found row by row, each router next to those that stand already; None where there
+    is none, or where that takes too many steps."""
+    cells = [(x, y) for y in range(size[1]) for x in range(size[0])]
+    order = {router: number for number, router in enumerate(routers)}
+    earlier = []
+    for number, cell in enumerate(cells):
+        earlier.append([before for before in range(number) if cells[before] in next_to(cell, size, wraps)])
+    degrees = [len(next_to(cell, size, wraps)) for cell in cells]
+    placed, left, steps = [], [iter(routers)], 0
+    while left and steps < MOST_STEPS:
+        steps += 1
+        router = next(left[-1], None)
+        if router is None:
+            left.pop()
+            if placed:
+                placed.pop()
+            continue
+        number = len(placed)
+        beside = {placed[before] for before in earlier[number]}
+        if router in placed or len(near[router]) != degrees[number] or near[router] & set(placed) != beside:
+            continue
+        placed.append(router)
+        if len(placed) == len(cells):
+            return dict(zip(placed, cells))
+        first = earlier[number + 1]
+        candidates = near[placed[first[0]]] if first else near
+        left.append(iter(sorted(candidates, key=order.get)))
+    return None
+
+
+def torus_places(routers, near):
+    """The places of a torus, or of a mesh with closed rows or columns, as square as may be; None where it is none."""
+    many = len(routers)
+    sizes = [(many // rows, rows) for rows in range(2, many // 2 + 1) if many % rows == 0]
+    sides = sum(map(len, near.values()))
+    for size in sorted(sizes, key=lambda size: (abs(size[0] - size[1]), size[1])):
+        for wraps in ((True, True), (True, False), (False, True)):
+            if any(wrap and long < 3 for wrap, long in zip(wraps, size)):
+                continue
+            cells = [(x, y) for y in range(size[1]) for x in range(size[0])]
+            if sum(len(next_to(cell, size, wraps)) for cell in cells) == sides:
+                places = torus_of(routers, near, size, wraps)
+                if places:
+                    return places
+    return None
+
+
+def ring_places(routers, near):
+    """The places of a ring: one row there, and one back below it; None where it is no ring."""
+    if len(routers) < 3 or any(len(near[router]) != 2 for router in routers):
+        return None
+    order = [routers[0]]
+    while len(order) < len(routers):
+        onward = sorted(near[order[-1]] - set(order), key=routers.index)
+        if not onward:
+            return None
+        order.append(onward[0])
+    return snake(order, -(-len(order) // 2))
 
 
 def snake(order, columns):
@@ -132,7 +209,8 @@ def near_places(routers, near):
 
 
 def place_routers(routers, links):
-    """The place of each router, and whether the chip is a mesh."""
+    """The place of each router."""
     near = neighbours_of(routers, links)
-    mesh = mesh_places(routers, near)
-    return (mesh, True) if mesh else (near_places(routers, near), False)
+    return (
+        mesh_places(routers, near) or torus_places(routers, near) or ring_places(routers, near) or near_places(routers, near)
+    )

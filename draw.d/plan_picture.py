@@ -7,16 +7,19 @@ import svg
 
 MARGIN = 24
 LEAST_WIDTH = 480
+MOST_WIDTH = 900  # of a line of sentences
+ARROW = f" {svg.ARROW} "
 ROW = 16  # the height of a line of the legend
 LEAST_ROWS = 8  # of the legend, before a further column is begun
 NUMBERS = (("rate", 44), ("latency", 58), ("buffer", 52))  # what the legend tells of a channel, and the room for it
 
 RULES = """
 .big{font-size:12px}.core{fill:none;stroke-width:.6}.line{marker-end:url(#tip)}
-.on{font-size:9px;text-anchor:middle}.way{stroke-width:3;stroke-linejoin:round;visibility:hidden;pointer-events:none}
+.on{font-size:9px;text-anchor:middle;pointer-events:none}
+.way{stroke-width:3;stroke-linejoin:round;visibility:hidden;pointer-events:none}
 .c:hover .way,.c:focus .way{visibility:visible}.c:hover .name,.c:focus .name{font-weight:bold}
 #channels:hover .c:not(:hover),#channels:focus-within .c:not(:focus):not(:hover){opacity:.15}
-.c:focus{outline:none}.curve{opacity:.5}
+.c:focus{outline:none}.chosen .way{visibility:visible;stroke-width:2}
 """
 
 
@@ -44,28 +47,34 @@ def colours_of(design):
 
 def tells_of(design, channel):
     """What a channel is, in words."""
-    nodes = [design.links[channel.path[0]].source] + [design.links[number].target for number in channel.path]
     return (
         f"{channel.name}, {channel.sender} to {channel.receiver}: {channel.rate} words in "
         f"{svg.count(design.slots, 'cycle')}, "
         f"latency {channel.latency} cycles, buffer {channel.buffer} words; "
-        f"by {' '.join(nodes)}, starts in {' '.join(map(str, channel.starts))}"
+        f"by {ARROW.join(channel.nodes(design.links))}, starts in {' '.join(map(str, channel.starts))}"
     )
 
 
+def sign(text, x, y, turned):
+    """A number whose middle is at a place; it is turned where a cell is higher than it is wide."""
+    if turned:
+        return svg.tag("text", text, class_="on", transform=f"translate({svg.number(x - 3)} {svg.number(y)})rotate(90)")
+    return svg.tag("text", text, class_="on", x=x, y=y + 3)
+
+
 def cells_of(chip_map, channel, place):
-    """A channel's cells in the tables of all links of its path, with its number where there is room for it."""
+    """A channel's cells in the tables of all links of its path, with its number, if it has one, where there is room."""
     strip, path, signs = chip_map.strip, [], []
     for link, slots in chip_map.design.passages(channel):
         lane = chip_map.lanes[link.number]
         for slot in slots:
             x, y, along = lane.cell(strip, slot)
             path.append(f"M{x} {y}{along}{strip.cell - 1}")
-            if strip.has_numbers:
+            if strip.has_numbers and place:
                 half = (strip.cell - 1) / 2
-                middle = (x, y + half + 3) if lane.upright else (x + half, y + 3)
-                signs.append(svg.tag("text", str(place), class_="on", x=middle[0], y=middle[1]))
-    width = strip.height - 1 if channel.side == "fwd" else strip.height / 2
+                middle = (x, y + half) if lane.upright else (x + half, y)
+                signs.append(sign(str(place), *middle, lane.upright and strip.is_wide))
+    width = strip.height - 1 if channel.side == "fwd" else strip.height * (0.7 if strip.is_wide else 0.5)
     return svg.tag("path", d="".join(path), stroke_width=width) + "".join(signs)
 
 
@@ -76,14 +85,15 @@ def way_of(chip_map, channel):
 
 
 class Legend:
-    """A list of all channels in as many columns as there is room for."""
+    """A list of channels in as many columns as there is room for."""
 
     def __init__(self, channels, width, top):
+        self.channels = channels
         longest = max([len("channel")] + [len(channel.name) for channel in channels])
         self.name_width = 8 + svg.text_width("n" * min(longest, 26), 11)
         self.column = 44 + self.name_width + sum(room for _, room in NUMBERS) + MARGIN
         self.columns = min(-(-len(channels) // LEAST_ROWS), max(1, int((width + MARGIN) // self.column)))
-        self.rows = -(-len(channels) // max(1, self.columns))
+        self.rows = max(1, -(-len(channels) // max(1, self.columns)))
         self.top = top
         self.bottom = top + (self.rows + 1) * ROW
 
@@ -99,8 +109,8 @@ class Legend:
         return "".join(parts)
 
     def line(self, place, channel):
-        """One channel's line, with its colour as a cell."""
-        column, row = divmod(place, self.rows)
+        """One channel's line, with its colour as a cell and its number among all channels."""
+        column, row = divmod(self.channels.index(channel), self.rows)
         left, y = column * self.column, self.top + (row + 1) * ROW
         parts = [
             svg.tag("path", d=f"M{svg.number(left)} {y - 4}h14", stroke_width=12 if channel.side == "fwd" else 6),
@@ -114,20 +124,40 @@ class Legend:
         return "".join(parts)
 
 
-def draw_channels(chip_map, legend):
-    """Each channel as one group of its cells, its line of the legend and its way."""
+def draw_channels(chip_map, legend, chosen):
+    """Each channel as one group of its cells, its line of the legend and its way. Where some are chosen the cells of all
+    others are grey."""
     design, colours = chip_map.design, colours_of(chip_map.design)
     parts = []
     for place, channel in enumerate(design.channels):
+        if chosen and channel not in chosen:
+            parts.append(svg.tag("g", svg.title(tells_of(design, channel)), cells_of(chip_map, channel, 0), class_="other"))
+            continue
         parts.append(svg.tag(
             "g",
             svg.title(tells_of(design, channel)),
             cells_of(chip_map, channel, place + 1),
             legend.line(place, channel),
             way_of(chip_map, channel),
-            class_=f"c k{colours[channel.connection]}", role="img", tabindex="0",
+            class_=f"c k{colours[channel.connection]}" + (" chosen" if chosen else ""), role="img", tabindex="0",
         ))
-    return svg.tag("g", "\n".join(parts), id="channels")
+    return svg.tag("g", "\n".join(parts), **({} if chosen else {"id": "channels"}))
+
+
+def draw_passages(design, channels, top, width):
+    """A list of the links of each channel's path with the slots in which its flits enter them, and its lowest edge."""
+    parts, y = [], top
+    for channel in channels:
+        parts.append(svg.label(f"{channel.name}, {channel.sender} to {channel.receiver}", 0, y, "bold", width))
+        y += ROW
+        for link, slots in design.passages(channel):
+            taken = svg.count(len(slots), "slot").split(" ")[1] + " " + ", ".join(map(str, sorted(slots)))
+            parts.append(svg.label(f"{link.source}{ARROW}{link.target}", 8, y, None, 200))
+            parts.append(svg.label(f"link {link.number}", 216, y, "less"))
+            parts.append(svg.label(taken, 280, y, None, width - 280))
+            y += ROW
+        y += ROW // 2
+    return parts, y
 
 
 def summary(design):
@@ -148,16 +178,18 @@ def summary(design):
     return parts
 
 
-def reading(chip_map):
+def reading(chip_map, chosen):
     """How to read the picture."""
     strip = chip_map.strip
     rows = f"in rows of {strip.row} " if strip.rows > 1 else ""
+    numbers = ", with its channel's number in the list" if strip.has_numbers else ""
+    grey = " Grey cells are those of channels that weren't chosen." if chosen else ""
     return (
         f"Beside each link stands its table: slots 0 to {strip.slots - 1} {rows}from the left, and downwards where "
-        "it is upright. A cell is a slot, in the colour of its connection; it is full for a forward channel and half "
-        "for a back one. The more of a link is in use, the wider its line. The rate is in words in "
-        f"{svg.count(strip.slots, 'cycle')}, the latency in cycles from a word's offer to its landing, the buffer "
-        "in words."
+        f"it is upright. A cell is a slot, in the colour of its connection{numbers}; it is full for a forward channel and "
+        f"lower for a back one.{grey} The more of a link is in use, the wider its line. The rate is in words in "
+        f"{svg.count(strip.slots, 'cycle')}, the buffer in words. The latency is in cycles: how much later than a steady "
+        "server of that rate a word lands at the most."
     )
 
 
@@ -165,22 +197,27 @@ def draw_head(lines, use, width):
     """The name of the picture and the sentences below it, and how high they are."""
     parts, y = [svg.label(f"Use case {use}", MARGIN, MARGIN + 14, "head", width, 18)], MARGIN + 34
     for sentence, kind in lines:
-        for text in svg.wrapped(sentence, width, 11):
+        for text in svg.wrapped(sentence, min(width, MOST_WIDTH), 11):
             parts.append(svg.label(text, MARGIN, y, kind))
             y += 15
         y += 4
     return parts, y
 
 
-def draw_plan(design):
-    """The whole picture, as a text."""
+def draw_plan(design, chosen=()):
+    """The whole picture, as a text: of all channels, or of the chosen ones with all others in grey."""
     chip_map = ChipMap(design)
     width = max(chip_map.width, LEAST_WIDTH)
     told = summary(design)
-    head, top = draw_head([(text, None) for text in told] + [(reading(chip_map), "less")], design.use, width)
-    legend = Legend(design.channels, width, chip_map.height + 2 * MARGIN)
-    inner = [legend.head(), *chip_parts.draw_chip(chip_map), draw_channels(chip_map, legend)]
+    sentences = [(text, None) for text in told] + [(reading(chip_map, chosen), "less")]
+    head, top = draw_head(sentences, design.use, width)
+    legend = Legend(list(chosen) or design.channels, width, chip_map.height + 2 * MARGIN)
+    inner = [legend.head(), *chip_parts.draw_chip(chip_map), draw_channels(chip_map, legend, chosen)]
+    bottom = legend.bottom
+    if chosen:
+        passages, bottom = draw_passages(design, chosen, bottom + 2 * ROW, width)
+        inner += passages
     body = svg.tag("g", "\n" + "\n".join(inner) + "\n", transform=f"translate({MARGIN} {top + 8})")
-    height = top + 8 + legend.bottom + MARGIN
+    height = top + 8 + bottom + MARGIN
     parts = [chip_parts.definitions(chip_map), *head, body]
     return svg.picture(width + 2 * MARGIN, height, f"Plan of use case {design.use}", " ".join(told), RULES, parts)

@@ -8,80 +8,132 @@ LANES = ((8, 44), (MOST_LANES, 24))  # the height of a lane, where there are so 
 BETWEEN = 6  # from lane to lane
 MOST_LINKS = 160
 BIN = 4  # the width of a bar
+MOST_WIDTH = 900  # of a line of sentences
 LEAST_WIDTH = 6  # for each word of a lane, where each has a line
 SWITCH_ROOM = 24  # for each switch, where its band goes through all lanes
 LOAD_COLUMN = 330
-LATENESS = 110  # from the end of a lane to the number of its late words, behind its longest wait of up to seven digits
+AMOUNTS = (("longest", 76), ("latency", 56), ("late", 44), ("overdue", 56), ("dropped", 56))  # at the right of a lane
 
 RULES = """
-.word{stroke-width:1.2}.late{stroke-width:2.4}.due{stroke-width:1.2}.session{stroke:none}
-.bar{stroke-width:2.4}.bar.late{stroke-width:4}
+.word{stroke-width:1.2}.late,.overdue{stroke-width:2.4}.overdue{stroke-dasharray:4 3}.due{stroke-width:1.2}
+.session{stroke:none}.bar{stroke-width:2.4}.bar.late,.bar.overdue{stroke-width:4;stroke-dasharray:none}
+.drop{stroke-width:1.6}
 .grid{stroke-width:.6}.lane:hover .name{font-weight:bold}
 """
 COLOURS = (
-    ".word,.bar{stroke:#3355cc}.late{stroke:#cc4400}.due{stroke:#1b1f24}.session{fill:#e9edf5}.switch{fill:#e6d9b8}"
-    ".grid{stroke:#c3c9d0}.lateness{fill:#b23c00}"
+    ".word,.bar{stroke:#3355cc}.late,.overdue,.drop{stroke:#cc4400}.due{stroke:#1b1f24}.session{fill:#e9edf5}"
+    ".switch{fill:#e6d9b8}.grid{stroke:#c3c9d0}.lateness{fill:#b23c00}"
 )
 DARK = (
-    ".word,.bar{stroke:#77aaff}.late{stroke:#ff7733}.due{stroke:#e8eaed}.session{fill:#222a38}.switch{fill:#4a3f22}"
-    ".grid{stroke:#3a4149}.lateness{fill:#ff8a50}"
+    ".word,.bar{stroke:#77aaff}.late,.overdue,.drop{stroke:#ff7733}.due{stroke:#e8eaed}.session{fill:#222a38}"
+    ".switch{fill:#4a3f22}.grid{stroke:#3a4149}.lateness{fill:#ff8a50}"
 )
 
 
-def lanes_of(run):
+def lanes_of(channels):
     """Of the channels with words those that have a lane of their own, in the order of the log, and the others: where
-    they are too many, those with late words come first, then with dropped ones, then with long waits."""
-    talking = [channel for channel in run.channels if channel.offered]
-    telling = sorted(talking, key=lambda channel: (-channel.late, -channel.dropped, -channel.longest, -channel.offered))
-    chosen = {channel.name for channel in telling[:MOST_LANES]}
+    they are too many, those with overdue or late words come first, then with dropped ones, then with long waits."""
+    talking = [channel for channel in channels if channel.offered]
+    rank = lambda channel: (channel.overdue + channel.late, channel.dropped, channel.longest, channel.offered)
+    chosen = {channel.name for channel in sorted(talking, key=rank, reverse=True)[:MOST_LANES]}
     return [c for c in talking if c.name in chosen], [c for c in talking if c.name not in chosen]
 
 
-def draw_words(words, scale, top, high):
+def cross(x, y):
+    return f"M{svg.number(x - 3)} {y - 3}l6 6m0-6l-6 6"
+
+
+def draw_drops(channel, scale, bottom):
+    """A cross at the end of each session at which words were dropped, with their number."""
+    parts = []
+    for session in channel.sessions:
+        dropped = session.unlanded + session.untaken
+        if dropped:
+            x = scale.at(session.end)
+            tells = (
+                f"{svg.count(dropped, 'word')} dropped in cycle {session.end}: {session.unlanded} not landed, "
+                f"{session.untaken} not taken"
+            )
+            mark = svg.tag("path", class_="drop", d=cross(x, bottom - 4))
+            parts.append(svg.tag("g", svg.title(tells), mark, svg.label(str(dropped), x + 6, bottom, "lateness")))
+    return "".join(parts)
+
+
+def draw_words(channel, scale, top, high):
     """Each word as a line from its offer, above, to its landing, below, with a short line at its due cycle; late words
-    by themselves."""
+    by themselves. The line of an overdue word is broken, and leads to its due cycle."""
     bottom = top + high
-    paths = {"word": [], "late": [], "due": []}
-    for word in words:
-        kind = "late" if word.landed > word.due else "word"
-        paths[kind].append(f"M{scale.at(word.offered)} {top}L{scale.at(word.landed)} {bottom}")
+    paths = {"word": [], "late": [], "overdue": [], "due": []}
+    landed = [("late" if word.landed > word.due else "word", word, word.landed) for word in channel.words]
+    overdue = [("overdue", word, word.due) for session in channel.sessions for word in session.overdue]
+    for kind, word, end in landed + overdue:
+        paths[kind].append(f"M{scale.at(word.offered)} {top}L{scale.at(end)} {bottom}")
         if word.due <= scale.cycles:
             paths["due"].append(f"M{scale.at(word.due)} {bottom - 4}v6")
     return "".join(svg.tag("path", class_=kind, d="".join(path)) for kind, path in paths.items() if path)
 
 
-def draw_sums(words, scale, top, high):
+def draw_sums(channel, scale, top, high):
     """Words that are too many for a line each, as bars: the longest time from offer to landing in each part of the run.
-    A part with a late word has a bar of the late ones' colour, which is wider."""
-    bottom, longest = top + high, max(word.landed - word.offered for word in words)
-    waits, late = {}, set()
-    for word in words:
+    A part with a late word, or one in which an overdue word was due, has a bar of the late ones' colour, which is wider;
+    of an overdue word it fills the lane."""
+    bottom, waits, late = top + high, {}, set()
+    for word in channel.words:
         part = scale.part_of(word.landed, BIN)
         waits[part] = max(waits.get(part, 0), word.landed - word.offered)
         if word.landed > word.due:
             late.add(part)
-    paths = {"bar": [], "bar late": []}
+    overdue = {scale.part_of(word.due, BIN) for session in channel.sessions for word in session.overdue}
+    waits.update(dict.fromkeys(overdue, channel.longest))
+    paths = {"bar": [], "bar late": [], "bar overdue": []}
     for part, wait in sorted(waits.items()):
         place = svg.number(scale.left + (part + 0.5) * BIN)
-        kind = "bar late" if part in late else "bar"
-        paths[kind].append(f"M{place} {bottom}v-{max(1, round(high * wait / longest))}")
+        kind = "bar overdue" if part in overdue else "bar late" if part in late else "bar"
+        tall = high if part in overdue else max(1, round(high * wait / channel.longest))
+        paths[kind].append(f"M{place} {bottom}v-{tall}")
     return "".join(svg.tag("path", class_=kind, d="".join(path)) for kind, path in paths.items() if path)
+
+
+def guarantee(channel):
+    """The latencies that the plan guarantees in the sessions of a channel, as a text."""
+    return ", ".join(map(str, channel.latencies))
 
 
 def tells_of(channel):
     """What a run shows of a channel, in words."""
+    near = ""
+    if channel.words:
+        before = f"{channel.spare} before" if channel.spare >= 0 else f"{-channel.spare} after"
+        near = (
+            f"; at most {svg.count(channel.longest, 'cycle')} from offer to landing; the word that came nearest to its "
+            f"due cycle landed {before} it"
+        )
     return (
         f"{channel.name}: {svg.count(channel.offered, 'word')} offered, {len(channel.words)} landed, "
-        f"{channel.late} late, {channel.dropped} dropped, {channel.outside} outside of all sessions; "
-        f"{svg.count(len(channel.sessions), 'session')}; "
-        f"at most {svg.count(channel.longest, 'cycle')} from offer to landing"
+        f"{channel.late} of them late, {channel.overdue} overdue, {channel.dropped} dropped, {channel.outside} outside "
+        f"of all sessions; {svg.count(len(channel.sessions), 'session')}; "
+        f"guaranteed latency {guarantee(channel)}{near}"
     )
 
 
 def is_summed(channel, scale):
     """Whether a channel has too many words for a line each, in the cycles in which it is in use."""
     in_use = sum(session.end - session.go for session in channel.sessions)
-    return len(channel.words) * LEAST_WIDTH > in_use * scale.unit
+    lines = len(channel.words) + channel.overdue
+    return lines * LEAST_WIDTH > in_use * scale.unit
+
+
+def draw_amounts(channel, scale, y):
+    """The numbers at the right of a lane: those of late, overdue and dropped words where there are such words."""
+    longest = str(channel.longest) if channel.words else "-"
+    amounts = [longest, guarantee(channel), channel.late, channel.overdue, channel.dropped]
+    parts, x = [], scale.right
+    for place, (amount, (_, room)) in enumerate(zip(amounts, AMOUNTS)):
+        x += room
+        if amount:
+            kind = "less end" if place < 2 else "lateness end"
+            parts.append(svg.label(str(amount), x, y, kind, room - 4))
+    return "".join(parts)
 
 
 def draw_lane(channel, scale, top, high, name_width):
@@ -91,11 +143,9 @@ def draw_lane(channel, scale, top, high, name_width):
     for left, width in busy_parts(spans, scale):
         parts.append(svg.tag("rect", class_="session", x=left, y=top, width=width, height=high))
     draw = draw_sums if is_summed(channel, scale) else draw_words
-    parts.append(draw(channel.words, scale, top, high))
-    parts.append(svg.label(f"at most {channel.longest}", scale.right + 8, middle, "less"))
-    if channel.late:
-        parts.append(svg.label(f"{channel.late} late", scale.right + LATENESS, middle, "lateness"))
-    return svg.tag("g", *parts, class_="lane", role="img")
+    parts += [draw(channel, scale, top, high), draw_drops(channel, scale, top + high)]
+    parts.append(draw_amounts(channel, scale, middle))
+    return svg.tag("g", *parts, class_="lane", role="img", tabindex="0")
 
 
 def draw_switches(run, scale, top, bottom):
@@ -151,49 +201,71 @@ def draw_load(run, top, width):
     return parts, y + MARGIN
 
 
-def summary(run):
-    total = lambda count: sum(map(count, run.channels))
+def summary(run, channels):
+    """What the picture shows, in a sentence or two."""
+    total = lambda count: sum(map(count, channels))
     offered, late, outside = total(lambda c: c.offered), total(lambda c: c.late), total(lambda c: c.outside)
-    landed, dropped = total(lambda c: len(c.words)), total(lambda c: c.dropped)
+    landed, dropped, overdue = total(lambda c: len(c.words)), total(lambda c: c.dropped), total(lambda c: c.overdue)
     return (
         f"{svg.count(run.cycles, 'cycle')} with {svg.count(len(run.switches) - 1, 'change')} of the use case. "
-        f"{svg.count(offered, 'word')} offered in sessions, {landed} landed, {late} late, {dropped} dropped; "
-        f"{outside} offered outside of all sessions."
+        f"{svg.count(offered, 'word')} offered in sessions, {landed} landed, {late} of them late; {overdue} overdue, not "
+        f"landed when they were due; {dropped} dropped; {outside} offered outside of all sessions."
     )
 
 
 READING = (
     "A lane is a channel, shaded where it is in use. A line leads from a word's offer, above, to its landing, below; "
-    "the short line is its due cycle. Late words are thicker and in a colour of their own. Bands are switches. Where "
-    "words are too many for lines, a bar is the longest time from offer to landing in its part of the run; the lane's "
-    "longest, in cycles, stands at its right."
+    "the short line is its due cycle. Late words are thicker and in a colour of their own; the line of an overdue word is "
+    "broken, and ends where it was due. A cross, with a number, is where words were dropped. Bands are switches. Where "
+    "words are too many for lines, a bar is the longest time from offer to landing in its part of the run, and a bar that "
+    "fills its lane is where an overdue word was due. Longest: of all times from offer to landing, in cycles. Latency: how "
+    "many cycles later than a steady server of the channel's rate its words land at the most; a word that has to wait for "
+    "earlier ones is due later."
 )
 
 
-def draw_run(run):
-    """The whole picture, as a text."""
-    lanes, others = lanes_of(run)
+def draw_head(sentences, width):
+    """The name of the picture and the sentences below it, and how high they are."""
+    parts, y = [], MARGIN + 34
+    for sentence, kind in sentences:
+        for text in svg.wrapped(sentence, min(width - 2 * MARGIN, MOST_WIDTH), 11):
+            parts.append(svg.label(text, MARGIN, y, kind))
+            y += 15
+        y += 4
+    return parts, y
+
+
+def draw_rest(others, y):
+    """The channels without a lane, in a line."""
+    words, late = sum(channel.offered for channel in others), sum(channel.late for channel in others)
+    overdue = sum(channel.overdue for channel in others)
+    rest = f"{svg.count(len(others), 'further channel')} with {svg.count(words, 'word')}, {late} late, {overdue} overdue"
+    return svg.label(rest, MARGIN, y, "less")
+
+
+def draw_run(run, chosen=()):
+    """The whole picture, as a text: of all channels, or of the chosen ones."""
+    channels = chosen or run.channels
+    lanes, others = lanes_of(channels)
     names = max([len(channel.name) for channel in lanes] + [10])
     name_width = min(190, svg.text_width("n" * names, 11) + 8)
     scale = Timescale(run.cycles, MARGIN + name_width)
-    width = scale.right + LATENESS + 70
-    parts, y = [svg.label(f"Run of {svg.count(run.cycles, 'cycle')}", MARGIN, MARGIN + 14, "head")], MARGIN + 34
-    for sentence, kind in ((summary(run), None), (READING, "less")):
-        for text in svg.wrapped(sentence, width - 2 * MARGIN, 11):
-            parts.append(svg.label(text, MARGIN, y, kind))
-            y += 15
-    top = y + 4
+    width = scale.right + sum(room for _, room in AMOUNTS) + MARGIN
+    name = f"Run of {svg.count(run.cycles, 'cycle')}"
+    head, top = draw_head(((summary(run, channels), None), (READING, "less")), width)
+    parts = [svg.label(name, MARGIN, MARGIN + 14, "head"), *head]
     step = next(step for many, step in LANES if len(lanes) <= many)
     bottom = top + 32 + step * len(lanes)
     parts += draw_switches(run, scale, top, bottom) + draw_axis(scale, top, bottom)
+    x = scale.right
+    for text, room in AMOUNTS:
+        x += room
+        parts.append(svg.label(text, x, top + 26, "less end"))
     for place, channel in enumerate(lanes):
         parts.append(draw_lane(channel, scale, top + 34 + place * step, step - BETWEEN, name_width))
     if others:
-        words = sum(channel.offered for channel in others)
-        late = sum(channel.late for channel in others)
-        rest = f"{svg.count(len(others), 'further channel')} with {svg.count(words, 'word')}, {late} of them late"
         bottom += step
-        parts.append(svg.label(rest, MARGIN, bottom - 6, "less"))
+        parts.append(draw_rest(others, bottom - 6))
     load, height = draw_load(run, bottom + MARGIN + 8, width - 2 * MARGIN)
     rules = RULES + COLOURS + f"\n@media (prefers-color-scheme:dark){{{DARK}}}"
-    return svg.picture(int(width), height, f"Run of {run.cycles} cycles", summary(run), rules, parts + load)
+    return svg.picture(int(width), height, name, summary(run, channels), rules, parts + load)

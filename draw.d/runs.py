@@ -1,4 +1,5 @@
-"""A run, as its picture needs it: the log that `aeth simulate` prints, and when the switches of its use cases fall.
+"""A run, as its picture needs it: the log that `aeth simulate` prints, and what the log doesn't tell: when the switches
+of its use cases fall, and which words haven't landed, with the cycles by which they were due.
 
 The files are read only after `aeth` has accepted them, so nothing is judged here.
 """
@@ -7,10 +8,14 @@ from collections import defaultdict, namedtuple
 from dataclasses import dataclass, field
 from functools import cached_property
 import csv
+import io
 
 from design import group_of, numbers, read_links, read_toml, rows_of
 
-Word = namedtuple("Word", "offered landed due")  # cycles
+# Cycles; `landed` is None where the word hasn't landed.
+Word = namedtuple("Word", "offered landed due")
+# What `aeth tables` tells of a channel: words in each round of the table, and cycles.
+Shape = namedtuple("Shape", "rate latency")
 
 
 @dataclass
@@ -23,7 +28,24 @@ class Session:
     landed: int
     taken: int
     end: int
+    shape: Shape
     words: list = field(default_factory=list)  # those that landed
+    waiting: list = field(default_factory=list)  # those that didn't
+
+    @property
+    def overdue(self):
+        """Those whose due cycle has passed without a landing."""
+        return [word for word in self.waiting if word.due < self.end]
+
+    @property
+    def unlanded(self):
+        """How many were dropped at the end of the session, before they landed."""
+        return len(self.waiting) if self.ended else 0
+
+    @property
+    def untaken(self):
+        """How many were dropped at the end of the session, landed but not taken."""
+        return self.landed - self.taken if self.ended else 0
 
 
 @dataclass
@@ -52,6 +74,10 @@ class ChannelLog:
     def late(self):
         return sum(word.landed > word.due for word in self.words)
 
+    @cached_property
+    def overdue(self):
+        return sum(len(session.overdue) for session in self.sessions)
+
     @property
     def offered(self):
         return sum(session.offered for session in self.sessions)
@@ -59,6 +85,16 @@ class ChannelLog:
     @property
     def dropped(self):
         return sum(session.offered - session.taken for session in self.sessions if session.ended)
+
+    @property
+    def latencies(self):
+        """The guaranteed latencies of its sessions, each once: one for each group of use cases."""
+        return sorted({session.shape.latency for session in self.sessions})
+
+    @cached_property
+    def spare(self):
+        """How many cycles before its due cycle the word landed that came nearest to it; below 0 where one was late."""
+        return min((word.due - word.landed for word in self.words), default=None)
 
 
 @dataclass(frozen=True)
@@ -111,14 +147,42 @@ class Switching:
         return Switch(cycle, new, cycle + drain + lag, cycle + drain + lag + writes, closing)
 
 
-def read_switches(path, cycles, switching):
+def rows_before(data, place, cycles):
+    """The rows of a trace, without its header, whose cycle, at a place, lies in the run."""
+    rows = filter(None, csv.reader(io.StringIO(data.decode("utf-8-sig"), newline="")))
+    next(rows)
+    return (row for row in rows if int(row[place]) < cycles)
+
+
+def uses_of(data, cycles):
+    """The use cases that a run enters, each once."""
+    return list(dict.fromkeys(row[1] for row in rows_before(data, 0, cycles)))
+
+
+def read_switches(data, cycles, switching):
     """The switches of a run. The first one loads its use case before cycle 0, and takes no time."""
-    with open(path, encoding="utf-8-sig", newline="") as file:
-        rows = [row for row in csv.DictReader(file) if int(row["cycle"]) < cycles]
-    switches = [Switch(0, rows[0]["use"], 0, 0, frozenset())]
-    for row in rows[1:]:
-        switches.append(switching.switch(int(row["cycle"]), switches[-1].use, row["use"], int(row["drain"])))
+    rows = rows_before(data, 0, cycles)
+    switches = [Switch(0, next(rows)[1], 0, 0, frozenset())]
+    for cycle, use, drain in rows:
+        switches.append(switching.switch(int(cycle), switches[-1].use, use, int(drain)))
     return switches
+
+
+def read_offers(data, cycles):
+    """For each channel the cycles in which its words are offered, in their order."""
+    offers = defaultdict(list)
+    for connection, side, cycle, _ in rows_before(data, 2, cycles):
+        offers[connection, side].append(int(cycle))
+    return offers
+
+
+def shapes_of(tables):
+    """For each use case the shapes of its channels, from the texts that `aeth tables` prints."""
+    shapes = {}
+    for use, text in tables.items():
+        rows = rows_of(text, "queue")
+        shapes[use] = {(row[5], row[6]): Shape(int(row[7]), int(row[8])) for row in rows}
+    return shapes
 
 
 def finishes_of(switches):
@@ -130,36 +194,67 @@ def finishes_of(switches):
     return finishes
 
 
-def session_of(fields, finishes, cycles):
-    """The session of a line `chan`, without its words. An ended one is finished by the first switch that closes it."""
-    go, ended, counts = int(fields[2]), fields[3] == "ended", map(int, fields[4:])
-    closings = finishes[fields[0]]
-    end = closings[bisect_left(closings, (go, 0))][1] if ended else cycles
-    return Session(go, ended, *counts, end)
+def due_cycles(offers, shape, slots):
+    """The cycles by which the words of a session are due: when a steady server of the channel's rate would be done with
+    them, and its latency later."""
+    times, last = [], 0
+    for offer in offers:
+        last = max(shape.rate * (offer + shape.latency), last) + slots
+        times.append(-(-last // shape.rate))
+    return times
 
 
-def read_log(log, switches, cycles):
-    """The channels in the order of the log, and the flits of each link."""
-    channels, flits, session, finishes = {}, [], None, finishes_of(switches)
-    for line in log.splitlines():
-        word, *fields = line.split(" ")
-        if word == "land":
-            session.words.append(Word(int(fields[1]), int(fields[2]), int(fields[3])))
-        elif word == "chan":
-            session = session_of(fields, finishes, cycles)
-            channels.setdefault((fields[0], fields[1]), ChannelLog(*fields[:2])).sessions.append(session)
-        elif word == "outside":
-            channels.setdefault((fields[0], fields[1]), ChannelLog(*fields[:2])).outside = int(fields[2])
-        elif word == "link":
-            flits.append(int(fields[1]))
-    return list(channels.values()), flits
+class Reading:
+    """The log of a run, as it is read line by line, with all that it is told beside."""
+
+    def __init__(self, slots, cycles, switches, shapes, offers):
+        self.slots, self.cycles, self.switches, self.shapes, self.offers = slots, cycles, switches, shapes, offers
+        self.finishes = finishes_of(switches)
+        self.opened = [switch.over for switch in switches]
+        self.channels, self.flits = {}, []
+
+    def channel(self, fields):
+        return self.channels.setdefault((fields[0], fields[1]), ChannelLog(*fields[:2]))
+
+    def session(self, fields):
+        """The session of a line `chan`, without its words. An ended one is finished by the first switch that closes it."""
+        go, ended = int(fields[2]), fields[3] == "ended"
+        closings = self.finishes[fields[0]]
+        end = closings[bisect_left(closings, (go, 0))][1] if ended else self.cycles
+        use = self.switches[bisect_left(self.opened, go)].use
+        return Session(go, ended, *map(int, fields[4:]), end, self.shapes[use][fields[0], fields[1]])
+
+    def add_waiting(self, channel, session):
+        """Adds to a session the words that were offered in it and haven't landed."""
+        all_offers = self.offers[channel.connection, channel.side]
+        first = bisect_left(all_offers, session.go)
+        offers = all_offers[first : first + session.offered]
+        dues = due_cycles(offers, session.shape, self.slots)
+        session.waiting = [Word(offer, None, due) for offer, due in zip(offers, dues)][session.landed :]
+
+    def read(self, log):
+        session = None
+        for line in log.splitlines():
+            word, *fields = line.split(" ")
+            if word == "land":
+                session.words.append(Word(int(fields[1]), int(fields[2]), int(fields[3])))
+            elif word == "chan":
+                session = self.session(fields)
+                self.channel(fields).sessions.append(session)
+            elif word == "outside":
+                self.channel(fields).outside = int(fields[2])
+            elif word == "link":
+                self.flits.append(int(fields[1]))
+        for channel in self.channels.values():
+            for session in channel.sessions:
+                self.add_waiting(channel, session)
 
 
-def read_run(chip_path, app_path, plan_path, switches_path, cycles, log):
-    """The run of some files and of the text that `aeth simulate` prints of them."""
-    chip, app = read_toml(chip_path), read_toml(app_path)
-    with open(plan_path, encoding="ascii") as file:
-        switching = Switching(chip, app, file.read())
-    switches = read_switches(switches_path, cycles, switching)
-    channels, flits = read_log(log, switches, cycles)
-    return Run(cycles, read_links(chip), flits, channels, switches)
+def read_run(chip_data, app_data, plan_data, words_data, switches_data, cycles, log, tables):
+    """The run of the bytes of some files, of the text that `aeth simulate` prints of them, and of those that `aeth tables`
+    prints for the use cases that are entered."""
+    chip, app = read_toml(chip_data), read_toml(app_data)
+    switches = read_switches(switches_data, cycles, Switching(chip, app, plan_data.decode("ascii")))
+    reading = Reading(chip["slots"], cycles, switches, shapes_of(tables), read_offers(words_data, cycles))
+    reading.read(log)
+    return Run(cycles, read_links(chip), reading.flits, list(reading.channels.values()), switches)

@@ -80,16 +80,18 @@ path{fill:none}
 .head{font-size:18px;font-weight:bold}.bold{font-weight:bold}.mid{text-anchor:middle}.end{text-anchor:end}
 """
 GROUND = {
-    "light": ("#fff", "#1b1f24", "#59636e", "#e3e6ea", "#f3f5f7", "#7d8794"),
-    "dark": ("#14171a", "#e8eaed", "#a3abb5", "#2b3036", "#1e2226", "#8b95a1"),
+    "light": ("#fff", "#1b1f24", "#59636e", "#e3e6ea", "#f3f5f7", "#7d8794", "#b4bbc4"),
+    "dark": ("#14171a", "#e8eaed", "#a3abb5", "#2b3036", "#1e2226", "#8b95a1", "#525a64"),
 }
 
 
 def colour_rules(ground, colours):
-    """The colours of one ground: behind all, of texts, of lesser texts, of free slots, of boxes, of lines."""
-    behind, ink, lesser, free, box, line = GROUND[ground]
-    rules = f".ground{{fill:{behind}}}text{{fill:{ink}}}.less{{fill:{lesser}}}.free{{stroke:{free}}}"
-    rules += f".box{{fill:{box};stroke:{line}}}.line,.core{{stroke:{line}}}.tip{{fill:{line}}}.c .way{{stroke:{ink}}}"
+    """The colours of one ground: behind all, of texts, of lesser texts, of free slots, of boxes, of lines, of slots that
+    are in use by others."""
+    behind, ink, lesser, free, box, line, grey = GROUND[ground]
+    rules = f"svg:root{{background:{behind}}}.ground{{fill:{behind}}}text{{fill:{ink}}}.less{{fill:{lesser}}}"
+    rules += f".free{{stroke:{free}}}.other path{{stroke:{grey}}}.box{{fill:{box};stroke:{line}}}"
+    rules += f".line,.core{{stroke:{line}}}.tip{{fill:{line}}}.c .way{{stroke:{ink}}}"
     for place, (colour, on_it) in enumerate(colours):
         rules += f".k{place} path{{stroke:{colour}}}.k{place} .on{{fill:{on_it}}}"
     return rules
@@ -101,12 +103,17 @@ def style(more):
     return tag("style", escape(PLAIN + colour_rules("light", LIGHT) + more + "\n" + dark + "\n"))
 
 
+READABLE = 0.55  # of its full size: a picture is never narrower than that
+
+
 def picture(width, height, name, tells, rules, parts):
-    """A whole picture with its name and what it tells, one part a line."""
+    """A whole picture with its name and what it tells, one part a line. It is as wide as there is room, up to its full
+    size, and down to the least at which it can be read."""
+    least = f"max-width:100%;min-width:{number(round(width * READABLE))}px;height:auto"
     head = [tag("title", escape(name), id="name"), tag("desc", escape(tells), id="tells"), style(rules)]
     head.append(tag("rect", class_="ground", width="100%", height="100%"))
     return tag(
         "svg", "\n" + "\n".join(head + parts) + "\n",
         xmlns="http://www.w3.org/2000/svg", width=width, height=height, viewBox=f"0 0 {number(width)} {number(height)}",
-        role="graphics-document", aria_labelledby="name tells",
+        style=least, role="graphics-document", aria_labelledby="name tells",
     ) + "\n"
