@@ -46,13 +46,14 @@ one_item Related xs back clear a b has_a has_b related =
     ]
     in same_Some a b (sym at_i ∙ ap (slice_get xs) place ∙ at_j)
 
-one_seat-back : (a b : SeatLine) → IsOneSeat a b → IsOneSeat b a
+-- One seat is one either way.
+pub one_seat-back : (a b : SeatLine) → IsOneSeat a b → IsOneSeat b a
 one_seat-back a b one = record { ni = sym one.ni; seat = sym one.seat }
 
 -- ---- Queue numbers
 
 -- A queue number tells its seat and its position.
-queue_parts : (seat seat' position position' : ℕ) → position < max_core_connections
+pub queue_parts : (seat seat' position position' : ℕ) → position < max_core_connections
     → position' < max_core_connections → queue_of seat position ≡ queue_of seat' position'
     → (seat ≡ seat') × (position ≡ position')
 queue_parts seat seat' position position' first second same = (omega arith, omega arith)

@@ -13,7 +13,7 @@ mod SlotLaws
 pub mod PromiseLaws
 pub mod DesignLaws
 mod SpanLaws
-mod GridLaws
+pub mod GridLaws
 mod TextLaws
 mod GrantedLists
 mod ChangeLaws

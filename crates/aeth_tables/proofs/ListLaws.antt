@@ -2,7 +2,9 @@
 use Rattle.std.proofs.Common.{◌≡◌, ◌∙◌, ℕ, List, All, Contains, Some, slice_get, ap, subst}
 use Rattle.std.specs.List.{AllByRecursion}
 use Rattle.std.proofs.lemmas.List.Elements.{All-from_recursion}
-use Rattle.std.proofs.lemmas.Option.{get_or_from_slice_get, slice_get-get_or, slice_get_within}
+use Rattle.std.proofs.lemmas.Option.{slice_get-get_or}
+pub use Rattle.aeth_base.proofs.Members.{Contains-slice_get as has_place}
+pub use Rattle.aeth_base.proofs.Members.{slice_get-Contains as place_of}
 
 -- What holds of the element at each place holds of all.
 pub all_from_places : {X : Type 0} (P : X → Type 0) (xs : List X)
@@ -18,15 +20,3 @@ all_has P xs x all (place, within, at) = subst P at (all place x within)
 pub all_has_by : {X : Type 0} (P : X → Type 0) (xs : List X) (x : X) → AllByRecursion P xs
     → Contains xs x → P x
 all_has_by P xs x all has = all_has P xs x (All-from_recursion P xs all) has
-
--- What stands at a place is contained.
-pub has_place : {X : Type 0} (xs : List X) (place : ℕ) (x : X) → slice_get xs place ≡ Some x
-    → Contains xs x
-has_place xs place x at =
-    (place, slice_get_within xs place x at, get_or_from_slice_get xs place x x at)
-
--- What is contained stands at a place.
-pub place_of : {X : Type 0} (xs : List X) (x : X) → Contains xs x
-    → (place : ℕ) × (slice_get xs place ≡ Some x)
-place_of xs x (place, within, at) =
-    (place, slice_get-get_or xs place x within ∙ ap (λ y. Some y) at)

@@ -9,7 +9,7 @@ use Rattle.std.proofs.lemmas.List.{length-map}
 use Rattle.std.proofs.lemmas.Option.{get_or_from_slice_get, none-some, same_Some, slice_get-map}
 use Rattle.std.proofs.lemmas.Option.{slice_get_within}
 use Rattle.std.proofs.Math.Pow.{pow_mono}
-use Rattle.aeth_base.proofs.Lists.{drop-slice_get}
+use Rattle.aeth_base.proofs.Lists.{drop-slice_get, map-slice_get}
 use Rattle.aeth_base.specs.Limits.{max_path_links}
 use Rattle.aeth_base.specs.declared.ids.LinkId.{LinkId}
 use Rattle.aeth_base.specs.declared.ids.RouterId.{RouterId}
@@ -23,13 +23,6 @@ use Rattle.aeth_chip.specs.declared.node.Node.TheVariants.{Router}
 use Rattle.aeth_chip.proofs.NodeLemmas.{numbers_from-once, port_at}
 use Rattle.aeth_tables.specs.Routes.{IsSent, port_from, port_of, ports_along}
 use Rattle.aeth_tables.proofs.ListLaws.{all_from_places}
-
--- What stands at a place of a list of images is the image of what stands there.
-slice_get_map : {X Y : Type 0} (f : X → Y) (xs : List X) (place : ℕ) (y : Y)
-    → slice_get (map f xs) place ≡ Some y → (x : X) × (slice_get xs place ≡ Some x) × (f x ≡ y)
-slice_get_map f [] place y at = absurd (none-some y at)
-slice_get_map f (x ∷ xs) zero y at = (x, refl, same_Some (f x) y at)
-slice_get_map f (x ∷ xs) (suc place) y at = slice_get_map f xs place y at
 
 -- What holds of the port of a link on which a router sends.
 pub record IsAtPort (chip : ChipData) (link : LinkId) (router : RouterId) : Type 0 where
@@ -90,7 +83,7 @@ module _ (chip : ChipData) (is_chip : IsChip chip) (path : List LinkId) (sent : 
   -- Their ports fit the bits of one.
   pub ports_fit : All IsPort (ports_along chip.links path)
   ports_fit = all_from_places IsPort (ports_along chip.links path) (λ place port at.
-      let (link, there, is) = slice_get_map (port_of chip.links) (drop 1 path) place port at in
+      let (link, there, is) = map-slice_get (port_of chip.links) (drop 1 path) place port at in
       let (router, sends) = sent place link there in
       let few = (at_port chip link router is_chip sends).few in
       omega (arith, few, is))
@@ -132,7 +125,7 @@ module _ (chip : ChipData) (is_chip : IsChip chip) (path : List LinkId)
   fit_behind : (place : ℕ) → 1 ≤ place → All IsPort (map (port_of chip.links) (drop place path))
   fit_behind place some = all_from_places IsPort (map (port_of chip.links) (drop place path))
       (λ k port at.
-      let (link, there, is) = slice_get_map (port_of chip.links) (drop place path) k port at in
+      let (link, there, is) = map-slice_get (port_of chip.links) (drop place path) k port at in
       let within = slice_get_within (drop place path) k link there in
       let from = place + k - 1 in
       let count : from < length (drop 1 path) =

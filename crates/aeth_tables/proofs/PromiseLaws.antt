@@ -277,5 +277,6 @@ are_printable chip app plan design u within =
       use_case = within;
       count = sym kept.beside;
       rows = kept.known;
+      numbered = kept.numbered;
       shapes = kept.shapes;
     }

@@ -2,13 +2,14 @@
 --
 --   line_of, unit_in, is_in, grant_of, AreFound      the seats of cores, and the grants of units
 --   Granted, granted_of, granted_in      a connection with seats and grants, and those of a use case
---   other_side, sending_seat, receiving_seat, grant_on      the two sides of such a connection
---   channels_with, channels_of      the channels of a use case
+--   sending_seat, receiving_seat, grant_on      the two sides of such a connection
+--   channels_of      the channels of a use case
 -- Connections with a channel each way: after Æthereal (2005). Seats: this project's own.
-use Rattle.std.specs.Prelude.{◌≡◌, ◌<◌, ℕ, ◌==◌, ◌&&◌, Bool, List, [], ◌∷◌, Option, Some, None}
+use Rattle.std.specs.Prelude.{◌≡◌, ◌<◌, ℕ, ◌==◌, ◌&&◌, Bool, List, Option, Some, None}
 use Rattle.std.specs.Prelude.{filter, find, flat_map, length, slice_get}
 use Rattle.std.specs.Option.{option_and_then}
 use Rattle.std.specs.List.{filter_map, range_with_len}
+pub use Rattle.aeth_base.specs.Sides.{channels_with, other_side}
 use Rattle.aeth_base.specs.declared.ids.Channel.{Channel}
 use Rattle.aeth_base.specs.declared.ids.CoreId.{CoreId}
 use Rattle.aeth_base.specs.declared.ids.Side.{Side}
@@ -77,11 +78,6 @@ granted_in app groups plan u = filter_map (granted_of app plan (group_at groups 
 
 -- ---- The two sides
 
--- The side of the opposite channel.
-abbrev pub other_side : Side → Side
-other_side Fwd = Back
-other_side Back = Fwd
-
 -- The seat of the core that sends on a side.
 abbrev pub sending_seat : GrantedConnection → Side → SeatLine
 sending_seat granted Fwd = granted.from
@@ -96,12 +92,6 @@ receiving_seat granted Back = granted.from
 abbrev pub grant_on : GrantedConnection → Side → Grant
 grant_on granted Fwd = granted.fwd
 grant_on granted Back = granted.back
-
--- The channels of a connection, in their order.
-abbrev pub channels_with : ℕ → List Channel
-channels_with conn =
-    record { conn = record { 0 = conn }; side = Fwd }
-    ∷ record { conn = record { 0 = conn }; side = Back } ∷ []
 
 -- The channels of a use case: both of each connection that it has, in the order of connections.
 abbrev pub channels_of : GroupsData → ℕ → List Channel

@@ -1,7 +1,6 @@
 -- What the tables of a use case promise: that its channels can be told apart at each interface, that
 -- routes lead along paths, and that each channel has the slots and the buffer that it needs.
 --
---   HasNumbers      a row's queues are those of interfaces
 --   HaveOwnQueues, HaveOwnSlots      no two rows of one interface share a queue or a slot
 --   HasDigit, HasDigits, LeadsTo      a row's route
 --   HasOpposite      the row of the opposite channel mirrors a row's ends
@@ -30,16 +29,11 @@ use Rattle.aeth_app.specs.declared.connection.Connection.{Connection}
 use Rattle.aeth_group.specs.Members.{groups_of}
 use Rattle.aeth_group.specs.declared.grant.Grant.{Grant}
 use Rattle.aeth_plan.specs.Plan.{PlanData}
-use Rattle.aeth_ni.specs.Limits.{queues_of_interface}
 use Rattle.aeth_ni.specs.declared.row.ChannelRow.{ChannelRow}
 use Rattle.aeth_tables.specs.Granted.{channels_of, other_side}
 use Rattle.aeth_tables.specs.TableText.{IsRowOf}
+pub use Rattle.aeth_tables.specs.TableText.{HasNumbers}
 use Rattle.aeth_tables.specs.Tables.{TablesData}
-
--- A row's queues are among those of an interface.
-pub record HasNumbers (row : ChannelRow) : Type 0 where
-  pub queue : row.queue < queues_of_interface
-  pub remote : row.remote < queues_of_interface
 
 -- No two rows have one interface with the same queue.
 abbrev pub HaveOwnQueues : List ChannelRow → Type 0

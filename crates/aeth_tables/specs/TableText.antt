@@ -5,7 +5,8 @@
 --   lines_of_slot, entries_at, entry_lines      the lines of entries
 --   lines_of_queue, queues_at, queue_lines      the lines of queues
 --   table_text      the text
---   HasTableOf, NamesConnection, IsRowOf, IsPrintable      what tables name that can be printed
+--   HasTableOf, NamesConnection, IsRowOf, HasNumbers      what a row names
+--   IsPrintable      tables that can be printed
 -- This project's own.
 use Rattle.std.specs.Prelude.{◌≡◌, ◌<◌, ℕ, ◌==◌, List, [], ◌∷◌, ◌++◌, All, codes, filter, flat_map}
 use Rattle.std.specs.Prelude.{length, map}
@@ -94,10 +95,16 @@ pub record IsRowOf (chip : ChipData) (app : AppData) (row : ChannelRow) : Type 0
   pub conn : row.channel.conn.0 < length app.connections
   pub size : row.slots.size ≡ chip.slots
 
+-- A row's queues are among those of an interface: so its queue has a line, as its slots have.
+pub record HasNumbers (row : ChannelRow) : Type 0 where
+  pub queue : row.queue < queues_of_interface
+  pub remote : row.remote < queues_of_interface
+
 -- Tables that can be printed: there is a shape in its range for each row, and the rows and the use
 -- case name what there is.
 pub record IsPrintable (chip : ChipData) (app : AppData) (tables : TablesData) : Type 0 where
   pub use_case : tables.uses.0 < length app.uses
   pub count : length tables.rows ≡ length tables.shapes
   pub rows : All (IsRowOf chip app) tables.rows
+  pub numbered : All HasNumbers tables.rows
   pub shapes : All IsShapeInRange tables.shapes

@@ -8,7 +8,8 @@ use aeth_ni::ChannelRow;
 use aeth_server::ChannelShape;
 use std::alloc::Global;
 
-/// A row, with what its channel is promised: the rate in words per table, and the latency in cycles.
+/// A row, with what its channel is promised: the rate in words per table, and the latency, which is
+/// by how many cycles at most it is later than a steady server of this rate.
 #[derive(Clone, Copy)]
 pub(crate) struct PromisedRow {
     pub row: ChannelRow,

@@ -6,8 +6,8 @@ use Rattle.aeth_tables.proofs.TextLaws.{all_promised}
 use Rattle.aeth_tables.proofs.printing.table_text.Goals as goal
 
 -- The rows name what there is.
-pub push_entries-requires : goal.push_entries-requires
-push_entries-requires c =
+pub text_of_rows-requires-clause-sizes : goal.text_of_rows-requires-clause-sizes
+text_of_rows-requires-clause-sizes c =
     let told = c.deref-3.ensures.value ∙ c.in_ok-rows.ensures in
     let rows = c.deref.ensures.value ∙ ap (λ (t : TablesData). t.rows) c.tables.view_is in
     λ k d within.
@@ -17,9 +17,9 @@ push_entries-requires c =
     (subst (λ xs. All (IsRowOf c.args.chip.now c.args.app.now) xs) (sym rows) c.requires.rows))
     k d within).size
 
-pub push_queues-requires : goal.push_queues-requires
-push_queues-requires c =
-    let told = c.deref-4.ensures.value ∙ c.in_ok-rows.ensures in
+pub text_of_rows-requires-clause-names : goal.text_of_rows-requires-clause-names
+text_of_rows-requires-clause-names c =
+    let told = c.deref-3.ensures.value ∙ c.in_ok-rows.ensures in
     let rows = c.deref.ensures.value ∙ ap (λ (t : TablesData). t.rows) c.tables.view_is in
     λ k d within.
     (subst (λ xs. All (λ (one : PromisedRow). IsRowOf c.args.chip.now c.args.app.now one.row) xs)
