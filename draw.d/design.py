@@ -76,6 +76,11 @@ def read_toml(data):
     return toml_lines.read(data)[0]
 
 
+def use_names(data):
+    """The names of an application's use cases, in file order."""
+    return [case["name"] for case in read_toml(data)["use"]]
+
+
 def read_links(chip):
     return [Link(number, link["from"], link["to"], link.get("delay", 1)) for number, link in enumerate(chip["link"])]
 

@@ -50,3 +50,12 @@ def aeth(*words):
     if run.returncode:
         raise Stop(run.returncode if run.returncode > 0 else 128 - run.returncode)
     return run.stdout.decode("ascii")
+
+
+def refusals(chip, app):
+    """The lines of the units that `allocate` refuses: an empty text where it refuses none."""
+    words = ["allocate", chip.path, app.path]
+    copies = [file.copy for file in (chip, app) if file.copy is not None]
+    run = subprocess.run([AETH, *words], capture_output=True, pass_fds=copies, check=False)
+    lines = run.stderr.decode("utf-8", "replace").splitlines(keepends=True)
+    return "".join(line for line in lines if line.startswith("refused unit ")) if run.returncode == 3 else ""
