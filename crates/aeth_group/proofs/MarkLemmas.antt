@@ -1,5 +1,5 @@
 -- Laws of tables of marks: what one more mark changes, and how a table is closed by marking.
-use Rattle.std.proofs.Common.{◌≡◌, ◌≢◌, ◌∙◌, ◌<◌, ◌≤◌, ◌+◌, ◌⊎◌, ◌&&◌, ℕ, zero, suc, Bool, true}
+use Rattle.std.proofs.Common.{◌≡◌, ◌≢◌, ◌∙◌, ◌<◌, ◌+◌, ◌⊎◌, ◌&&◌, ℕ, zero, suc, Bool, true}
 use Rattle.std.proofs.Common.{false}
 use Rattle.std.proofs.Common.{not, cond, List, length, slice_get, get_or, set, replicate, refl, sym}
 use Rattle.std.proofs.Common.{ap, subst, inl, inr, arith}
@@ -15,7 +15,7 @@ use Rattle.std.proofs.lemmas.Option.{slice_get-get_or}
 use Rattle.aeth_base.proofs.Lists.{slice_get-slice_set_same, slice_get-slice_set_other}
 use Rattle.aeth_app.specs.App.{is_marked}
 use Rattle.aeth_app.specs.Limits.{max_uses}
-use Rattle.aeth_group.specs.Marks.{Extends, LeadsOver}
+use Rattle.aeth_group.specs.Marks.{Extends}
 use Rattle.aeth_group.specs.Marks.{Spreads, marked, pair_place, places, unmarked, with_mark}
 
 -- ---- one more mark
@@ -195,15 +195,6 @@ pub record Leading (old new : List Bool) (added : Bool) (u w bound : ℕ) : Type
   pub led : OnFalse added
       ((v : ℕ) → v < bound → marked new w v ≡ true → marked new u v ≡ true)
 
--- Before the first.
-pub leading-start : (marks : List Bool) (u w : ℕ) → marked marks u w ≡ true
-    → Leading marks marks false u w 0
-leading-start marks u w is = record {
-  spreads = spreads-refl marks;
-  first = is;
-  led = λ v low. absurd (omega arith);
-}
-
 -- One more that was marked.
 pub leading-mark : (old new : List Bool) (added : Bool) (u w v next : ℕ)
     → Leading old new added u w v → length new ≡ places → u < max_uses → v < max_uses
@@ -231,13 +222,6 @@ leading-skip old new added u w v before needless = record {
         ap (marked new u) last ∙ needless (sym (ap (marked new w) last) ∙ onward)
   ]);
 }
-
--- After the last.
-pub leading-end : (old new : List Bool) (added : Bool) (u w bound : ℕ)
-    → Leading old new added u w bound → max_uses ≤ bound → OnFalse added (LeadsOver new u w)
-leading-end old new added u w bound all last = OnFalse_from added _ (λ none v to onward.
-    let within = (marked_parts new w v onward).second in
-    OnFalse_at none all.led v (omega arith) onward)
 
 -- Marks were added, if any, to marks that may have been added.
 pub spreads-both : (a b c : List Bool) (added : Bool) → Spreads a b added → Spreads b c true

@@ -128,10 +128,6 @@ pub record Counted (test : ℕ → Bool) (bound counted : ℕ) : Type 0 where
   pub is : counted ≡ count_by test (range_with_len 0 bound)
   pub few : counted ≤ bound
 
--- None yet.
-pub counted-start : (test : ℕ → Bool) → Counted test 0 0
-counted-start test = record { is = refl; few = omega arith }
-
 -- One more number, which passes.
 pub counted-passes : (test : ℕ → Bool) (bound counted new : ℕ) → Counted test bound counted
     → test bound ≡ true → new ≡ counted + 1 → Counted test (bound + 1) new

@@ -1,11 +1,11 @@
 -- Laws of tables of slots: what a write to one mask changes, and changes one after the other.
 use Rattle.std.proofs.Common.{◌≡◌, ◌≢◌, ◌∙◌, ◌<◌, ◌+◌, ◌*◌, ◌/◌, ◌%◌, ◌&&◌, ◌||◌, ℕ, Bool}
 use Rattle.std.proofs.Common.{true, false, not, cond, eqb, List, length, Some, slice_get}
-use Rattle.std.proofs.Common.{set, get_or, take, ltb, refl, sym, ap, inl, inr, arith, zero-add}
+use Rattle.std.proofs.Common.{set, get_or, take, refl, sym, ap, inl, inr, arith, zero-add}
 use Rattle.std.proofs.lemmas.Nat.{div-mul-add}
 use Rattle.std.proofs.lemmas.Bool.{and_left, and_right, both_ways, cases_eq, eq-eqb, eqb-true}
 use Rattle.std.proofs.lemmas.Bool.{ne_eqb, not-true}
-use Rattle.std.proofs.lemmas.Bool.{cases_lt, lt-ltb, le-ltb, not_from_false}
+use Rattle.std.proofs.lemmas.Bool.{not_from_false}
 use Rattle.std.proofs.Math.ListN.{length-set}
 use Rattle.std.proofs.lemmas.Option.{same_Some, slice_get-get_or}
 use Rattle.aeth_base.proofs.Lists.{slice_get-slice_set_same, slice_get-slice_set_other}

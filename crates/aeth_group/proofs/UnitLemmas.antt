@@ -1,59 +1,19 @@
 -- Laws of the list of units: which are in it, and what one more connection adds.
-use Rattle.std.proofs.Common.{◌≡◌, ◌∙◌, ◌<◌, ◌≤◌, ◌+◌, ◌*◌, ℕ, suc, true, List, [], ◌∷◌}
-use Rattle.std.proofs.Common.{length, Contains, refl, sym, ap, subst, inl, inr, add-one, arith}
+use Rattle.std.proofs.Common.{◌≡◌, ◌∙◌, ◌<◌, ◌≤◌, ◌+◌, ◌*◌, ℕ, suc, true, []}
+use Rattle.std.proofs.Common.{length, Contains, sym, ap, subst, add-one, arith}
 use Rattle.std.proofs.Common.{length-append}
 use Rattle.std.specs.Prelude.{count_by, filter, flat_map}
 use Rattle.std.specs.List.{range_with_len}
 use Rattle.std.proofs.lemmas.List.{flat_map_more, length-map}
-use Rattle.std.proofs.lemmas.List.Elements.{Contains-append_cases, Contains-append_left}
-use Rattle.std.proofs.lemmas.List.Elements.{Contains-append_right}
-use Rattle.std.proofs.lemmas.List.FromFn.{get_or-range_with_len, length-range_with_len}
 use Rattle.std.proofs.lemmas.List.Sums.{length-filter}
 use Rattle.aeth_base.specs.declared.ids.Unit.{Unit as GroupUnit}
-use Rattle.aeth_base.proofs.Members.{Contains-cases, Contains-filter, Contains-here, Contains-map}
-use Rattle.aeth_base.proofs.Members.{Contains-nil, Contains-there, filter-Contains, map-Contains}
+use Rattle.aeth_base.proofs.Members.{Contains-filter, Contains-flat_map, Contains-map}
+use Rattle.aeth_base.proofs.Members.{filter-Contains, flat_map-Contains, map-Contains}
 use Rattle.aeth_app.specs.Limits.{max_uses}
 use Rattle.aeth_group.specs.Members.{GroupsData, is_member, units_of, units_with}
-use Rattle.aeth_base.proofs.Ranges.{range_with_len-more}
+use Rattle.aeth_base.proofs.Ranges.{Contains-range, range-Contains, range_with_len-more}
 
 -- ---- which units there are
-
--- A number of a range is below the count.
-range-Contains : (count k : ℕ) → Contains (range_with_len 0 count) k → k < count
-range-Contains count k (i, within, at) =
-    let size = length-range_with_len 0 count in
-    let low : i < count = omega arith in
-    let there = get_or-range_with_len 0 count i k low in
-    omega arith
-
--- A number below the count is in the range.
-Contains-range : (count k : ℕ) → k < count → Contains (range_with_len 0 count) k
-Contains-range count k low =
-    let size = length-range_with_len 0 count in
-    let there = get_or-range_with_len 0 count k k low in
-    (k, omega arith, omega arith)
-
--- What is in a list that comes from an element is in the lists from all.
-Contains-flat_map : {X Y : Type 0} (f : X → List Y) (xs : List X) (x : X) (y : Y) → Contains xs x
-    → Contains (f x) y → Contains (flat_map f xs) y
-Contains-flat_map f [] x y has inside = Contains-nil has
-Contains-flat_map f (z ∷ xs) x y has inside = elim (Contains-cases z xs x has) [
-  | inl here ↦ Contains-append_left (f z) (flat_map f xs) y
-      (subst (λ w. Contains (f w) y) (sym here) inside)
-  | inr later ↦ Contains-append_right (f z) (flat_map f xs) y
-      (Contains-flat_map f xs x y later inside)
-]
-
--- What is in the lists from all elements is in that of one.
-flat_map-Contains : {X Y : Type 0} (f : X → List Y) (xs : List X) (y : Y)
-    → Contains (flat_map f xs) y → (x : X) × Contains xs x × Contains (f x) y
-flat_map-Contains f [] y has = Contains-nil has
-flat_map-Contains f (z ∷ xs) y has = elim (Contains-append_cases (f z) (flat_map f xs) y has) [
-  | inl first ↦ (z, Contains-here z xs, first)
-  | inr second ↦
-      let (x, in_rest, inside) = flat_map-Contains f xs y second in
-      (x, Contains-there z xs x in_rest, inside)
-]
 
 -- A connection of the application with a group in which some use case has it.
 pub record IsUnit (groups : GroupsData) (unit : GroupUnit) : Type 0 where
@@ -85,11 +45,11 @@ units_from_unit groups unit is =
     let c = unit.conn.0 in
     let g = unit.group.0 in
     Contains-flat_map (units_with groups) (range_with_len 0 groups.connections) c unit
-    (Contains-range groups.connections c is.connection)
+    (Contains-range 0 groups.connections c (omega arith) (omega (arith, is.connection)))
     (Contains-map (λ g. record { conn = record { 0 = c }; group = record { 0 = g } })
     (filter (λ g. is_member groups g c) (range_with_len 0 groups.count)) g
     (Contains-filter (λ g. is_member groups g c) (range_with_len 0 groups.count) g
-    (Contains-range groups.count g is.group) is.member))
+    (Contains-range 0 groups.count g (omega arith) (omega (arith, is.group))) is.member))
 
 -- ---- how many units there are
 
@@ -105,10 +65,6 @@ length-units_with groups c =
 pub record UnitsBefore (groups : GroupsData) (c units : ℕ) : Type 0 where
   pub is : units ≡ length (flat_map (units_with groups) (range_with_len 0 c))
   pub few : units ≤ max_uses * c
-
--- None yet.
-pub units-start : (groups : GroupsData) → UnitsBefore groups 0 0
-units-start groups = record { is = refl; few = omega arith }
 
 -- One more connection.
 pub units-more : (groups : GroupsData) (c units more : ℕ) → UnitsBefore groups c units

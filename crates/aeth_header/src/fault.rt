@@ -4,7 +4,7 @@ use std::error::Error;
 use std::fmt;
 
 /// The word's payload count is 3, and a flit carries two words at most.
-#[derive(Clone, Copy, Debug, PartialEq, Eq, Hash)]
+#[derive(Clone, Copy, Debug, PartialEq)]
 pub struct HeaderFault;
 
 impl fmt::Display for HeaderFault {

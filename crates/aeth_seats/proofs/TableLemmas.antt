@@ -14,7 +14,7 @@ use Rattle.aeth_base.specs.declared.ids.NiId.{NiId}
 use Rattle.aeth_base.proofs.Lists.{slice_get-slice_set_same, slice_get-slice_set_other}
 use Rattle.aeth_app.specs.Limits.{seats_per_ni}
 use Rattle.aeth_seats.specs.Places.{Place, is_taken, seat_of, sits_on, taken_seats}
-use Rattle.aeth_seats.specs.Table.{AreFew, IsTable, TableData, entry_of}
+use Rattle.aeth_seats.specs.Table.{AreFew, IsTakenTable, TableData, entry_of}
 use Rattle.std.proofs.Common.{replicate}
 use Rattle.std.proofs.lemmas.List.{length-replicate, get_or-replicate}
 use Rattle.std.proofs.lemmas.Option.{slice_get-get_or}
@@ -34,10 +34,10 @@ entry_within nis ni seat size on low sizes = omega arith
 
 -- A table in which one entry is written says of each seat whether it is taken then.
 table-set : (nis : ℕ) (places places' : List (Option Place)) (taken : List Bool) (ni seat : ℕ)
-    (mark : Bool) → IsTable nis places taken → ni < nis → seat < seats_per_ni
+    (mark : Bool) → IsTakenTable nis places taken → ni < nis → seat < seats_per_ni
     → is_taken places' ni seat ≡ mark
     → ((n s : ℕ) → ((n ≡ ni) × (s ≡ seat) → ⊥) → is_taken places' n s ≡ is_taken places n s)
-    → IsTable nis places' (set taken (entry_of ni seat) mark)
+    → IsTakenTable nis places' (set taken (entry_of ni seat) mark)
 table-set nis places places' taken ni seat mark table on low here others =
     let size = length-set taken (entry_of ni seat) mark in
     let there = entry_within nis ni seat (length taken) on low table.size in
@@ -60,9 +60,9 @@ table-set nis places places' taken ni seat mark table on low here others =
 
 -- The table once a core that had no seat sits on one.
 pub table-placed : (nis : ℕ) (places : List (Option Place)) (taken : List Bool) (core : ℕ)
-    (ni : NiId) (seat : ℕ) → IsTable nis places taken → core < length places
+    (ni : NiId) (seat : ℕ) → IsTakenTable nis places taken → core < length places
     → seat_of places core ≡ None → ni.0 < nis → seat < seats_per_ni
-    → IsTable nis (set places core (Some (ni, seat))) (set taken (entry_of ni.0 seat) true)
+    → IsTakenTable nis (set places core (Some (ni, seat))) (set taken (entry_of ni.0 seat) true)
 table-placed nis places taken core ni seat table there none on low =
     table-set nis places _ taken ni.0 seat true table on low
     (is_taken-more places core (ni, seat) ni.0 seat there none
@@ -73,10 +73,10 @@ table-placed nis places taken core ni seat table there none on low =
 
 -- The table once the only core on a seat gave it back.
 pub table-taken_back : (nis : ℕ) (places : List (Option Place)) (taken : List Bool) (core : ℕ)
-    (ni : NiId) (seat : ℕ) → IsTable nis places taken → core < length places
+    (ni : NiId) (seat : ℕ) → IsTakenTable nis places taken → core < length places
     → seat_of places core ≡ Some (ni, seat) → ni.0 < nis → seat < seats_per_ni
     → ((other : ℕ) → other ≢ core → sits_on ni.0 seat (seat_of places other) ≡ false)
-    → IsTable nis (set places core None) (set taken (entry_of ni.0 seat) false)
+    → IsTakenTable nis (set places core None) (set taken (entry_of ni.0 seat) false)
 table-taken_back nis places taken core ni seat table there sits on low alone =
     table-set nis places _ taken ni.0 seat false table on low
     (is_taken-cleared places core ni.0 seat alone)
@@ -89,7 +89,7 @@ entry-at ni seat = omega arith
 
 -- The entries of an interface say which of its seats are taken.
 pub row_is : (nis : ℕ) (places : List (Option Place)) (taken : List Bool) (ni : ℕ)
-    → IsTable nis places taken → ni < nis
+    → IsTakenTable nis places taken → ni < nis
     → take seats_per_ni (drop (entry_of ni 0) taken) ≡ taken_seats places ni
 unfolding taken_seats
 row_is nis places taken ni table on =
@@ -114,7 +114,7 @@ row_is nis places taken ni table on =
 -- Where no seat is taken.
 pub table-none : (nis cores : ℕ) (places : List (Option Place)) (taken : List Bool)
     → places ≡ replicate cores None → taken ≡ replicate (seats_per_ni * nis) false
-    → IsTable nis places taken
+    → IsTakenTable nis places taken
 table-none nis cores places taken no_places none = record {
   size = ap length none ∙ length-replicate (seats_per_ni * nis) false;
   each = λ ni seat on low.

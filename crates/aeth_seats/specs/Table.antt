@@ -16,7 +16,7 @@ abbrev pub entry_of : ℕ → ℕ → ℕ
 entry_of ni seat = seats_per_ni * ni + seat
 
 -- The table says of each seat of each interface whether it is taken.
-pub record IsTable (nis : ℕ) (places : List (Option Place)) (taken : List Bool) : Type 0 where
+pub record IsTakenTable (nis : ℕ) (places : List (Option Place)) (taken : List Bool) : Type 0 where
   pub size : length taken ≡ seats_per_ni * nis
   pub each : (ni seat : ℕ) → ni < nis → seat < seats_per_ni
       → slice_get taken (entry_of ni seat) ≡ Some (is_taken places ni seat)

@@ -22,14 +22,14 @@ pub(crate) struct Table {
 }
 
 impl Model for Table {
-    ghost use Rattle.aeth_seats.specs.Table.{AreFew, IsTable, TableData};
+    ghost use Rattle.aeth_seats.specs.Table.{AreFew, IsTakenTable, TableData};
 
     ghost Value = { TableData };
 
     ghost view = { λ table. record { nis = table.nis; places = table.places.items } };
 
     ghost invariant = { λ table. AreFew (record { nis = table.nis; places = table.places.items })
-        × IsTable table.nis table.places.items table.taken.items };
+        × IsTakenTable table.nis table.places.items table.taken.items };
 }
 
 impl Table {

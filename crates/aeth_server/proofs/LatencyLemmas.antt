@@ -59,12 +59,3 @@ module _ (size : ℕ) (slots : List ℕ) (cap rate : ℕ) (some : 1 ≤ rate) wh
   -- so the latency is at most the table size
   pub latency_of-within : Ascends 0 size slots → latency_of size slots cap rate ≤ size
   latency_of-within ascends = latency_of-least size (size-enough ascends)
-
-  -- a number that bounds the service, where no lesser one does, is the latency
-  pub latency_of-is : (theta : ℕ) → BoundsService size slots cap rate theta
-      → ((other : ℕ) → BoundsService size slots cap rate other → theta ≤ other)
-      → theta ≡ latency_of size slots cap rate
-  latency_of-is theta bounds least =
-      let below = least (latency_of size slots cap rate) latency_of-enough in
-      let above = latency_of-least theta bounds in
-      omega (arith, below, above)

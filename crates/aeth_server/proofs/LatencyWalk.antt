@@ -1,11 +1,11 @@
 -- The walk over the cycles of a table that finds how late a slot comes from one of them on.
 use Rattle.std.proofs.Common.{ℕ, ◌+◌, ◌-◌, ◌*◌, ◌%◌, ◌<◌, ◌≤◌, ◌≡◌, ◌∙◌, suc, true, List, length}
-use Rattle.std.proofs.Common.{Contains, max, sym, ap, subst, arith}
+use Rattle.std.proofs.Common.{Contains, sym, ap, subst, arith}
 use Rattle.std.proofs.Math.Nat.{mul-le-mul}
 use Rattle.std.specs.Int.{div_ceil}
 use Rattle.std.specs.Ordering.{nat_cmp, ord_max}
+use Rattle.aeth_base.proofs.ExtremeLemmas.{ord_max-nat}
 use Rattle.std.proofs.lemmas.Bool.{false_from_ne_true}
-use Rattle.std.proofs.lemmas.Bool.Decides.{nat_tests}
 use Rattle.aeth_base.specs.Limits.{credits_per_flit, max_slots}
 use Rattle.aeth_slots.specs.SlotSet.{Ascends}
 use Rattle.aeth_base.specs.Extremes.{greatest_below}
@@ -21,10 +21,6 @@ pub record Walked (size : ℕ) (slots : List ℕ) (cap rate s n passed late : �
   pub count : passed ≡ slots_within size slots s n
   pub few : passed ≤ n
   pub worst : late ≡ greatest_below (λ k. lateness size slots cap rate s (k + 1)) passed
-
--- The greater of two numbers, as the code finds it.
-pub ord_max-nat : (a b : ℕ) → ord_max nat_cmp a b ≡ max a b
-ord_max-nat a b = grind (arith, nat_tests)
 
 module _ (size : ℕ) (slots : List ℕ) (cap rate s : ℕ) where
   abbrev within : ℕ → ℕ

@@ -4,7 +4,7 @@ use Rattle.aeth_base.specs.Limits.{credits_per_flit, max_path_delay, max_receive
 use Rattle.aeth_base.specs.Limits.{max_slots, words_per_flit}
 use Rattle.aeth_slots.specs.SlotSet.{IsSlotSet}
 use Rattle.aeth_server.specs.declared.shape.ChannelShape.{ChannelShape}
-use Rattle.aeth_server.specs.ChannelShape.{IsShapeInRange, shape_of}
+use Rattle.aeth_server.specs.ChannelShape.{IsShapeInRange}
 use Rattle.aeth_server.specs.Shape.{Shape, IsGranted, payload_latency, credit_latency, round_trip}
 use Rattle.aeth_server.specs.Shape.{buffer_of}
 use Rattle.aeth_base.proofs.Division.{le-div_ceil, div_ceil-le}
@@ -62,15 +62,3 @@ pub need-most : (shape : ChannelShape) → IsSlotSet shape.slots → IsShapeInRa
 need-most shape set is =
     let few = slots-most shape.slots.size shape.slots.slots set.ascends in
     omega (arith, few, is.capacity)
-
--- What is asked of a shape in the code grants it.
-pub in-range-granted : (shape : ChannelShape) → IsSlotSet shape.slots → IsSlotSet shape.back
-    → IsShapeInRange shape → IsGranted (shape_of shape)
-in-range-granted shape set back is = record {
-  paths = record { path = omega (arith, is.least_links); back_path = omega (arith, is.least_back) };
-  least_rate = omega (arith, is.least_need);
-  ascends = set.ascends;
-  capacity = omega (arith, is.capacity);
-  back_ascends = rw is.same_size back.ascends;
-  back_capacity = is.back_capacity;
-}

@@ -1,6 +1,6 @@
 -- The latest slot comes from a cycle behind a slot, or from the first: from any other, each slot comes
 -- sooner than from the cycle before.
-use Rattle.std.proofs.Common.{ℕ, zero, suc, ◌+◌, ◌-◌, ◌*◌, ◌%◌, ◌<◌, ◌≤◌, ◌≡◌, ◌∙◌, false, List, length}
+use Rattle.std.proofs.Common.{ℕ, suc, ◌+◌, ◌-◌, ◌*◌, ◌<◌, ◌≤◌, ◌≡◌, ◌∙◌, false, List, length}
 use Rattle.std.proofs.Common.{Contains, ap, inl, inr, subst, arith}
 use Rattle.std.proofs.Math.Nat.{mod-eq_of_lt, mul-le-mul_left}
 use Rattle.std.proofs.lemmas.Bool.{cases_lt, false_from_ne_true, le-leb}

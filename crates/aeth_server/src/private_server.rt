@@ -29,7 +29,7 @@ pub struct Alone {
 }
 
 /// The words sent, landed and taken after a cycle, as totals since the first cycle.
-#[derive(Clone, Copy, Debug, PartialEq, Eq)]
+#[derive(Clone, Copy)]
 pub struct AloneStep {
     /// The words sent.
     pub sent: u32,

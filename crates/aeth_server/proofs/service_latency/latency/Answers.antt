@@ -2,7 +2,8 @@ use Rattle.std.proofs.Common.{◌≡◌, ◌∙◌, ◌+◌, suc, ap, arith}
 use Rattle.aeth_base.specs.Extremes.{greatest_below}
 use Rattle.aeth_base.proofs.ExtremeLemmas.{true_and_false}
 use Rattle.aeth_server.specs.Latency.{lateness_from}
-use Rattle.aeth_server.proofs.LatencyWalk.{IsLatency, ord_max-nat, walks-find}
+use Rattle.aeth_base.proofs.ExtremeLemmas.{ord_max-nat}
+use Rattle.aeth_server.proofs.LatencyWalk.{IsLatency, walks-find}
 use Rattle.aeth_server.proofs.StartSlots.{start-skipped}
 use Rattle.aeth_server.proofs.service_latency.latency.Goals.{else-s-eq0+else-has, then-s-eq0}
 use Rattle.aeth_server.proofs.service_latency.latency.Goals as goal

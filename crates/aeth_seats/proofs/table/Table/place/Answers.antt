@@ -1,7 +1,7 @@
 use Rattle.std.proofs.Common.{◌≡◌, ◌<◌, None, Some, true, length, set, sym}
 use Rattle.std.proofs.Common.{subst, arith}
 use Rattle.aeth_seats.specs.Places.{seat_of}
-use Rattle.aeth_seats.specs.Table.{IsTable, TableData}
+use Rattle.aeth_seats.specs.Table.{IsTakenTable, TableData}
 use Rattle.aeth_seats.proofs.SeatLemmas.{lowest-free}
 use Rattle.aeth_seats.proofs.TableLemmas.{entry_within, few-set, table-placed}
 use Rattle.aeth_seats.proofs.table.Table.place.Goals as goal
@@ -44,7 +44,7 @@ invariant_of-self c =
     let on = subst (λ (t : TableData). c.args.ni.0 < t.nis) is c.requires.ni in
     let low = (lowest-free c.args.self.now.places c.args.ni.0 seat (sym c.in-Some.ensures)).0 in (
       few-set table core (Some (c.args.ni, seat)) c.self.invariant.0,
-      subst (λ e. IsTable table.nis (set table.places core (Some (c.args.ni, seat)))
+      subst (λ e. IsTakenTable table.nis (set table.places core (Some (c.args.ni, seat)))
           (set c.self.inside.taken.items e true)) (sym c.entry_of.ensures)
           (table-placed table.nis table.places c.self.inside.taken.items core c.args.ni seat
           c.self.invariant.1 there none on low),

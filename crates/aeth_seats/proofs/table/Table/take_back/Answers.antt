@@ -1,7 +1,7 @@
 use Rattle.std.proofs.Common.{◌≡◌, ◌∙◌, ◌<◌, None, Some, false, length, set, sym, ap, subst}
 use Rattle.std.specs.Prelude.{IfSome}
 use Rattle.aeth_seats.specs.Places.{seat_of}
-use Rattle.aeth_seats.specs.Table.{IsHeldAlone, IsTable, TableData}
+use Rattle.aeth_seats.specs.Table.{IsHeldAlone, IsTakenTable, TableData}
 use Rattle.aeth_seats.proofs.TakenLemmas.{taken_back-none}
 use Rattle.aeth_seats.proofs.TableLemmas.{few-set, table-taken_back}
 use Rattle.aeth_seats.proofs.table.Table.take_back.Goals as goal
@@ -23,7 +23,7 @@ invariant_of-self c =
     (subst (λ (t : TableData). IfSome (seat_of t.places core) (λ place.
     IsHeldAlone t core place)) is c.requires.seat) in (
       few-set table core None c.self.invariant.0,
-      subst (λ e. IsTable table.nis (set table.places core None)
+      subst (λ e. IsTakenTable table.nis (set table.places core None)
           (set c.self.inside.taken.items e false)) (sym c.entry_of.ensures)
           (table-taken_back table.nis table.places c.self.inside.taken.items core c.in-Some.ni
           c.in-Some.seat c.self.invariant.1 there sits held.ni held.seat held.alone),
