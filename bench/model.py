@@ -1,0 +1,250 @@
+"""Prints what `allocate`, `simulate` and `demo` must print, from the rules in docs/RULES.md alone.
+
+    python3 bench/model.py allocate CHIP APP
+    python3 bench/model.py simulate CHIP APP PLAN WORDS RECEIVERS SWITCHES CYCLES
+    python3 bench/model.py demo N
+
+It is a second implementation, for new rows of crates/aeth_transcripts: it shares nothing with the
+program. It knows no network: a run is one private server for each session. It judges no file,
+refuses nothing, and is slow.
+"""
+
+import sys
+
+from model_plans import SIDES, Allocation, App, Chip
+
+NEVER = 10**12
+
+
+def latency_of(starts, slots, most, rate):
+    """The least latency of a set of starts, at so many words a slot and this rate."""
+    latency = 0
+    for begin in range(slots):
+        cycles = [cycle for cycle in range(begin, begin + slots) if cycle % slots in starts]
+        for sent, cycle in enumerate(cycles):
+            late = rate * (cycle - begin) - (most * sent + 1) * slots
+            latency = max(latency, -(-late // rate))
+    return latency
+
+
+class Server:
+    """The private server of a channel in one of its sessions."""
+
+    def __init__(self, run, channel, session):
+        connection, side = channel
+        chip, app = run.chip, run.app
+        opposite = SIDES[1 - SIDES.index(side)]
+        self.go, self.until, self.stop, self.finish, group = session
+        self.path, self.starts = run.grants[connection, group, side]
+        back_path, back_starts = run.grants[connection, group, opposite]
+        self.slots, self.rate = chip.slots, 2 * app.needs[connection, side]
+        self.offsets = chip.offsets(self.path)
+        self.delay = self.offsets[-1]
+        back_delay = chip.offsets(back_path)[-1]
+        latency = latency_of(self.starts, self.slots, 2, self.rate)
+        credit_latency = latency_of(back_starts, self.slots, 15, self.rate)
+        wish = app.connections[connection][side]
+        trip = latency + self.delay + wish["delay"] + 1 + credit_latency + back_delay
+        self.buffer = -(-self.rate * trip // self.slots) + 2
+        self.latency = latency + self.delay
+        self.words = [
+            (cycle, value)
+            for of, cycle, value in run.words
+            if of == channel and self.go <= cycle < self.until
+        ]
+        self.pulls = [(cycle, pull) for of, cycle, pull in run.receivers if of == channel]
+        self.offered = self.sent = self.taken = self.owed = self.returned = 0
+        self.coming, self.credits, self.landings = {}, {}, []
+
+    def send(self, cycle, opposite, flits):
+        """Sends words and credits in a slot of its own, before the stop."""
+        while self.offered < len(self.words) and self.words[self.offered][0] <= cycle:
+            self.offered += 1
+        if cycle % self.slots not in self.starts or cycle >= self.stop:
+            return
+        room = self.buffer + self.returned - self.sent
+        words, credits = min(2, self.offered - self.sent, room), min(15, opposite.owed)
+        if words + credits:
+            flits += [(link, cycle + at) for link, at in zip(self.path, self.offsets)]
+        self.coming[cycle + self.delay] = words
+        opposite.credits[cycle + self.delay] = credits
+        self.sent += words
+        opposite.owed -= credits
+
+    def receive(self, cycle):
+        """Words land, credits return, and the receiver takes what it asks for."""
+        self.landings += [cycle] * self.coming.get(cycle, 0)
+        self.returned += self.credits.get(cycle, 0)
+        pull = ([2] + [pull for since, pull in self.pulls if since <= cycle])[-1]
+        taken = min(pull, len(self.landings) - self.taken)
+        self.taken += taken
+        self.owed += taken
+
+    def rows(self, cycles, name):
+        """The lines of the session."""
+        ended, landed = self.finish <= cycles, len(self.landings)
+        offered = sum(1 for cycle, _ in self.words if cycle < min(cycles, self.finish))
+        state = "ended" if ended else "running"
+        yield f"chan {name} {self.go} {state} {offered} {landed} {self.taken}"
+        finish = 0
+        for place, (landing, (cycle, value)) in enumerate(zip(self.landings, self.words)):
+            finish = max(self.rate * (cycle + self.latency), finish) + self.slots
+            yield f"land {place + 1} {cycle} {landing} {-(-finish // self.rate)} {value}"
+        if ended:
+            yield f"drop {offered - landed} {landed - self.taken}"
+
+
+class Run:
+    """A run: the sessions of its channels, each played by itself."""
+
+    def __init__(self, chip, app, grants, words, receivers, switches, cycles):
+        self.chip, self.app, self.grants, self.cycles = chip, app, grants, cycles
+        self.words, self.receivers = words, receivers
+        self.sessions = {
+            connection: [[0, NEVER, NEVER, NEVER, app.group[switches[0][1]]]]
+            for connection in app.has[switches[0][1]]
+        }
+        for (_, left, _), switch in zip(switches, switches[1:]):
+            self.switch(left, *switch)
+        self.flits, self.lines = [], []
+        for connection, it in enumerate(app.connections):
+            self.play(connection, it["name"])
+
+    def switch(self, left, cycle, entered, drain):
+        """Closes and opens the connections that a switch doesn't keep."""
+        app = self.app
+        old, new = app.group[left], app.group[entered]
+        kept = app.has[left] & app.has[entered] if old == new else set()
+        closing = [(it, old, side) for it in app.has[left] - kept for side in SIDES]
+        opening = [(it, new, side) for it in app.has[entered] - kept for side in SIDES]
+        delays = [self.chip.offsets(self.grants[it][0])[-1] for it in closing]
+        writes = sum(len(self.grants[it][1]) + 1 for it in closing + opening)
+        finish = cycle + drain + max(delays, default=0)
+        for connection in app.has[left] - kept:
+            self.sessions[connection][-1][1:4] = [cycle, cycle + drain, finish]
+        for connection in app.has[entered] - kept:
+            session = [finish + writes, NEVER, NEVER, NEVER, new]
+            self.sessions.setdefault(connection, []).append(session)
+
+    def play(self, connection, name):
+        """Plays the sessions of both channels of a connection."""
+        lines = {side: [] for side in SIDES}
+        sessions = self.sessions.get(connection, [])
+        for session in sessions:
+            if session[0] >= self.cycles:
+                continue
+            both = [Server(self, (connection, side), session) for side in SIDES]
+            for cycle in range(session[0], min(self.cycles, session[3])):
+                for server, opposite in zip(both, both[::-1]):
+                    server.send(cycle, opposite, self.flits)
+                for server in both:
+                    server.receive(cycle)
+            for side, server in zip(SIDES, both):
+                lines[side] += server.rows(self.cycles, f"{name} {side}")
+        for side in SIDES:
+            outside = sum(
+                1
+                for of, cycle, _ in self.words
+                if of == (connection, side)
+                and not any(it[0] <= cycle < it[1] for it in sessions)
+            )
+            if outside:
+                lines[side].append(f"outside {name} {side} {outside}")
+            self.lines += lines[side]
+
+    def link_flits(self):
+        """How many flits each link carries before the run ends."""
+        counts = [0] * len(self.chip.links)
+        for link, cycle in self.flits:
+            counts[link] += cycle < self.cycles
+        return counts
+
+    def text(self):
+        links = [f"link {link} {flits}" for link, flits in enumerate(self.link_flits())]
+        return "\n".join([f"sim 1 {self.cycles}", *self.lines, *links, "end", ""])
+
+    def summary(self):
+        """What `demo` tells of it."""
+        rows = [line.split() for line in self.lines]
+        chans = [row for row in rows if row[0] == "chan"]
+        landings = [row for row in rows if row[0] == "land"]
+        outside = sum(int(row[3]) for row in rows if row[0] == "outside")
+        late = sum(1 for row in landings if int(row[3]) > int(row[4]))
+        return (
+            f"granted {len(self.grants)} offered {sum(int(row[5]) for row in chans)} "
+            f"outside {outside} landed {len(landings)} late {late} flits {sum(self.link_flits())}"
+        )
+
+
+def rows_of(text):
+    return [row.split(",") for row in text.split("\n")[1:] if row]
+
+
+def run_of(chip, app, plan, words, receivers, switches, cycles):
+    """The run that the texts of these files tell."""
+    connections = {it["name"]: place for place, it in enumerate(app.connections)}
+    uses = {it["name"]: place for place, it in enumerate(app.uses)}
+    grants = {}
+    for line in plan.split("\n"):
+        if line.startswith("grant "):
+            _, name, group, side, *lists = line.split(" ")
+            path, starts = ([int(it) for it in numbers.split(",")] for numbers in lists)
+            grants[connections[name], int(group), side] = path, starts
+    on_channels = [
+        [((connections[name], side), int(cycle), int(number)) for name, side, cycle, number in rows]
+        for rows in (rows_of(words), rows_of(receivers))
+    ]
+    entered = [(int(cycle), uses[name], int(drain)) for cycle, name, drain in rows_of(switches)]
+    return Run(chip, app, grants, *on_channels, entered, cycles)
+
+
+def demo_run(number):
+    """The large run that is made from a number."""
+    state = number
+
+    def draw(bound):
+        nonlocal state
+        state = (1103515245 * state + 12345) % 2147483648
+        return state // 65536 % bound
+
+    shifts = [draw(15) + 1 for _ in range(4)]
+    with open(f"{__file__.rsplit('/', 2)[0]}/examples/mesh.toml", encoding="utf-8") as it:
+        chip = Chip(it.read())
+    text = "version = 1\ndetour = 1\ncore = [\n"
+    text += "".join(f'{{name = "k{core}", ni = "n{core}"}},\n' for core in range(16)) + "]\n"
+    for round_, per in enumerate((64, 64, 16, 32)):
+        for core in range(16):
+            to = (core + shifts[round_]) % 16
+            text += f'[[connection]]\nname = "c{16 * round_ + core}"\n'
+            text += f'from = "k{core}"\nto = "k{to}"\n'
+            text += f"fwd = {{words = 1, per = {per}, latency = 100, delay = 0}}\n"
+            text += "back = {words = 0, per = 1, latency = 100, delay = 0}\n"
+    for use, (first, last) in enumerate(((0, 16), (0, 32), (32, 48), (48, 64))):
+        names = ", ".join(f'"c{connection}"' for connection in range(first, last))
+        text += f'[[use]]\nname = "u{use}"\nconnections = [{names}]\n'
+        text += 'smooth = ["u1"]\n' if use == 0 else ""
+    app = App(text, chip)
+    grants = Allocation(chip, app).grants
+    words = [((draw(64), "fwd"), 2 * place, place) for place in range(10000)]
+    switches = [(0, 0, 0), (5000, 1, 16), (10000, 2, 16), (15000, 3, 16)]
+    return Run(chip, app, grants, words, [], switches, 22000)
+
+
+def main(command, *words):
+    if command == "demo":
+        print("demo", words[0], demo_run(int(words[0])).summary())
+        return
+    texts = []
+    for name in words[:6]:
+        with open(name, encoding="utf-8") as it:
+            texts.append(it.read())
+    chip = Chip(texts[0])
+    app = App(texts[1], chip)
+    if command == "allocate":
+        sys.stdout.write(Allocation(chip, app).text())
+    else:
+        sys.stdout.write(run_of(chip, app, *texts[2:], int(words[6])).text())
+
+
+if __name__ == "__main__":
+    main(*sys.argv[1:])
