@@ -1,8 +1,8 @@
-// What no clause says of chips: that reading succeeds where memory is left, and what a pair has.
+// Ports, wires and offsets of a pair.
 ghost use Rattle.std.specs.Prelude.{◌<◌, All, length};
 
-use aeth_base::{LinkId, Name, NiId, Path, RouterId};
-use aeth_chip::{Chip, Link, Node, read_chip};
+use aeth_base::{LinkId, Path, RouterId};
+use aeth_chip::{Chip, read_chip};
 use std::alloc::Global;
 use std::test::Fail;
 
@@ -21,36 +21,6 @@ link = [
 
 fn pair(alloc: Global) -> Option<Chip> {
     read_chip(alloc, PAIR.as_bytes()).ok()
-}
-
-fn link_of(chip: &Chip, link: u32) -> Option<Link> {
-    if link < chip.links() {
-        Some(chip.link(LinkId(link)))
-    } else {
-        None
-    }
-}
-
-#[test]
-fn the_pair_is_read(rt: HostRuntime) -> Result<(), Fail> {
-    let chip = pair(rt.alloc()).ok_or("a chip")?;
-    assert_eq!(rt;
-        [
-            chip.slots(),
-            chip.routers(),
-            chip.nis(),
-            chip.links(),
-            chip.wires()
-        ],
-        [128, 2, 2, 6, 12]
-    );
-    let across = Link {
-        from: Node::Router(RouterId(0)),
-        to: Node::Router(RouterId(1)),
-        delay: 2,
-    };
-    assert_eq!(rt; link_of(&chip, 4), Some(across));
-    Ok(())
 }
 
 #[test]
@@ -82,32 +52,6 @@ fn ports_lead_out_of_a_router(rt: HostRuntime) -> Result<(), Fail> {
     Ok(())
 }
 
-/// The links of a network interface, out and in, and whether this is its name.
-fn interface_of(chip: &Chip, ni: u32, name: &[u8]) -> Option<(u32, u32, bool)> {
-    if ni < chip.nis() {
-        let named = chip.ni_name(NiId(ni)).as_bytes() == name;
-        Some((chip.leaving(NiId(ni)).0, chip.entering(NiId(ni)).0, named))
-    } else {
-        None
-    }
-}
-
-#[test]
-fn interfaces_are_found_by_name(rt: HostRuntime) -> Result<(), Fail> {
-    let chip = pair(rt.alloc()).ok_or("a chip")?;
-    assert_eq!(rt; interface_of(&chip, 1, b"n1"), Some((2, 3, true)));
-    let rows = [
-        (b"n1".as_slice(), Some(NiId(1))),
-        (b"n2".as_slice(), None),
-        (b"r1".as_slice(), None),
-    ];
-    for (bytes, ni) in rows {
-        let name = Name::new(bytes).ok_or("a name")?;
-        assert_eq!(rt; chip.find_ni(&name), ni);
-    }
-    Ok(())
-}
-
 /// The wire so many places behind a link.
 fn wire_of(chip: &Chip, link: u32, place: u32) -> Option<u32> {
     if link >= chip.links() {
@@ -124,6 +68,7 @@ fn wire_of(chip: &Chip, link: u32, place: u32) -> Option<u32> {
 #[test]
 fn wires_stand_behind_their_links(rt: HostRuntime) -> Result<(), Fail> {
     let chip = pair(rt.alloc()).ok_or("a chip")?;
+    assert_eq!(rt; chip.wires(), 12);
     let rows = [
         (1, 0, Some(1)),
         (1, 1, Some(6)),

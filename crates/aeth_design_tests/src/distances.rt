@@ -1,5 +1,4 @@
-// What no clause says: that the table is made where there is memory, on chips whose least numbers
-// of links were counted by hand.
+// Least numbers of links, between interfaces and from routers on, which were counted by hand.
 use aeth_base::{NiId, RouterId};
 use aeth_chip::{Distances, Summary, read_chip};
 use std::alloc::Global;

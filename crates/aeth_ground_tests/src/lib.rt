@@ -1,12 +1,10 @@
-//! Tests of numbers, names, paths, readers of files, sinks and shelves, above the libraries that have
-//! them.
+//! Tests of numbers, names, readers of files, sinks and shelves, above the libraries that have them.
 #![tactic(auto)]
 
 #[cfg(test)]
 mod documents;
 #[cfg(test)]
 mod host;
-#[cfg(test)]
 mod names;
 #[cfg(test)]
 mod numbers;
