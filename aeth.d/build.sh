@@ -24,7 +24,7 @@ crates_in_order() {
 
 # What `rt` is at, by its last message, and how long it has been since the build began.
 progress() {
-    now=$(sed -n 's/^rt: chose --jobs [0-9]* for //p; s/^rt: waiting for .*/-/p' "$log" | tail -n 1)
+    now=$(sed -n 's/^rt: chose --jobs [0-9]* for //p; s/^rt: waiting for .*/-/p' "$log" 2>/dev/null | tail -n 1)
     case $now in
     '') text="reading the sources" ;;
     -) text="waiting for another \`rt\` in these folders" ;;
@@ -93,15 +93,16 @@ note_sources() {
 # Whether `rt ci` has left a program here, and no source was changed, made, deleted or put back since that run made its
 # first folder. (It makes a crate's folder `out` when the crate's turn comes, and aeth_base is the lowest crate.)
 is_left_by_gate() {
-    first=$home/crates/aeth_base/out
-    if ! { [ -x "$built" ] && [ -d "$first" ]; }; then return 1; fi
+    if ! [ -x "$built" ]; then return 1; fi
     for crate in "$home/crates"/*; do
         if [ "$crate" -nt "$crate/out" ]; then return 1; fi
     done
+    began=$(stat -c %.9W "$home/crates/aeth_base/out" 2>/dev/null) || return 1
+    if [ "${began%%[.,]*}" -le 0 ]; then return 1; fi
     changed=$(find "$home/crates.txt" "$home/HANDLES" "$home/crates" -name out -prune -o \
         \( -path "$home/crates/*/*" -type d -o -path "$home/crates" -o -name '*.rt' -o -name '*.antt' \
-        -o -name crates.txt -o -name HANDLES \) -newercB "$first" -print 2>&1) &&
-        [ -z "$changed" ] && [ -n "$(find "$built" -newermB "$first" 2>/dev/null)" ]
+        -o -name crates.txt -o -name HANDLES \) -newerct "@$began" -print 2>&1) &&
+        [ -z "$changed" ] && [ -n "$(find "$built" -newermt "@$began" 2>/dev/null)" ]
 }
 
 # Keeps the program that was built of the noted sources.

@@ -1,0 +1,375 @@
+"""Tests of `./draw`: its pictures against what `aeth` prints, its inputs and its statuses."""
+from collections import Counter, namedtuple
+import os
+import pathlib
+import random
+import re
+import subprocess
+import threading
+import tomllib
+import unittest
+import xml.etree.ElementTree as xml
+
+from chips import app, chip, grid
+from design import Link
+from home import Home, PROGRAM, TOP
+from placing import place_routers
+import toml_lines
+
+EXAMPLES = TOP / "examples"
+PAIR = ("examples/pair.toml", "examples/two.toml", "two.plan")
+VIDEO = ("examples/mesh.toml", "examples/video.toml", "video.plan")
+PAIR_RUN = (*PAIR, "examples/two.words.csv", "examples/two.receivers.csv", "examples/two.switches.csv")
+VIDEO_RUN = (*VIDEO, "examples/video.words.csv", "examples/video.receivers.csv", "examples/video.switches.csv")
+Rest = namedtuple("Rest", "offered landed late overdue dropped outside")
+
+
+def read(picture):
+    """The tree of a picture, each id of which stands once."""
+    root = xml.fromstring(picture)
+    ids = Counter(element.get("id") for element in root.iter() if element.get("id"))
+    assert set(ids.values()) <= {1}, ids
+    return root
+
+
+def tag(element):
+    return element.tag.rpartition("}")[2]
+
+
+def texts(root, kind="text"):
+    return ["".join(element.itertext()) for element in root.iter() if tag(element) == kind]
+
+
+def rest_of(title):
+    """The numbers of a lane's title."""
+    found = re.search(
+        r": (\d+) words? offered, (\d+) landed, (\d+) of them late, (\d+) overdue, (\d+) dropped, (\d+) outside", title
+    )
+    return Rest(*map(int, found.groups()))
+
+
+def lines_of(log):
+    """The rows of each channel of a log, as fields."""
+    channels, channel = {}, None
+    for line in log.splitlines():
+        word, *fields = line.split(" ")
+        if word in ("chan", "outside"):
+            channel = channels.setdefault(" ".join(fields[:2]), [])
+        if channel is not None and word != "link":
+            channel.append((word, fields))
+    return channels
+
+
+@unittest.skipUnless(PROGRAM, "there is no program: `./aeth` or `rt ci` builds it")
+class WithProgram(unittest.TestCase):
+    @classmethod
+    def setUpClass(cls):
+        cls.home = Home(PROGRAM)
+        cls.addClassCleanup(cls.home.end)
+        for one, two, plan in (PAIR, VIDEO):
+            cls.home.put(plan, cls.aeth("allocate", one, two))
+
+    @classmethod
+    def aeth(cls, *words):
+        status, out, said = cls.home.run(*words)
+        assert status == 0, said
+        return out
+
+    def draw(self, *words, **how):
+        """A picture, which is well-formed."""
+        status, out, said = self.home.draw(*words, **how)
+        self.assertEqual((status, said), (0, ""))
+        read(out)
+        return out
+
+    def made(self, name, the_chip, the_app):
+        """Files of a chip, an application and a plan for them."""
+        paths = self.home.put(f"{name}.chip", the_chip), self.home.put(f"{name}.app", the_app)
+        return *paths, self.home.put(f"{name}.plan", self.aeth("allocate", *paths))
+
+
+class Readme(WithProgram):
+    def test_its_pictures_are_those_of_its_commands(self):
+        text = (TOP / "README.md").read_text().replace("\\\n", "")
+        commands = re.findall(r"^\./draw (.*) > (docs/pictures/\S+)", text, re.M)
+        self.assertGreaterEqual(len(commands), 2)
+        for words, picture in commands:
+            self.assertEqual(self.draw(*words.split()), (TOP / picture).read_text(), picture)
+
+    def test_help(self):
+        status, page, _ = self.home.draw("help")
+        self.assertEqual(status, 0)
+        for words in re.findall(r"^  ./draw (.*) > ", page, re.M):
+            self.draw(*words.split())
+
+
+class Plans(WithProgram):
+    def cells(self, root, channel):
+        """The cells of a channel in a picture."""
+        group = next(e for e in root.iter() if e.get("class", "").startswith("c k") and texts(e, "title")[0].startswith(channel))
+        return next(e for e in group if tag(e) == "path").get("d").count("M")
+
+    def test_each_example(self):
+        for design, uses in ((PAIR, ("u0", "u1")), (VIDEO, ("decode", "menu", "record"))):
+            grants = [line.split(" ") for line in (self.home.top / design[2]).read_text().splitlines()]
+            cells = {f"{g[1]} {g[3]}": g[4].count(",") + 1 for g in grants if g[0] == "grant"}
+            starts = {f"{g[1]} {g[3]}": g[5].count(",") + 1 for g in grants if g[0] == "grant"}
+            for use in uses:
+                root = read(self.draw("plan", *design, use))
+                shown = [t for t in texts(root, "title") if re.match(r"\w+ (fwd|back), ", t)]
+                rows = [row.split(" ") for row in self.aeth("tables", *design, use).splitlines() if row.startswith("queue")]
+                self.assertEqual(len(shown), len(rows))
+                for row in rows:
+                    name = f"{row[6]} {row[7]}"
+                    title = next(t for t in shown if t.startswith(f"{name}, "))
+                    self.assertIn(f"{row[8]} words in", title)
+                    self.assertIn(f"latency {row[9]} cycles, buffer {row[5]} words", title)
+                    self.assertEqual(self.cells(root, f"{name},"), cells[name] * starts[name])
+
+    def test_one_channel(self):
+        root = read(self.draw("plan", *VIDEO, "decode", "cpu_mem", "fwd"))
+        chosen = [e for e in root.iter() if "chosen" in e.get("class", "")]
+        self.assertEqual([texts(e, "title")[0].split(",")[0] for e in chosen], ["cpu_mem fwd"])
+        self.assertEqual(len([e for e in root.iter() if e.get("class") == "other"]), 15)
+        self.assertIn("n5 \u2192 r5", texts(root))
+
+    def test_one_connection(self):
+        root = read(self.draw("plan", *VIDEO, "decode", "cpu_mem"))
+        self.assertEqual(len([e for e in root.iter() if "chosen" in e.get("class", "")]), 2)
+
+    def test_no_such_channel(self):
+        for chosen in (("nosuch",), ("cam_mem",)):
+            self.assertEqual(self.home.draw("plan", *VIDEO, "decode", *chosen)[0], 1)
+
+    def test_numbers_where_colours_dont_tell(self):
+        ends = [(k, (k + 5) % 16) for k in range(16)]
+        files = self.made("many", chip(*grid(4, 4, False), 64), app(16, ends))
+        root = read(self.draw("plan", *files, "main"))
+        for place, title in enumerate(t for t in texts(root, "title") if re.match(r"c\d+ (fwd|back), ", t)):
+            group = next(e for e in root.iter() if e.get("role") == "img" and texts(e, "title")[0] == title)
+            cells = next(e for e in group if tag(e) == "path").get("d").count("M")
+            numbers = [e.text for e in group if e.get("class") == "on"]
+            self.assertEqual(numbers, [str(place + 1)] * cells)
+
+    def test_links_of_a_torus_go_beside_the_tables(self):
+        ends = [(0, 2), (1, 7), (3, 5), (6, 0), (8, 4), (2, 8), (4, 1)]
+        root = read(self.draw("plan", *self.made("torus", chip(*grid(3, 3, True)), app(9, ends)), "main"))
+        strips, lines = [], []
+        for group in root.iter():
+            use = next((e for e in group if tag(e) == "use"), None)
+            if use is None:
+                continue
+            numbers = [float(n) for n in re.findall(r"-?[\d.]+", use.get("transform"))]
+            upright = use.get("transform").startswith("matrix")
+            x, y = numbers[-2:]
+            strips.append((x, y, x + 10, y + 160) if upright else (x, y, x + 160, y + 10))
+            line = next(e for e in group if e.get("class") == "line").get("d")
+            points = [tuple(map(float, point.split(" "))) for point in line[1:].split("L")]
+            lines += list(zip(points, points[1:]))
+        self.assertEqual(len(strips), 54)
+        for (x0, y0), (x1, y1) in lines:
+            self.assertTrue(x0 == x1 or y0 == y1)
+            for left, top, right, bottom in strips:
+                apart = max(x0, x1) <= left or min(x0, x1) >= right or max(y0, y1) <= top or min(y0, y1) >= bottom
+                self.assertTrue(apart, (x0, y0, x1, y1))
+
+    def test_width(self):
+        root = read(self.draw("plan", *VIDEO, "decode"))
+        width, height = root.get("width"), root.get("height")
+        self.assertEqual(root.get("viewBox"), f"0 0 {width} {height}")
+        self.assertIn("max-width:100%", root.get("style"))
+        self.assertLess(int(re.search(r"min-width:(\d+)px", root.get("style"))[1]), int(width))
+
+
+class Runs(WithProgram):
+    def compare(self, words, cycles):
+        """A run's picture has the numbers of its log. When words are due doesn't depend on receivers, so the log of the
+        same run with receivers that take all tells when those are due that haven't landed here."""
+        log = lines_of(self.aeth("simulate", *words, cycles))
+        free = (*words[:4], self.home.put("free.csv", "connection,side,cycle,pull\n"), words[5])
+        long = lines_of(self.aeth("simulate", *free, cycles))
+        root = read(self.draw("run", *words, cycles))
+        shown = {t.split(":")[0]: rest_of(t) for t in texts(root, "title") if " offered, " in t and "Run" not in t}
+        total = Counter()
+        for channel, rows in log.items():
+            sessions = [fields for word, fields in rows if word == "chan"]
+            lands = [fields for word, fields in rows if word == "land"]
+            offered = sum(int(fields[4]) for fields in sessions)
+            outside = sum(int(fields[2]) for word, fields in rows if word == "outside")
+            total["outside"] += outside
+            if not offered:
+                continue
+            dues = [int(fields[3]) for word, fields in long[channel] if word == "land"]
+            rest = Rest(
+                offered, len(lands), sum(int(f[2]) > int(f[3]) for f in lands),
+                self.overdue(rows, dues, int(cycles)),
+                sum(int(f[0]) + int(f[1]) for word, f in rows if word == "drop"), outside,
+            )
+            self.assertEqual(shown[channel], rest, channel)
+            total.update(rest._asdict() | {"outside": 0})
+        told = " ".join(texts(root))
+        self.assertIn(f"{total['landed']} landed, {total['late']} of them late; {total['overdue']} overdue", told)
+        self.assertIn(f"{total['dropped']} dropped; {total['outside']} offered outside", told)
+        return shown
+
+    def overdue(self, rows, dues, cycles):
+        """How many words of a channel with one session hadn't landed when they were due."""
+        landed = sum(word == "land" for word, _ in rows)
+        return sum(due < cycles for due in dues[landed:])
+
+    def test_examples(self):
+        self.compare(PAIR_RUN, "24")
+        self.compare(VIDEO_RUN, "900")
+
+    def test_a_starved_channel(self):
+        words = "connection,side,cycle,value\n" + "".join(f"c0,fwd,{cycle},0\n" for cycle in range(0, 226, 2))
+        pulls = "connection,side,cycle,pull\nc0,fwd,0,0\n"
+        files = (*PAIR, self.home.put("starved.words", words), self.home.put("starved.pulls", pulls), PAIR_RUN[5])
+        shown = self.compare(files, "240")
+        self.assertEqual(shown["c0 fwd"], Rest(113, 9, 0, 104, 0, 0))
+        picture = self.draw("run", *files, "240")
+        self.assertEqual(texts(read(picture)).count("104"), 1)
+        self.assertIn('class="overdue"', picture)
+
+    def test_dropped_words(self):
+        switches = self.home.put("cut.csv", "cycle,use,drain\n0,decode,0\n1000,menu,0\n1500,record,0\n")
+        words = (*VIDEO_RUN[:5], switches)
+        log = lines_of(self.aeth("simulate", *words, "2000"))
+        root = read(self.draw("run", *words, "2000"))
+        shown = {t.split(":")[0]: rest_of(t) for t in texts(root, "title") if " offered, " in t}
+        dropped = {
+            channel: sum(int(f[0]) + int(f[1]) for word, f in rows if word == "drop") for channel, rows in log.items()
+        }
+        self.assertEqual({c: n for c, n in dropped.items() if n}, {c: r.dropped for c, r in shown.items() if r.dropped})
+        crosses = [e for e in root.iter() if e.get("class") == "drop"]
+        self.assertEqual(len(crosses), sum(n > 0 for n in dropped.values()))
+
+    def test_one_channel(self):
+        root = read(self.draw("run", *VIDEO_RUN, "2000", "cpu_mem", "fwd"))
+        self.assertEqual(len([e for e in root.iter() if e.get("class") == "lane"]), 1)
+        self.assertEqual(self.home.draw("run", *VIDEO_RUN, "2000", "nosuch")[0], 1)
+
+    def test_latency_beside_the_longest_wait(self):
+        root = read(self.draw("run", *PAIR_RUN, "24"))
+        lane = next(e for e in root.iter() if e.get("class") == "lane")
+        self.assertEqual(texts(lane)[:3], ["c0 fwd", "14", "4"])
+
+
+class Inputs(WithProgram):
+    @classmethod
+    def setUpClass(cls):
+        super().setUpClass()
+        cls.plan = cls.home.draw("plan", *PAIR, "u1")[1]
+
+    def same(self, *words, **how):
+        self.assertEqual(self.draw(*words, **how), self.plan)
+
+    def test_pipes(self):
+        paths, writers = [], []
+        for name in PAIR_RUN:
+            path = self.home.room / f"pipe{len(paths)}"
+            os.mkfifo(path)
+            data = (self.home.top / name).read_bytes()
+            writers.append(threading.Thread(target=path.write_bytes, args=(data,), daemon=True))
+            writers[-1].start()
+            paths.append(path)
+        self.assertEqual(self.draw("run", *paths, "24"), self.draw("run", *PAIR_RUN, "24"))
+
+    def test_standard_input(self):
+        self.same("plan", "/dev/stdin", *PAIR[1:], "u1", given=(EXAMPLES / "pair.toml").read_bytes())
+
+    def test_a_mark_of_the_byte_order(self):
+        self.same("plan", self.home.put("mark", "\ufeff" + (EXAMPLES / "pair.toml").read_text()), *PAIR[1:], "u1")
+
+    def test_new_forms_of_toml(self):
+        text = (EXAMPLES / "pair.toml").read_text().replace('{from = "n0", to = "r0"}', '{from = "\\x6e0",\n to = "r0",}')
+        self.assertIn("\\x6e", text)
+        self.same("plan", self.home.put("new", text), *PAIR[1:], "u1")
+
+    def test_statuses_of_aeth(self):
+        for words, status, said in (
+            (("nosuch", *PAIR[1:], "u1"), 4, "read fault chip\n"),
+            ((".", *PAIR[1:], "u1"), 4, "read fault chip\n"),
+            (("/dev/zero", *PAIR[1:], "u1"), 2, "refused chip 0 TooLong 0 -\n"),
+            ((PAIR[1], *PAIR[1:], "u1"), 2, "refused chip 2 WrongKey 0 connection\n"),
+            ((*PAIR, "nosuch"), 2, "refused use 1 UnknownUse 0 nosuch\n"),
+        ):
+            self.assertEqual(self.home.draw("plan", *words), (status, "", said))
+        self.assertEqual(self.home.draw("run", *PAIR_RUN, "0"), (1, "", "usage\n"))
+
+    def test_no_picture(self):
+        for words in ((), ("nosuch",), ("plan", *PAIR), ("plan", *PAIR, "u1", "c0", "up"), ("run", *PAIR_RUN)):
+            status, out, said = self.home.draw(*words)
+            self.assertEqual((status, out), (1, ""))
+            self.assertTrue(said.startswith("usage: draw plan"))
+
+    def test_what_cant_be_written(self):
+        with open("/dev/full", "wb") as full:
+            for words in (("plan", *PAIR, "u1"), ("help",)):
+                status, _, said = self.home.draw(*words, out=full)
+                self.assertEqual((status, said), (5, "draw: the picture can't be written: No space left on device\n"))
+        ours, theirs = os.pipe()
+        os.close(ours)
+        status, _, said = self.home.draw("plan", *PAIR, "u1", out=theirs)
+        os.close(theirs)
+        self.assertEqual((status, said), (5, "draw: the picture can't be written: Broken pipe\n"))
+
+    def test_closed_streams(self):
+        for streams, status in ((">&-", 5), (">/dev/full 2>&-", 5), ("<&- >/dev/null", 0)):
+            command = f"./draw plan {' '.join(PAIR)} u1 {streams}"
+            ran = subprocess.run(["sh", "-c", command], cwd=self.home.top, env=self.home.settings, stderr=subprocess.PIPE)
+            self.assertEqual(ran.returncode, status, streams)
+            self.assertLess(ran.stderr.count(b"\n"), 2)
+
+
+class Places(unittest.TestCase):
+    def places(self, routers, pairs):
+        ends = [end for one, other in pairs for end in ((one, other), (other, one))]
+        return place_routers(routers, [Link(number, *end, 1) for number, end in enumerate(ends)])
+
+    def shuffled(self, routers, pairs):
+        chance = random.Random(len(pairs))
+        names = dict(zip(routers, chance.sample([f"x{k}" for k in range(len(routers))], len(routers))))
+        order = chance.sample(sorted(names.values()), len(names))
+        places = self.places(order, [(names[one], names[other]) for one, other in pairs])
+        return {router: places[names[router]] for router in routers}
+
+    def test_grids(self):
+        """Each pair of a mesh is a step apart; of a torus so are all but those that wrap around."""
+        for columns, rows in ((3, 3), (4, 3), (4, 4), (5, 4), (8, 8)):
+            for wraps in (False, True):
+                routers, pairs = grid(columns, rows, wraps)
+                for places in (self.places(routers, pairs), self.shuffled(routers, pairs)):
+                    self.assertEqual(len(set(places.values())), columns * rows)
+                    far = Counter(sum(abs(a - b) for a, b in zip(places[one], places[other])) for one, other in pairs)
+                    self.assertGreaterEqual(far[1], len(pairs) - (columns + rows) * wraps, (columns, rows, wraps))
+
+    def test_ring(self):
+        for many in (3, 6, 7):
+            routers = [f"r{k}" for k in range(many)]
+            pairs = list(zip(routers, routers[1:] + routers[:1]))
+            places = self.shuffled(routers, pairs)
+            far = [sum(abs(a - b) for a, b in zip(places[one], places[other])) for one, other in pairs]
+            self.assertLessEqual(sum(d > 1 for d in far), many % 2)
+
+    def test_any_other_chip(self):
+        chance = random.Random(1)
+        routers = [f"r{k}" for k in range(20)]
+        places = self.places(routers, [tuple(chance.sample(routers, 2)) for _ in range(40)])
+        self.assertEqual(len(set(places.values())), 20)
+
+
+class Toml(unittest.TestCase):
+    def test_examples_are_read_as_by_python(self):
+        for file in EXAMPLES.glob("*.toml"):
+            self.assertEqual(toml_lines.read(file.read_bytes())[0], tomllib.loads(file.read_text()), file)
+
+    def test_lines(self):
+        tree, lines = toml_lines.read(b'a = 1\n\n[[link]]\nfrom = "x"\n[[link]]\nto = [1,\n 2]\n')
+        self.assertEqual(tree, {"a": 1, "link": [{"from": "x"}, {"to": [1, 2]}]})
+        self.assertEqual((lines["a",], lines["link", 1, "to"], lines["link", 1, "to", 1]), (1, 6, 7))
+
+    def test_what_is_no_toml(self):
+        for text in (b"a", b"a = ", b"a = [1", b'a = "x', b"[a]\n[a]", b"a = 1\na = 2", b"\xff = 1"):
+            with self.assertRaises(toml_lines.TomlError):
+                toml_lines.read(text)

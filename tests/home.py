@@ -1,0 +1,98 @@
+"""A folder with the scripts and a small tree of crates, in which they are tried, and a stand-in for `rt`."""
+import os
+import pathlib
+import pty
+import shutil
+import subprocess
+import tempfile
+
+TOP = pathlib.Path(__file__).resolve().parent.parent
+PLACES = (TOP / "crates/aeth/out/aeth", TOP / "out/aeth")
+PROGRAM = next((place for place in PLACES if os.access(place, os.X_OK)), None)
+
+# It tells what `rt run` tells, and its program is that of $PROGRAM, or one that tells its sources and words. It fails where
+# a source is broken or where the library has none, and changes a source meanwhile where $CHANGES names one.
+RT = """#!/bin/sh
+[ "$1" = version ] && echo "a stand-in for the kit" && exit 0
+echo built >> "$BUILDS"
+echo "the program's own text"
+for crate in aeth_base aeth_middle aeth; do
+    echo "rt: chose --jobs 2 for $crate" >&2
+    [ -z "$SLOW" ] || sleep "$SLOW"
+done
+cat ../*/src/*.rt | grep -q broken && echo "error[proof]: it is broken" >&2 && exit 1
+[ -f ../aeth_base/src/lib.rt ] || { echo "error[file]: no source" >&2; exit 1; }
+mkdir -p out ../aeth_base/out
+sources=$(cat ../*/src/*.rt | tr '\\n' ' ')
+[ -z "$CHANGES" ] || echo changed >> "$CHANGES"
+if [ -n "$PROGRAM" ]; then
+    cp "$PROGRAM" out/aeth
+else
+    { echo '#!/bin/sh'; echo "echo \\"$sources: \\$*\\""; echo 'cat >&2'; echo 'exit 3'; } > out/aeth
+    chmod +x out/aeth
+fi
+"""
+
+
+class Home:
+    """The folder, and how its scripts are run. With `program` the stand-in for `rt` builds the program itself."""
+
+    def __init__(self, program=None, name="home"):
+        self.room = pathlib.Path(tempfile.mkdtemp(prefix="aeth-tests-"))
+        self.top, self.builds = self.room / name, self.room / "builds"
+        for script in ("aeth", "aeth.d", "draw", "draw.d", "examples", "README.md"):
+            copy = shutil.copytree if (TOP / script).is_dir() else shutil.copy2
+            self.top.mkdir(exist_ok=True)
+            copy(TOP / script, self.top / script)
+        self.put("HANDLES", "Handles allowed: none.\n")
+        self.put("crates.txt", "# lowest first\naeth_base: itoa\naeth_middle: aeth_base toml\naeth: aeth_middle aeth_base\n")
+        self.put("crates/aeth_base/src/lib.rt", "base\n")
+        self.put("crates/aeth_middle/src/lib.rt", "middle\n")
+        self.put("crates/aeth/src/main.rt", "main\n")
+        rt = self.room / "bin/rt"
+        rt.parent.mkdir()
+        rt.write_text(RT)
+        rt.chmod(0o755)
+        self.settings = {**os.environ, "PATH": f"{rt.parent}:{os.environ['PATH']}", "BUILDS": str(self.builds)}
+        self.settings.update(PROGRAM=str(program or ""), SLOW="", CHANGES="")
+
+    def end(self):
+        shutil.rmtree(self.room)
+
+    def put(self, name, text):
+        file = self.top / name
+        file.parent.mkdir(parents=True, exist_ok=True)
+        file.write_text(text)
+        return file
+
+    def run(self, *words, given=b"", script="aeth", folder=None, out=subprocess.PIPE, **settings):
+        """The status, the output and the messages of a script."""
+        words = [str(self.top / script), *map(str, words)]
+        how = {"cwd": folder or self.top, "env": {**self.settings, **settings}, "check": False}
+        ran = subprocess.run(words, input=given, stdout=out, stderr=subprocess.PIPE, **how)
+        return ran.returncode, (ran.stdout or b"").decode(), ran.stderr.decode()
+
+    def draw(self, *words, **how):
+        return self.run(*words, script="draw", **how)
+
+    def on_terminal(self, *words, **settings):
+        """The status of `aeth`, and what it says where its messages go to a terminal."""
+        ours, theirs = pty.openpty()
+        how = {"cwd": self.top, "env": {**self.settings, **settings}, "stdin": subprocess.DEVNULL}
+        ran = subprocess.Popen([self.top / "aeth", *words], stdout=subprocess.DEVNULL, stderr=theirs, **how)
+        os.close(theirs)
+        said = b""
+        while True:
+            try:
+                part = os.read(ours, 1 << 16)
+            except OSError:
+                break
+            if not part:
+                break
+            said += part
+        os.close(ours)
+        return ran.wait(), said.decode()
+
+    def built(self):
+        """How many builds there were."""
+        return self.builds.read_text().count("built") if self.builds.exists() else 0

@@ -1,0 +1,247 @@
+"""Tests of `./aeth`: its pages, and that it builds the program where it must, and only there."""
+import os
+import pathlib
+import re
+import shutil
+import signal
+import subprocess
+import time
+import unittest
+
+from home import Home, TOP
+
+COMMANDS = re.findall(r"^aeth ([a-z-]+)", (TOP / "docs/FORMATS.md").read_text(), re.M)
+
+
+class WithHome(unittest.TestCase):
+    def setUp(self):
+        self.home = Home()
+        self.addCleanup(self.home.end)
+        self.main = self.home.top / "crates/aeth/src/main.rt"
+        self.base = self.home.top / "crates/aeth_base/src/lib.rt"
+
+    def says(self, text, builds, *words, **settings):
+        """The program answers with these sources, and so many builds there were by then."""
+        status, out, _ = self.home.run(*words, **settings)
+        self.assertEqual((status, out), (3, f"{text} : {' '.join(words)}\n"))
+        self.assertEqual(self.home.built(), builds)
+
+
+class Pages(WithHome):
+    def test_help_has_each_command(self):
+        status, page, said = self.home.run("help")
+        self.assertEqual((status, said), (0, ""))
+        self.assertGreater(len(COMMANDS), 8)
+        for command in COMMANDS:
+            self.assertIn(f"./aeth {command} ", page)
+        for word in ("-h", "--help"):
+            self.assertEqual(self.home.run(word), (0, page, ""))
+
+    def test_each_command_has_a_page(self):
+        for command in COMMANDS:
+            status, page, _ = self.home.run("help", command)
+            self.assertEqual(status, 0, command)
+            self.assertRegex(page, rf"\Aaeth {command} [A-Z]")
+            self.assertIn(f"./aeth {command} ", page)
+            self.assertLessEqual(max(map(len, page.splitlines())), 82)
+
+    def test_pages_are_no_other_files(self):
+        for word in ("nosuch", "aeth", "../version", "help/chip", "", "."):
+            status, page, said = self.home.run("help", word)
+            self.assertEqual((status, page), (1, ""), word)
+            self.assertIn("./aeth help", said)
+
+    def test_no_page_builds(self):
+        self.home.run("help", "chip")
+        self.home.run("--version")
+        self.assertEqual(self.home.built(), 0)
+
+    def test_version_has_the_kit_of_the_readme(self):
+        kit = re.search(r"Rattle kit `([^`]*)`", (TOP / "README.md").read_text())[1]
+        status, said, _ = self.home.run("--version")
+        self.assertEqual(status, 0)
+        self.assertRegex(said, r"\Aaeth \d")
+        self.assertIn(kit, said)
+
+    def test_a_page_that_cant_be_written(self):
+        with open("/dev/full", "wb") as full:
+            self.assertEqual(self.home.run("help", "chip", out=full)[0], 5)
+
+    def test_other_words_go_to_the_program(self):
+        for words in (("help", "chip", "app"), ("chip", "--help"), ("--version", "x"), ("", "a b", "*")):
+            self.says("main base middle", 1, *words)
+
+
+class Builds(WithHome):
+    def test_words_input_and_status_are_the_programs(self):
+        status, out, said = self.home.run("a", "b", given=b"given")
+        self.assertEqual((status, out), (3, "main base middle : a b\n"))
+        self.assertTrue(said.endswith("given"))
+
+    def test_builds_once(self):
+        for _ in range(3):
+            self.says("main base middle", 1)
+
+    def test_from_anywhere(self):
+        self.says("main base middle", 1)
+        link = self.home.room / "link"
+        link.symlink_to(self.home.top / "aeth")
+        for words, folder in (([link], "/"), (["sh", "aeth"], self.home.top), (["./aeth"], self.home.top)):
+            ran = subprocess.run(words, cwd=folder, env=self.home.settings, stdin=subprocess.DEVNULL, capture_output=True)
+            self.assertEqual(ran.returncode, 3)
+        self.assertEqual(self.home.built(), 1)
+
+    def test_in_a_folder_with_spaces(self):
+        home = Home(name="a  folder's $name")
+        self.addCleanup(home.end)
+        for _ in range(2):
+            self.assertEqual(home.run("a")[:2], (3, "main base middle : a\n"))
+        self.assertEqual(home.built(), 1)
+
+    def changes(self, **settings):
+        """Sources are changed, put back and deleted in all ways; the program is never that of other sources."""
+        self.says("main base middle", 1, **settings)
+        with self.main.open("a") as file:
+            file.write("more\n")
+        self.says("main more base middle", 2, **settings)
+        kept = self.home.room / "kept"
+        shutil.copy2(self.main, kept)
+        self.main.write_text("other text\n")
+        self.says("other text base middle", 3, **settings)
+        shutil.copy2(kept, self.main)  # with its old time
+        self.says("main more base middle", 4, **settings)
+        time.sleep(1.1)  # git looks at whole seconds; a build by `rt` takes longer
+        self.main.write_text("MAIN MORE\n")  # as long
+        shutil.copystat(kept, self.main)
+        self.says("MAIN MORE base middle", 5, **settings)
+        self.base.rename(kept)
+        status, out, said = self.home.run(**settings)
+        self.assertEqual((status, out), (126, ""))
+        self.assertIn("error[file]: no source", said)
+        kept.rename(self.base)
+        self.assertEqual(self.home.run(**settings)[1], "MAIN MORE base middle : \n")
+
+    def test_changes(self):
+        self.changes()
+        self.assertEqual(self.home.built(), 6)
+
+    def test_changes_without_git(self):
+        tools = self.home.room / "tools"
+        tools.mkdir()
+        for folder in ("/usr/bin", "/bin"):
+            for tool in pathlib.Path(folder).iterdir():
+                if not tool.name.startswith("git") and not (tools / tool.name).is_symlink():
+                    (tools / tool.name).symlink_to(tool)
+        self.changes(PATH=f"{self.home.room}/bin:{tools}")
+
+    def test_a_new_time_alone_builds_nothing(self):
+        self.says("main base middle", 1)
+        os.utime(self.main)
+        self.says("main base middle", 1)
+
+    def test_a_change_during_the_build_is_built_next(self):
+        self.says("main base middle", 1, CHANGES=str(self.main))
+        self.says("main changed base middle", 2)
+
+    def test_what_isnt_proved_isnt_run(self):
+        self.says("main base middle", 1)
+        self.main.write_text("broken\n")
+        for _ in range(2):
+            status, out, said = self.home.run("a")
+            self.assertEqual((status, out), (126, ""))
+            self.assertIn("error[proof]: it is broken", said)
+            log = re.search(r"text is in (.*)", said)[1]
+            self.assertIn("rt: chose --jobs 2 for aeth\n", (self.home.top / log).read_text())
+        self.main.write_text("main\n")
+        self.assertEqual(self.home.run("a")[:2], (3, "main base middle : a\n"))
+
+    def test_there_is_no_rt(self):
+        path = ":".join(folder for folder in os.environ["PATH"].split(":") if not os.access(f"{folder}/rt", os.X_OK))
+        status, out, said = self.home.run("a", PATH=path)
+        self.assertEqual((status, out), (127, ""))
+        self.assertIn("no `rt`", said)
+        self.assertEqual(os.listdir(self.home.top / "out"), [])
+
+    def test_a_build_that_is_stopped(self):
+        for number in (signal.SIGINT, signal.SIGTERM):
+            how = {"stdout": subprocess.DEVNULL, "stderr": subprocess.DEVNULL, "stdin": subprocess.DEVNULL}
+            settings = {**self.home.settings, "SLOW": "9"}
+            before = self.home.built()
+            ran = subprocess.Popen([self.home.top / "aeth"], env=settings, start_new_session=True, **how)
+            while self.home.built() == before and ran.poll() is None:
+                time.sleep(0.05)
+            os.killpg(ran.pid, number)
+            self.assertEqual(ran.wait(60), -number)
+            self.assertEqual(os.listdir(self.home.top / "out"), [])
+        self.assertEqual(self.home.run("a")[:2], (3, "main base middle : a\n"))
+
+
+class Gate(WithHome):
+    """What `rt ci` leaves is run at once, but not where a source was touched since that run began."""
+
+    def setUp(self):
+        super().setUp()
+        born = subprocess.run(["stat", "-c", "%W", self.home.top], capture_output=True, check=False).stdout
+        if not born.strip().isdigit() or not int(born):
+            self.skipTest("this file system doesn't tell when a folder was made")
+        self.leave()
+
+    def leave(self):
+        time.sleep(0.05)  # the clock of files is coarse
+        (self.home.top / "crates/aeth_base/out").mkdir()
+        for name in ("aeth_middle", "aeth"):
+            (self.home.top / "crates" / name / "out").mkdir()
+        program = self.home.put("crates/aeth/out/aeth", "#!/bin/sh\necho left\n")
+        program.chmod(0o755)
+
+    def test_left(self):
+        for _ in range(2):
+            self.assertEqual(self.home.run(), (0, "left\n", ""))
+        self.assertEqual(self.home.built(), 0)
+        self.main.write_text("more\n")
+        self.says("more base middle", 1)
+
+    def test_left_and_changed(self):
+        kept = self.home.room / "kept"
+        shutil.copy2(self.main, kept)
+        time.sleep(0.05)
+        shutil.copy2(kept, self.main)
+        self.says("main base middle", 1)
+
+    def test_left_and_deleted(self):
+        time.sleep(0.05)
+        self.home.put("crates/aeth/specs/Words.antt", "")
+        shutil.rmtree(self.home.top / "crates/aeth/out")
+        (self.home.top / "crates/aeth/out").mkdir()
+        self.home.put("crates/aeth/out/aeth", "#!/bin/sh\necho left\n").chmod(0o755)
+        time.sleep(0.05)
+        shutil.rmtree(self.home.top / "crates/aeth/specs")
+        self.says("main base middle", 1)
+
+    def test_rt_ci_takes_nothing_away(self):
+        self.home.run()
+        for name in ("aeth_base", "aeth_middle", "aeth"):
+            shutil.rmtree(self.home.top / "crates" / name / "out")
+        self.assertEqual(self.home.run(), (0, "left\n", ""))
+
+
+class Progress(WithHome):
+    def test_on_a_terminal_one_line_is_rewritten(self):
+        status, said = self.home.on_terminal("a", SLOW="3")
+        self.assertEqual(status, 3)
+        self.assertIn("\raeth: crate 2 of 3, aeth_middle, 0 min gone\x1b[K", said)
+        self.assertEqual(said.count("\n"), 1)
+
+    def test_elsewhere_a_line_a_crate(self):
+        _, _, said = self.home.run("a", SLOW="3")
+        lines = said.splitlines()
+        self.assertIn("aeth: crate 1 of 3, aeth_base, 0 min gone", lines)
+        self.assertEqual(len(lines), len(set(lines)))
+        self.assertNotIn("\r", said)
+
+    def test_no_words_on_a_terminal(self):
+        self.home.run()
+        status, said = self.home.on_terminal()
+        self.assertEqual(status, 3)
+        self.assertEqual(said.splitlines(), ["aeth: `./aeth help` tells the commands, the files and the statuses"])
+        self.assertEqual(self.home.run()[2], "")
