@@ -16,7 +16,6 @@ use Rattle.indexmap.specs.IndexSet.{insert_key}
 use Rattle.aeth_base.specs.Name.{is_name, name_of}
 use Rattle.aeth_base.specs.declared.shown.Broken.{Broken}
 use Rattle.aeth_base.specs.declared.shown.Shown.{Shown}
-use Rattle.aeth_document.specs.Limits.{last_place}
 use Rattle.aeth_document.specs.Walks.{first_broken, found_by, next_place, no_name, outside}
 use Rattle.aeth_document.specs.Walks.{place_of, repeated, repeats, size_of, step, walked}
 use Rattle.aeth_document.specs.declared.walk.Walk.{Walk}

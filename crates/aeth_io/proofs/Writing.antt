@@ -1,6 +1,6 @@
 -- Laws of appended bytes, and of a text that is under way to a sink.
 use Rattle.std.proofs.Common.{◌≡◌, ◌-◌, ◌++◌, ◌∙◌, List, [], ℕ, length, take, drop, Option, Some}
-use Rattle.std.proofs.Common.{None, ap, refl, append-nil, length-append, append_assoc, arith}
+use Rattle.std.proofs.Common.{None, ap, refl, length-append, append_assoc, arith}
 use Rattle.std.proofs.lemmas.Grind.{common_steps}
 use Rattle.aeth_io.specs.Sink.{appended}
 
@@ -9,11 +9,6 @@ pub record IsUnderWay (before now : Option (List ℕ)) (text rest : List ℕ) : 
   pub front : List ℕ
   pub written : now ≡ appended before front
   pub joined : front ++ rest ≡ text
-
--- Nothing appended changes nothing.
-pub appended-nil : (before : Option (List ℕ)) → appended before [] ≡ before
-appended-nil None = refl
-appended-nil (Some bytes) = simp append-nil
 
 -- Two pieces appended are one.
 pub appended-appended : (before : Option (List ℕ)) (xs ys : List ℕ)

@@ -8,6 +8,7 @@ use Rattle.std.specs.Str.{bytes_eq}
 use Rattle.std.proofs.lemmas.Bool.{cond-true}
 use Rattle.std.proofs.lemmas.Option.{same_Some, none-some}
 use Rattle.std.proofs.lemmas.Slice.Eq.{bytes_eq-Decides}
+use Rattle.aeth_base.proofs.Lists.{option_map-some}
 use Rattle.aeth_text.specs.Grammar.{all_of, both, field, headed, kept, last_field}
 
 -- A reader and a writer of the values that have P: what was written is read again, and what is read
@@ -42,12 +43,6 @@ both_some {X} {Y} (Some x) (Some y) p e =
     let same : (x, y) ≡ p = same_Some (x, y) p e in
     (ap (λ (q : X × Y). Some q.0) same, ap (λ (q : X × Y). Some q.1) same)
 
--- A value that was made of one.
-pub option_map_some : {X Y : Type 0} (f : X → Y) (o : Option X) (y : Y) → option_map f o ≡ Some y
-    → (x : X) × (o ≡ Some x) × (f x ≡ y)
-option_map_some f None y e = absurd (none-some y e)
-option_map_some f (Some x) y e = (x, refl, same_Some (f x) y e)
-
 -- ---- Values under a test, and values that are seen otherwise
 
 -- A value under a test.
@@ -68,7 +63,7 @@ pub reads_as : {W X Y : Type 0} {Good : W → Type 0} {read : W → Option X} {w
     → ReadsBack Good (λ w. option_map f (read w)) (λ y. write (g y)) (λ y. P (g y))
 reads_as {read} {write} {P} f g there back reads = record {
   again = λ y has. rw (reads.again (g y) has) (ap (λ z. Some z) (back y));
-  only = λ w y e. let (x, is, made) = option_map_some f (read w) y e in
+  only = λ w y e. let (x, is, made) = option_map-some f (read w) y e in
       let (same, has) = reads.only w x is in
       let is_x : x ≡ g y = sym (there x) ∙ ap g made in
       (ap write (sym is_x) ∙ same, subst P is_x has);
@@ -167,7 +162,7 @@ all_only read write P reads [] xs e =
     let none : [] ≡ xs = same_Some [] xs e in
     subst (λ ys. (map write ys ≡ []) × AllByRecursion P ys) none (refl, tt)
 all_only {X} read write P reads (w ∷ ws) xs e =
-    let (p, is, made) = option_map_some (λ (p : X × List X). p.0 ∷ p.1)
+    let (p, is, made) = option_map-some (λ (p : X × List X). p.0 ∷ p.1)
     (both (read w) (all_of read ws)) xs e in
     let (first, rest) = both_some (read w) (all_of read ws) p is in
     let (same, has) = reads.only w p.0 first in
