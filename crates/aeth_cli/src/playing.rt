@@ -51,6 +51,7 @@ pub fn played<M: Machine>(
     })) }
     ensures regular { IfOk result (IsRegular app.now) }
 {
+    M::regular();
     let mut machine = M::make(
         alloc, chip, app, groups, plan, words, receivers, switches, cycles,
     )?;

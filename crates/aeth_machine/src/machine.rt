@@ -33,6 +33,11 @@ pub trait Machine: Drop {
     /// How many components it has.
     ghost count: { Self → ℕ };
 
+    /// The law that the log of accepted inputs is regular for their application. It does nothing.
+    fn regular()
+        ensures { (inputs : Inputs) → AreAccepted inputs → 1 ≤ inputs.cycles
+            → IsRegular inputs.app (outcome inputs) };
+
     /// The machine of accepted inputs, before the first of their cycles, of which there is one at
     /// least. The groups are those of the application. It takes all memory of the run: `Err` where
     /// there was none.
@@ -72,7 +77,8 @@ pub trait Machine: Drop {
 
     /// The number of components, of which there is one at least.
     fn components(&self) -> u32
-        ensures { result ≡ count self.now };
+        ensures count { result ≡ count self.now }
+        ensures some { 0 < result };
 
     /// Plays all cycles that are left, each component in its place of the order.
     fn play(&mut self, order: &Order)
@@ -85,8 +91,4 @@ pub trait Machine: Drop {
     fn result(self) -> SimLog
         requires { left self ≡ 0 }
         ensures { result ≡ plays self };
-
-    /// The log of accepted inputs is regular for their application.
-    ghost regular: { (inputs : Inputs) → AreAccepted inputs → 1 ≤ inputs.cycles
-        → IsRegular inputs.app (outcome inputs) };
 }

@@ -27,7 +27,6 @@ pub mod Played
 pub mod Preparing
 pub mod ReadyChannels
 pub mod ReadySound
-pub mod RegularRuns
 pub mod Replaced
 pub mod RowFilters
 pub mod RunningCycles

@@ -1,35 +1,39 @@
 -- What a cycle brings, read off the rows between two places, and the components that it makes ready.
-use Rattle.std.proofs.Common.{◌≡◌, ◌≤◌, ◌<◌, ◌+◌, ◌==◌, ◌++◌, ◌∙◌, ◌-◌, ℕ, zero, List, [], ◌∷◌, ap}
-use Rattle.std.proofs.Common.{arith, drop}
-use Rattle.std.proofs.Common.{filter, fold, get_or, inl, inr, length, map, nat_lt, refl, subst, sym}
-use Rattle.std.proofs.Common.{take}
-use Rattle.std.proofs.Common.{cond, suc}
-use Rattle.std.specs.Prelude.{All, slice_range}
-use Rattle.std.specs.List.{slice_index_or, zip}
+use Rattle.std.proofs.Common.{◌≡◌, ◌≤◌, ◌<◌, ◌+◌, ◌==◌, ◌++◌, ◌∙◌, ◌-◌, ◌^◌, ℕ, zero, List, [], ◌∷◌}
+use Rattle.std.proofs.Common.{ap, arith, cond, drop, filter, fold, get_or, inl, inr, length, map}
+use Rattle.std.proofs.Common.{nat_lt, refl, subst, suc, sym, take}
+use Rattle.std.specs.Prelude.{All, slice_range, vec_capacity}
+use Rattle.std.specs.List.{zip}
 use Rattle.std.specs.List.Sorted.{IsNonDecreasing, IsNonDecreasingBy}
 use Rattle.std.proofs.lemmas.Bool.{cases_Bool}
 use Rattle.std.proofs.lemmas.Bool.Decides.{nat_tests}
-use Rattle.std.proofs.lemmas.List.{get_or-map, length-map, take-append-le, take-map, take_all}
-use Rattle.std.proofs.lemmas.List.Elements.{All-drop, All-take}
+use Rattle.std.proofs.lemmas.List.{get_or-map, length-append, length-map, take-map}
+use Rattle.std.proofs.lemmas.List.Elements.{All-drop, All-filter, All-take, All-weaker}
 use Rattle.std.proofs.lemmas.List.Sums.{sum_by-append}
 use Rattle.std.proofs.lemmas.Slice.Zip.{firsts-zip, seconds-zip}
 use Rattle.aeth_trace.specs.Channels.{channel_number}
+use Rattle.aeth_report.specs.Log.{LogData}
 use Rattle.aeth_components.specs.Components.{ComponentsState, Cycle, frames_of}
 use Rattle.aeth_components.specs.Events.{IsDoable}
+use Rattle.aeth_components.specs.Frames.{frame_of}
+use Rattle.aeth_components.specs.Lanes.{IsLane}
 use Rattle.aeth_components.specs.declared.event.Event.{Event}
-use Rattle.aeth_components.specs.declared.lane.Lane.{Lane}
 use Rattle.aeth_schedule.specs.declared.going.Going.{Going}
 use Rattle.aeth_events.specs.Events.{events_in}
-use Rattle.aeth_running.specs.Network.{NetworkState, accepted_with, gone_with, goings_in}
-use Rattle.aeth_running.specs.Network.{offers_in, outside_in, ready_in, takes_in}
-use Rattle.aeth_stimuli.specs.Loaded.{no_lane}
-use Rattle.aeth_running.specs.Network.{taking_with, untils_in}
-use Rattle.aeth_stimuli.specs.Stimuli.{Offer, Take}
-use Rattle.aeth_sim.specs.Cursors.{AreCursors, IsBehind, IsNetwork, passed}
-use Rattle.aeth_sim.specs.Fits.{AreFit, is_accepted}
+use Rattle.aeth_running.specs.Network.{NetworkState, gone_with, goings_in, offers_in, ready_in}
+use Rattle.aeth_running.specs.Network.{stepped, takes_in, untils_in}
+use Rattle.aeth_stimuli.specs.Stimuli.{Offer, Stimuli, Take}
+use Rattle.aeth_sim.specs.Behind.{IsBehind, passed}
+use Rattle.aeth_sim.specs.Brought.{CanBring, IsBrought}
+use Rattle.aeth_sim.specs.Cursors.{AreInOrder}
+use Rattle.aeth_sim.specs.Fits.{AreFit, HaveCounts, is_accepted}
+use Rattle.aeth_sim.specs.Networks.{IsNetwork, network_of}
+use Rattle.aeth_sim.specs.declared.given.CycleRows.{CycleRows}
+use Rattle.aeth_sim.specs.declared.state.State.{State}
 use Rattle.aeth_sim.proofs.FitLemmas.{AreFit-all_gone}
-use Rattle.aeth_sim.proofs.Passed.{passed-range}
-use Rattle.aeth_sim.proofs.Stepping.{All-passing, behind, coming-are, ways-are}
+use Rattle.aeth_sim.proofs.Passed.{passed-few, passed-range}
+use Rattle.aeth_sim.proofs.Stepping.{All-passing, IsNetwork-behind, behind, behind-is, coming-are}
+use Rattle.aeth_sim.proofs.Stepping.{goings-are, length-in, ways-are}
 
 -- The rows of a cycle, between the places of the first and behind the last.
 pub rows-behind : {X : Type 0} (key : X → ℕ) (t : ℕ) (all seen now : List X) (from to : ℕ)
@@ -86,116 +90,16 @@ events-range t cycles events size rises =
     (ap (λ (list : List Event). slice_range list from to) (sym seconds)
     ∙ part ∙ ap (map own) (passed-range at t both rising))
 
--- Components that are given what a cycle brings are ready.
-pub ready-from : (old : NetworkState) (started offered taken : ComponentsState) (untils : List ℕ)
-    (goings : List Going) (offers : List Offer) (takes : List Take)
-    → goings ≡ goings_in old.stimuli old.time → offers ≡ offers_in old.stimuli old.time
-    → takes ≡ takes_in old.stimuli old.time
-    → started ≡ record old.components { lanes = fold gone_with old.components.lanes goings }
-    → untils ≡ untils_in old.stimuli old.time old.untils
-    → offered ≡ record started {
-      lanes = fold (accepted_with old.time untils) started.lanes offers;
-    }
-    → taken ≡ record offered { lanes = fold taking_with offered.lanes takes }
-    → taken ≡ ready_in old
-ready-from old started offered taken untils goings offers takes goings_are offers_are takes_are
-    started_is untils_are offered_is taken_is =
-    rw (taken_is, offered_is, started_is, goings_are, offers_are, takes_are, untils_are) refl
-
-module _ (capacity : ℕ) (old : NetworkState) (is : IsNetwork capacity old) where
-  -- The words of a cycle are for channels that there are.
-  pub offers-known : (rows : List Offer) (n : ℕ) → rows ≡ offers_in old.stimuli old.time
-      → n ≡ length old.components.lanes → All (λ one. one.number < n) rows
-  offers-known rows n are size =
-      rw are (All-passing (λ (one : Offer). one.number < length old.components.lanes)
-      (λ (one : Offer). one.number < n) (λ (one : Offer). one.cycle == old.time)
-      old.stimuli.offers (λ one now within. omega arith) is.stimuli.offers)
-
-  pub offers-now : (rows : List Offer) → rows ≡ offers_in old.stimuli old.time
-      → All (λ one. one.cycle ≡ old.time) rows
-  offers-now rows are =
-      rw are (All-passing (λ (one : Offer). Unit {0}) (λ (one : Offer). one.cycle ≡ old.time)
-      (λ (one : Offer). one.cycle == old.time) old.stimuli.offers
-      (λ one now any. grind (arith, nat_tests)) (λ k d within. tt))
-
-  pub takes-known : (rows : List Take) (n : ℕ) → rows ≡ takes_in old.stimuli old.time
-      → n ≡ length old.components.lanes → All (λ one. one.number < n) rows
-  takes-known rows n are size =
-      rw are (All-passing (λ (one : Take). one.number < length old.components.lanes)
-      (λ (one : Take). one.number < n) (λ (one : Take). one.cycle == old.time)
-      old.stimuli.takes (λ one now within. omega arith) is.stimuli.takes)
-
-  -- The words of a cycle have room, once its sessions have gone.
-  pub AreFit-started : (rows : List Offer) (untils : List ℕ) (started : ComponentsState)
-      → rows ≡ offers_in old.stimuli old.time → untils ≡ untils_in old.stimuli old.time old.untils
-      → started ≡ record old.components {
-        lanes = fold gone_with old.components.lanes (goings_in old.stimuli old.time);
-      }
-      → AreFit (length started.words) (length started.parts) untils rows started.lanes
-  AreFit-started rows untils started rows_are untils_are started_is =
-      let words = length old.components.words in
-      let parts = length old.components.parts in
-      let t = old.time in
-      let offers = old.stimuli.offers in
-      let goings = goings_in old.stimuli t in
-      let gone = fold gone_with old.components.lanes goings in
-      let now = untils_in old.stimuli t old.untils in
-      let later = drop (passed (λ (one : Offer). one.cycle) (t + 1) offers) offers in
-      let all : AreFit words parts now (offers_in old.stimuli t ++ later) gone =
-      subst (λ (list : List Offer). AreFit words parts now list gone) (coming-are capacity old is)
-      (AreFit-all_gone words parts old.untils
-      (drop (passed (λ (one : Offer). one.cycle) t offers) offers) old.components.lanes goings
-      is.untils (ways-are capacity old is) is.fit) in
-      rw (rows_are, untils_are, started_is) (λ k lane at.
-      let one = all k lane at in
-      let room = one.room in
-      let both = sum_by-append (λ (offer : Offer). cond (is_accepted now k offer) 1 0)
-      (offers_in old.stimuli t) later in
-      record { sound = one.sound; room = omega arith })
-
-  -- The components can do the events of a cycle.
-  pub events-doable : (events : List Event) (from to : ℕ) (taken : ComponentsState)
-      → events ≡ slice_range old.stimuli.schedule.events from to → taken ≡ ready_in old
-      → All (IsDoable (frames_of taken)) events
-  events-doable events from to taken are ready =
-      rw (are, ready) (All-take (IsDoable (frames_of old.components)) (to - from)
-      (drop from old.stimuli.schedule.events)
-      (All-drop (IsDoable (frames_of old.components)) from old.stimuli.schedule.events
-      is.stimuli.events))
-
-  -- The network behind a cycle of its components.
-  module _ (new : ComponentsState)
-      (did : Cycle (events_in old.stimuli old.time) old.time (ready_in old) new) where
-    pub same-behind : (untils outside : List ℕ) (replaced : List Lane)
-        → untils ≡ untils_in old.stimuli old.time old.untils
-        → outside ≡ outside_in old.stimuli old.time
-        (untils_in old.stimuli old.time old.untils) old.outside
-        → replaced ≡ old.replaced
-        ++ map (λ one. slice_index_or old.components.lanes (channel_number one.channel) no_lane)
-        (goings_in old.stimuli old.time)
-        → record old {
-          components = new;
-          untils = untils;
-          outside = outside;
-          replaced = replaced;
-          time = old.time + 1;
-        } ≡ behind capacity old is new did
-    same-behind untils outside replaced untils_are outside_are replaced_are =
-        rw (untils_are, outside_are, replaced_are) refl
-
-    -- Its places are those behind the rows of the cycle.
-    pub cursors-behind : (event going offer take : ℕ)
-        → event ≡ passed (λ cycle. cycle) (old.time + 1) old.stimuli.schedule.cycles
-        → going ≡ passed (λ one. one.lane.go) (old.time + 1) old.stimuli.schedule.goings
-        → offer ≡ passed (λ one. one.cycle) (old.time + 1) old.stimuli.offers
-        → take ≡ passed (λ one. one.cycle) (old.time + 1) old.stimuli.takes
-        → AreCursors event going offer take (behind capacity old is new did)
-    cursors-behind event going offer take event_is going_is offer_is take_is = record {
-      event_is = event_is;
-      going_is = going_is;
-      offer_is = offer_is;
-      take_is = take_is;
-    }
+-- What is given comes in order.
+pub in-order : (capacity : ℕ) (all : NetworkState) → IsNetwork capacity all
+    → AreInOrder all.stimuli
+in-order capacity all is = record {
+  event_cycles = is.stimuli.event_cycles;
+  events = is.stimuli.event_order;
+  goings = is.stimuli.going_order;
+  offers = is.stimuli.offer_order;
+  takes = is.stimuli.take_order;
+}
 
 -- More room is enough too.
 pub IsNetwork-more : (capacity more : ℕ) (all : NetworkState) → capacity ≤ more
@@ -205,6 +109,7 @@ IsNetwork-more capacity more all le is =
     record {
       stimuli = is.stimuli;
       components = is.components;
+      some_parts = is.some_parts;
       untils = is.untils;
       outside = is.outside;
       channels = is.channels;
@@ -222,9 +127,130 @@ IsNetwork-more capacity more all le is =
       cycles = is.cycles;
     }
 
--- A vector whose items are written over by as many has these.
-pub written_back : {X : Type 0} (old new : List X) (count : ℕ) → count ≡ length old
-    → length new ≡ length old → take count (new ++ drop (length new) old) ≡ new
-written_back old new count size same =
-    take-append-le count new (drop (length new) old) (omega arith)
-    ∙ take_all count new (omega arith)
+module _ (stimuli : Stimuli) (state : State) (log : LogData) (time : ℕ)
+    (is : IsNetwork (vec_capacity state.replaced) (network_of stimuli state log time))
+    (rows : CycleRows) (goings : rows.goings.now ≡ goings_in stimuli time)
+    (offers : rows.offers.now ≡ offers_in stimuli time)
+    (takes : rows.takes.now ≡ takes_in stimuli time) where
+  abbrev old : NetworkState
+  old = network_of stimuli state log time
+
+  -- The words of a cycle have room, once its sessions have gone.
+  fit-started : AreFit (length state.components.words) (length state.components.parts)
+      (untils_in stimuli time state.untils.items) (offers_in stimuli time)
+      (fold gone_with state.components.lanes (goings_in stimuli time))
+  fit-started =
+      let words = length state.components.words in
+      let parts = length state.components.parts in
+      let gone = fold gone_with state.components.lanes (goings_in stimuli time) in
+      let now = untils_in stimuli time state.untils.items in
+      let key = λ (one : Offer). one.cycle in
+      let later = drop (passed key (time + 1) stimuli.offers) stimuli.offers in
+      let all : AreFit words parts now (offers_in stimuli time ++ later) gone =
+      subst (λ (list : List Offer). AreFit words parts now list gone)
+      (coming-are (vec_capacity state.replaced) old is)
+      (AreFit-all_gone words parts state.untils.items
+      (drop (passed key time stimuli.offers) stimuli.offers) state.components.lanes
+      (goings_in stimuli time) is.untils (ways-are (vec_capacity state.replaced) old is) is.fit) in
+      λ k lane at.
+      let one = all k lane at in
+      let room = one.room in
+      let both = sum_by-append (λ (offer : Offer). cond (is_accepted now k offer) 1 0)
+      (offers_in stimuli time) later in
+      record { sound = one.sound; room = omega arith }
+
+  -- They can be counted.
+  counts-now : HaveCounts (offers_in stimuli time) state.outside.items
+  counts-now =
+      let later = drop (passed (λ (one : Offer). one.cycle) (time + 1) stimuli.offers)
+      stimuli.offers in
+      let size = length-append (offers_in stimuli time) later in
+      All-weaker (λ n. n + length (offers_in stimuli time ++ later) < 2 ^ 32)
+      (λ n. n + length (offers_in stimuli time) < 2 ^ 32) (λ n few. omega arith)
+      state.outside.items
+      (subst (λ (list : List Offer). HaveCounts list state.outside.items)
+      (coming-are (vec_capacity state.replaced) old is) is.counts)
+
+  -- There is room to note the channels whose sessions go.
+  room-left : length state.replaced.items + length (goings_in stimuli time)
+      ≤ vec_capacity state.replaced
+  room-left =
+      let key = λ (one : Going). one.lane.go in
+      let more = length-in key time stimuli.schedule.goings (goings_in stimuli time)
+      (goings-are (vec_capacity state.replaced) old is) in
+      let few = passed-few key (time + 1) stimuli.schedule.goings in
+      let gone = is.gone in
+      let enough = is.enough in
+      omega arith
+
+  -- A cycle can be brought.
+  pub can-bring : CanBring state rows time
+  can-bring =
+      let lanes = length state.components.lanes in
+      let words = length state.components.words in
+      let parts = length state.components.parts in
+      let goes = λ (one : Going). one.lane.go == time in
+      let size : length (frames_of state.components) ≡ parts =
+      length-map state.components.parts frame_of in
+      record {
+        few_channels = is.few_channels;
+        few_words = is.few_words;
+        untils = is.untils;
+        outside = is.outside;
+        room = rw goings room-left;
+        goings = rw goings (All-filter goes (λ (one : Going). channel_number one.channel < lanes)
+            stimuli.schedule.goings is.stimuli.goings);
+        lanes = rw goings (All-passing
+            (λ (one : Going). IsLane words (length (frames_of state.components)) one.lane)
+            (λ (one : Going). IsLane words parts one.lane) goes stimuli.schedule.goings
+            (λ one now sound. subst (λ n. IsLane words n one.lane) size sound) is.stimuli.lanes);
+        offers = rw offers (All-filter (λ (one : Offer). one.cycle == time)
+            (λ (one : Offer). one.number < lanes) stimuli.offers is.stimuli.offers);
+        now = rw offers (All-passing (λ (one : Offer). Unit {0})
+            (λ (one : Offer). one.cycle ≡ time) (λ (one : Offer). one.cycle == time)
+            stimuli.offers (λ one now any. grind (arith, nat_tests)) (λ k d within. tt));
+        fit = rw (goings, offers) fit-started;
+        counts = rw offers counts-now;
+        takes = rw takes (All-filter (λ (one : Take). one.cycle == time)
+            (λ (one : Take). one.number < lanes) stimuli.takes is.stimuli.takes);
+      }
+
+  -- It was brought, and the components do its events.
+  module _ (brought : State) (has : IsBrought rows time state brought)
+      (events : rows.events.now ≡ events_in stimuli time) where
+    pub ready : brought.components ≡ ready_in old
+    ready = rw (has.components, has.untils, goings, offers, takes) refl
+
+    pub events-doable : All (IsDoable (frames_of brought.components)) rows.events.now
+    events-doable =
+        let frames = frames_of state.components in
+        let all = stimuli.schedule.events in
+        let from = passed (λ (cycle : ℕ). cycle) time stimuli.schedule.cycles in
+        let to = passed (λ (cycle : ℕ). cycle) (time + 1) stimuli.schedule.cycles in
+        rw (events, ready) (subst (All (IsDoable frames)) (events-range time
+        stimuli.schedule.cycles all is.stimuli.event_cycles is.stimuli.event_order)
+        (All-take (IsDoable frames) (to - from) (drop from all)
+        (All-drop (IsDoable frames) from all is.stimuli.events)))
+
+    module _ (new : ComponentsState) (did : Cycle rows.events.now time brought.components new) where
+      done : Cycle (events_in stimuli time) time (ready_in old) new
+      done =
+          subst (λ (list : List Event). Cycle list time (ready_in old) new) events
+          (subst (λ (all : ComponentsState). Cycle rows.events.now time all new) ready did)
+
+      -- The network behind it.
+      abbrev pub after : NetworkState
+      after = network_of stimuli (record brought { components = new }) log (time + 1)
+
+      same : after ≡ behind (vec_capacity state.replaced) old is new done
+      same = rw (has.outside, has.untils, has.replaced, goings, offers) refl
+
+      pub network-behind : IsNetwork (vec_capacity brought.replaced) after
+      network-behind =
+          subst (IsNetwork (vec_capacity brought.replaced)) (sym same)
+          (IsNetwork-more (vec_capacity state.replaced) (vec_capacity brought.replaced)
+          (behind (vec_capacity state.replaced) old is new done) has.capacity
+          (IsNetwork-behind (vec_capacity state.replaced) old is new done))
+
+      pub stepped-behind : after ≡ stepped old
+      stepped-behind = same ∙ behind-is (vec_capacity state.replaced) old is new done

@@ -35,8 +35,13 @@ use Rattle.aeth_schedule.specs.declared.going.Going.{Going}
 use Rattle.aeth_running.specs.FirstLog.{first_channel, first_log}
 use Rattle.aeth_running.specs.Network.{first_network}
 use Rattle.aeth_stimuli.specs.Loaded.{loaded_components, no_lane}
-use Rattle.aeth_stimuli.specs.Stimuli.{AreStimuli, Offer, Take, offer_of, stimuli_of, take_of}
-use Rattle.aeth_sim.specs.Cursors.{AreCursors, IsNetwork, passed, state_of}
+use Rattle.aeth_stimuli.specs.Stimuli.{AreStimuli, Offer, Stimuli, Take, offer_of, stimuli_of}
+use Rattle.aeth_sim.specs.Behind.{passed}
+use Rattle.aeth_sim.specs.Cursors.{AreCursors}
+use Rattle.aeth_sim.specs.First.{IsFirstState}
+use Rattle.aeth_sim.specs.Networks.{IsNetwork, network_of}
+use Rattle.aeth_sim.specs.declared.given.Cursors.{Cursors}
+use Rattle.aeth_sim.specs.declared.state.State.{State}
 use Rattle.aeth_sim.specs.Records.{IsFresh}
 use Rattle.aeth_sim.proofs.FirstComponents.{AreFit-none, HaveCounts-none, IsComponents-loaded}
 use Rattle.aeth_sim.proofs.FirstComponents.{few-parts, loaded-frames, loaded-size}
@@ -127,6 +132,7 @@ module _ (inputs : Inputs) (accepted : AreAccepted inputs)
         stimuli = subst (λ n. AreStimuli n (length values) (frames_of components) all) (sym lanes)
             stimuli;
         components = IsComponents-loaded chip is_chip rooms channels values events;
+        some_parts = some;
         untils = omega arith;
         outside = omega arith;
         channels = omega arith;
@@ -147,17 +153,15 @@ module _ (inputs : Inputs) (accepted : AreAccepted inputs)
         cycles = accepted.cycles;
       }
 
-  -- All places are the first.
-  pub AreCursors-first : AreCursors 0 0 0 0 (first_network inputs)
-  unfolding first_network
-  AreCursors-first =
-      let all = stimuli_of inputs in
-      record {
-        event_is = sym (passed-first (λ (cycle : ℕ). cycle) all.schedule.cycles);
-        going_is = sym (passed-first (λ (one : Going). one.lane.go) all.schedule.goings);
-        offer_is = sym (passed-first (λ (one : Offer). one.cycle) all.offers);
-        take_is = sym (passed-first (λ (one : Take). one.cycle) all.takes);
-      }
+-- All places are the first.
+pub AreCursors-first : (cursors : Cursors) (all : Stimuli) → cursors.event ≡ 0 → cursors.going ≡ 0
+    → cursors.offer ≡ 0 → cursors.take ≡ 0 → AreCursors cursors 0 all
+AreCursors-first cursors all event going offer take = record {
+  event_is = event ∙ sym (passed-first (λ (cycle : ℕ). cycle) all.schedule.cycles);
+  going_is = going ∙ sym (passed-first (λ (one : Going). one.lane.go) all.schedule.goings);
+  offer_is = offer ∙ sym (passed-first (λ (one : Offer). one.cycle) all.offers);
+  take_is = take ∙ sym (passed-first (λ (one : Take). one.cycle) all.takes);
+}
 
 -- There is a room for each queue of each interface.
 pub rooms-count : (inputs : Inputs)
@@ -178,18 +182,9 @@ loaded-doable inputs accepted all =
     (values_of inputs.words (length inputs.app.connections)) (loaded_of inputs)) all
 
 -- The network of inputs, part by part.
-pub first-from : (inputs : Inputs) (schedule : ScheduleData) (offers : List Offer)
-    (takes : List Take) (components : ComponentsState) (untils outside : List ℕ)
-    (replaced : List Lane) (log : LogData) → schedule ≡ schedule_of inputs
-    → offers ≡ map offer_of (filter (λ row. nat_lt row.cycle inputs.cycles) inputs.words)
-    → takes ≡ map take_of (filter (λ row. nat_lt row.cycle inputs.cycles) inputs.pulls)
-    → components ≡ loaded_components inputs
-    → untils ≡ replicate (2 * length inputs.app.connections) 0
-    → outside ≡ replicate (2 * length inputs.app.connections) 0 → replaced ≡ []
-    → log ≡ first_log inputs
-    → state_of schedule offers takes components untils outside replaced log 0 ≡ first_network inputs
+pub first-from : (inputs : Inputs) (stimuli : Stimuli) (state : State) (log : LogData)
+    → stimuli ≡ stimuli_of inputs → IsFirstState inputs state → log ≡ first_log inputs
+    → network_of stimuli state log 0 ≡ first_network inputs
 unfolding first_network
-first-from inputs schedule offers takes components untils outside replaced log schedule_is offers_are
-    takes_are components_are untils_are outside_are none log_is =
-    rw (schedule_is, offers_are, takes_are, components_are, untils_are, outside_are, none, log_is)
-    refl
+first-from inputs stimuli state log given first log_is =
+    rw (given, first.components, first.untils, first.outside, first.replaced, log_is) refl

@@ -13,5 +13,6 @@ mod Passed
 mod Playing
 mod Replaced
 mod RowLemmas
+mod RunWires
 mod Stepping
 mod TellingLemmas

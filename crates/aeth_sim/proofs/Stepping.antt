@@ -23,7 +23,8 @@ use Rattle.aeth_running.specs.Network.{offers_in, outside_in, ready_in}
 use Rattle.aeth_stimuli.specs.Loaded.{no_lane}
 use Rattle.aeth_running.specs.Network.{stepped, takes_in, untils_in}
 use Rattle.aeth_stimuli.specs.Stimuli.{AreStimuli, Offer, is_offered_in, is_over}
-use Rattle.aeth_sim.specs.Cursors.{IsNetwork, passed}
+use Rattle.aeth_sim.specs.Behind.{passed}
+use Rattle.aeth_sim.specs.Networks.{IsNetwork}
 use Rattle.aeth_sim.specs.Fits.{AreFit, HaveCounts}
 use Rattle.aeth_sim.proofs.CycleLemmas.{All-fit, AreFit-Cycle, Cycle-is, IsComponents-Cycle}
 use Rattle.aeth_sim.proofs.FitLemmas.{AreFit-all_gone, AreFit-offered, AreFit-taking, HasWay}
@@ -242,6 +243,7 @@ module _ (capacity : ℕ) (old : NetworkState) (is : IsNetwork capacity old) whe
         let few_channels = is.few_channels in
         let few_words = is.few_words in
         let few_parts = is.few_parts in
+        let some_parts = is.some_parts in
         let gone = is.gone in
         let until_count = length-untils goings old.untils in
         let outside_count = length-all_outside t untils (offers_in all t) old.outside in
@@ -261,6 +263,7 @@ module _ (capacity : ℕ) (old : NetworkState) (is : IsNetwork capacity old) whe
           components = IsComponents-Cycle (events_in all t) t (ready_in old) new did
               IsComponents-ready (All-fit (length old.components.words)
               (length old.components.parts) untils (drop to offers) new.lanes fit);
+          some_parts = omega arith;
           untils = omega arith;
           outside = omega arith;
           channels = omega arith;

@@ -30,17 +30,17 @@ pub(crate) fn note(replaced: &mut Vec<Lane>, lanes: &[Lane], goings: &[Going])
 }
 
 // Starts sessions on their channels.
-pub(crate) fn start(components: &mut Components, untils: &mut [u32], goings: &[Going])
+pub(crate) fn start(components: &mut Components, untils: &mut Vec<u32>, goings: &[Going])
     requires goings { All (λ one. channel_number one.channel < length components.old.lanes)
         goings.now }
     requires few { length components.old.lanes ≤ 2 * max_connections }
-    requires untils { length untils.old ≡ length components.old.lanes }
+    requires untils { length untils.old.items ≡ length components.old.lanes }
     requires lanes { All (λ one. IsLane (length components.old.words)
         (length components.old.parts) one.lane) goings.now }
     ensures components { components.new ≡ record components.old {
       lanes = fold gone_with components.old.lanes goings.now;
     } }
-    ensures untils { untils.new ≡ fold until_with untils.old goings.now }
+    ensures untils { untils.new.items ≡ fold until_with untils.old.items goings.now }
 {
     for going in goings {
         start_one(components, untils, going);
@@ -48,16 +48,16 @@ pub(crate) fn start(components: &mut Components, untils: &mut [u32], goings: &[G
 }
 
 // Starts a session on its channel, whose receiver takes as before.
-fn start_one(components: &mut Components, untils: &mut [u32], going: &Going)
+fn start_one(components: &mut Components, untils: &mut Vec<u32>, going: &Going)
     requires going { channel_number going.now.channel < length components.old.lanes }
     requires few { length components.old.lanes ≤ 2 * max_connections }
-    requires untils { length untils.old ≡ length components.old.lanes }
+    requires untils { length untils.old.items ≡ length components.old.lanes }
     requires lane { IsLane (length components.old.words) (length components.old.parts)
         going.now.lane }
     ensures components { components.new ≡ record components.old {
       lanes = gone_with components.old.lanes going.now;
     } }
-    ensures untils { untils.new ≡ until_with untils.old going.now }
+    ensures untils { untils.new.items ≡ until_with untils.old.items going.now }
 {
     let number = number_of(going.channel) as usize;
     let mut lane = going.lane;
@@ -70,22 +70,23 @@ fn start_one(components: &mut Components, untils: &mut [u32], going: &Going)
 pub(crate) fn offer(
     components: &mut Components,
     untils: &[u32],
-    outside: &mut [u32],
+    outside: &mut Vec<u32>,
     offers: &[Offered],
     time: u32,
 )
     requires offers { All (λ one. one.number < length components.old.lanes) offers.now }
     requires time { All (λ one. one.cycle ≡ time) offers.now }
     requires untils { length untils.now ≡ length components.old.lanes }
-    requires outside { length outside.old ≡ length components.old.lanes }
+    requires outside { length outside.old.items ≡ length components.old.lanes }
     requires fit { AreFit (length components.old.words) (length components.old.parts)
         untils.now offers.now components.old.lanes }
-    requires counts { HaveCounts offers.now outside.old }
+    requires counts { HaveCounts offers.now outside.old.items }
     requires words { length components.old.words < 2 ^ 32 }
     ensures components { components.new ≡ record components.old {
       lanes = fold (accepted_with time untils.now) components.old.lanes offers.now;
     } }
-    ensures outside { outside.new ≡ fold (outside_with time untils.now) outside.old offers.now }
+    ensures outside { outside.new.items
+        ≡ fold (outside_with time untils.now) outside.old.items offers.now }
 {
     for one in offers {
         offer_one(components, untils, outside, one, time);
@@ -96,22 +97,22 @@ pub(crate) fn offer(
 fn offer_one(
     components: &mut Components,
     untils: &[u32],
-    outside: &mut [u32],
+    outside: &mut Vec<u32>,
     offer: &Offered,
     time: u32,
 )
     requires offer { offer.now.number < length components.old.lanes }
     requires time { offer.now.cycle ≡ time }
     requires untils { length untils.now ≡ length components.old.lanes }
-    requires outside { length outside.old ≡ length components.old.lanes }
+    requires outside { length outside.old.items ≡ length components.old.lanes }
     requires fit { AreFit (length components.old.words) (length components.old.parts)
         untils.now (offer.now ∷ []) components.old.lanes }
-    requires counts { HaveCounts (offer.now ∷ []) outside.old }
+    requires counts { HaveCounts (offer.now ∷ []) outside.old.items }
     requires words { length components.old.words < 2 ^ 32 }
     ensures components { components.new ≡ record components.old {
       lanes = accepted_with time untils.now components.old.lanes offer.now;
     } }
-    ensures outside { outside.new ≡ outside_with time untils.now outside.old offer.now }
+    ensures outside { outside.new.items ≡ outside_with time untils.now outside.old.items offer.now }
 {
     let number = offer.number as usize;
     if time < untils[number] {

@@ -1,12 +1,14 @@
 //! A network, cycle by cycle, and the log of its run.
 #![tactic(auto)]
 
+mod given;
 mod giving;
 mod logging;
 mod machine;
 mod network;
 mod places;
 mod rows;
+mod state;
 mod telling;
 
 pub use network::{Network, simulate};

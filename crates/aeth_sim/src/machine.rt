@@ -5,7 +5,6 @@ ghost use Rattle.aeth_accepted.specs.Inputs.{run_of};
 ghost use Rattle.aeth_report.specs.RunLog.{log_of};
 ghost use Rattle.aeth_running.specs.Network.{played};
 ghost use Rattle.aeth_running.specs.Told.{told};
-ghost use Rattle.aeth_running.proofs.RegularRuns.{runs_are_regular};
 
 use crate::network::{Network, simulate};
 use aeth_app::App;
@@ -27,6 +26,10 @@ impl Machine for Network {
     ghost left = { λ m. m.log.cycles - m.time };
 
     ghost count = { λ m. length m.components.parts };
+
+    fn regular() {
+        aeth_accepted::laws::links_carry_one();
+    }
 
     fn make(
         alloc: Global,
@@ -56,6 +59,4 @@ impl Machine for Network {
     fn result(self) -> SimLog {
         self.log()
     }
-
-    ghost regular = { λ inputs accepted some. runs_are_regular inputs accepted };
 }

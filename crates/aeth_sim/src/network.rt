@@ -1,77 +1,58 @@
 // A network and its run.
 
-ghost use Rattle.std.specs.Prelude.{◌≡◌, ◌≤◌, ◌<◌, ◌-◌, ◌*◌, ◌+◌, All, IfOk, length, map, replicate};
-ghost use Rattle.aeth_app.specs.Limits.{max_connections};
+ghost use Rattle.std.specs.Prelude.{◌≡◌, ◌<◌, ◌-◌, IfOk, length};
 ghost use Rattle.aeth_group.specs.Members.{groups_of};
-ghost use Rattle.aeth_ni.specs.Limits.{queues_of_interface};
-ghost use Rattle.aeth_components.specs.Changes.{switched};
-ghost use Rattle.aeth_components.specs.Components.{first_components};
-ghost use Rattle.aeth_components.specs.Events.{IsDoable};
-ghost use Rattle.aeth_components.specs.Frames.{frame_of};
-ghost use Rattle.aeth_components.specs.Making.{new_parts};
-ghost use Rattle.aeth_accepted.specs.Inputs.{AreAccepted};
-ghost use Rattle.aeth_schedule.specs.Values.{values_of};
+ghost use Rattle.aeth_report.specs.RunLog.{log_of};
+ghost use Rattle.aeth_accepted.specs.Inputs.{AreAccepted, Inputs, run_of};
+ghost use Rattle.aeth_stimuli.specs.Stimuli.{stimuli_of};
 ghost use Rattle.aeth_running.specs.Network.{first_network, played, stepped};
-ghost use Rattle.aeth_stimuli.specs.Loaded.{no_lane};
 ghost use Rattle.aeth_running.specs.Told.{told};
+ghost use Rattle.aeth_sim.specs.Cursors.{stimuli_with};
+ghost use Rattle.aeth_sim.specs.First.{IsFirstState};
+ghost use Rattle.aeth_sim.specs.Runs.{AreWiresOf, IsNetworkOf};
 
-use crate::giving::{note, offer, start, take};
+use crate::given::{Cursors, Given};
 use crate::logging::first_log;
-use crate::places::{behind_events, behind_goings, behind_offers, behind_takes};
-use crate::rows::{Offered, Taking, offers_of, takes_of};
+use crate::state::{State, run};
 use crate::telling::tell;
+use aeth_accepted::RunInputs;
 use aeth_app::App;
-use aeth_base::{NiId, NoMemory};
+use aeth_base::NoMemory;
 use aeth_chip::Chip;
 use aeth_clocked::{Order, Wires};
-use aeth_components::{ChannelEnd, Components, Lane};
 use aeth_group::Groups;
 use aeth_plan::Plan;
 use aeth_report::SimLog;
-use aeth_schedule::{Schedule, values};
 use aeth_trace::{Receivers, Switches, Words};
 use std::alloc::Global;
 use std::marker::Model;
-
-// What a receiver takes in a cycle at most where no row says it.
-const USUAL_PULL: u32 = 2;
 
 /// A network with what its run is given: its components, how its channels stood before each session
 /// that has gone, and the log, of which nothing has landed. It is seen without the places that it
 /// has come to in what it is given.
 #[derive(Drop)]
 pub struct Network {
-    schedule: Schedule,
-    offers: Vec<Offered>,
-    takes: Vec<Taking>,
-    components: Components,
-    untils: Vec<u32>,
-    outside: Vec<u32>,
-    replaced: Vec<Lane>,
+    given: Given,
+    cursors: Cursors,
+    state: State,
     log: SimLog,
     time: u32,
-    event: usize,
-    going: usize,
-    offer: usize,
-    take: usize,
 }
 
 impl Model for Network {
     ghost use Rattle.std.specs.Prelude.{vec_capacity};
     ghost use Rattle.aeth_running.specs.Network.{NetworkState};
-    ghost use Rattle.aeth_sim.specs.Cursors.{AreCursors, IsNetwork, state_of};
+    ghost use Rattle.aeth_sim.specs.Cursors.{AreCursors, stimuli_with};
+    ghost use Rattle.aeth_sim.specs.Networks.{IsNetwork, network_of};
 
     ghost Value = { NetworkState };
 
-    ghost view = { λ all. state_of all.schedule all.offers.items all.takes.items all.components
-        all.untils.items all.outside.items all.replaced.items all.log all.time };
+    ghost view = { λ all. network_of (stimuli_with all.given) all.state all.log
+        all.time };
 
-    ghost invariant = { λ all. IsNetwork (vec_capacity all.replaced) (state_of all.schedule
-        all.offers.items all.takes.items all.components all.untils.items all.outside.items
-        all.replaced.items all.log all.time)
-        × AreCursors all.event all.going all.offer all.take (state_of all.schedule
-        all.offers.items all.takes.items all.components all.untils.items all.outside.items
-        all.replaced.items all.log all.time) };
+    ghost invariant = { λ all. IsNetwork (vec_capacity all.state.replaced)
+        (network_of (stimuli_with all.given) all.state all.log all.time)
+        × AreCursors all.cursors all.time (stimuli_with all.given) };
 }
 
 impl Network {
@@ -99,7 +80,16 @@ impl Network {
           switches = switches.now;
           cycles = cycles;
         }) }
-        ensures { IfOk result (λ network. network ≡ first_network (record {
+        ensures first { IfOk result (λ network. network ≡ first_network (record {
+          chip = chip.now;
+          app = app.now;
+          plan = plan.now;
+          words = words.now;
+          pulls = receivers.now;
+          switches = switches.now;
+          cycles = cycles;
+        })) }
+        ensures run { IfOk result (IsNetworkOf (record {
           chip = chip.now;
           app = app.now;
           plan = plan.now;
@@ -109,36 +99,16 @@ impl Network {
           cycles = cycles;
         })) }
     {
-        aeth_events::laws::stimuli_are_stimuli();
-        let schedule = Schedule::of(
-            alloc, chip, app, groups, plan, words, receivers, switches, cycles,
-        )?;
-        let channels = 2 * app.connections() as usize;
-        let components = loaded(alloc, chip, app, words, &schedule)?;
-        let log = first_log(alloc, chip, app, words, schedule.goings(), cycles)?;
-        let replaced = Vec::with_capacity(alloc, schedule.goings().len())?;
-        Ok(Network {
-            schedule,
-            offers: offers_of(alloc, words.rows(), cycles)?,
-            takes: takes_of(alloc, receivers.rows(), cycles)?,
-            components,
-            untils: vec![in alloc; 0; channels]?,
-            outside: vec![in alloc; 0; channels]?,
-            replaced,
-            log,
-            time: 0,
-            event: 0,
-            going: 0,
-            offer: 0,
-            take: 0,
-        })
+        let inputs = RunInputs::of(chip, app, groups, plan, words, receivers, switches, cycles);
+        first(alloc, &inputs)
     }
 
     /// The number of components.
     pub fn parts(&self) -> u32
-        ensures { result ≡ length self.now.components.parts }
+        ensures count { result ≡ length self.now.components.parts }
+        ensures some { 0 < result }
     {
-        self.components.len() as u32
+        self.state.components.len() as u32
     }
 
     /// The number of cycles that are done.
@@ -155,11 +125,16 @@ impl Network {
         self.log.cycles
     }
 
-    /// The wires, as the last cycle drove them.
+    /// The wires, as the last cycle drove them. Of a network of accepted inputs they carry what the
+    /// private servers of its run send.
     pub fn wires(&self) -> &Wires
-        ensures { result.now ≡ self.now.components.wires }
+        ensures wires { result.now ≡ self.now.components.wires }
+        ensures run { (inputs : Inputs) → IsNetworkOf inputs self.now
+            → AreWiresOf inputs self.now.time result.now }
     {
-        self.components.wires()
+        aeth_running::laws::networks_carry();
+        aeth_running::laws::networks_lose_nothing();
+        self.state.components.wires()
     }
 
     /// One more cycle of the run: sessions go, words are offered, receivers take as their rows say,
@@ -169,45 +144,31 @@ impl Network {
         requires time { self.old.time < self.old.log.cycles }
         ensures steps { self.new ≡ stepped self.old }
         ensures parts { length self.new.components.parts ≡ length self.old.components.parts }
+        ensures run { (inputs : Inputs) → IsNetworkOf inputs self.old
+            → IsNetworkOf inputs self.new }
     {
-        let event = behind_events(self.schedule.cycles(), self.event, self.time);
-        let going = behind_goings(self.schedule.goings(), self.going, self.time);
-        let offered = behind_offers(&self.offers, self.offer, self.time);
-        let taken = behind_takes(&self.takes, self.take, self.time);
-        let goings = &self.schedule.goings()[self.going..going];
-        note(&mut self.replaced, self.components.lanes(), goings);
-        start(&mut self.components, &mut self.untils, goings);
-        let offers = &self.offers[self.offer..offered];
-        offer(
-            &mut self.components,
-            &self.untils,
-            &mut self.outside,
-            offers,
-            self.time,
-        );
-        take(&mut self.components, &self.takes[self.take..taken]);
-        let first = self.event;
-        let time = self.time;
-        self.event = event;
-        self.going = going;
-        self.offer = offered;
-        self.take = taken;
+        let rows = self.given.rows(self.cursors, self.time);
+        self.state.bring(&rows, self.time);
+        run(&mut self.state.components, order, &rows, self.time);
+        self.cursors = rows.behind;
         self.time += 1;
-        self.components
-            .step(order, time, self.schedule.events(first, event));
     }
 
-    /// The log of the cycles that are done.
+    /// The log of the cycles that are done. Of a network of accepted inputs that has done all their
+    /// cycles it is the log of their run.
     pub fn log(mut self) -> SimLog
-        ensures { result ≡ told self }
+        ensures told { result ≡ told self }
+        ensures run { (inputs : Inputs) → IsNetworkOf inputs self → self.time ≡ inputs.cycles
+            → result ≡ log_of (run_of inputs) }
     {
+        aeth_running::laws::networks_log();
         tell(
             &mut self.log,
-            &self.components,
-            &self.outside,
-            self.schedule.goings(),
-            &self.replaced,
-            &mut self.untils,
+            &self.state.components,
+            &self.state.outside,
+            self.given.schedule.goings(),
+            &self.state.replaced,
+            &mut self.state.untils,
         );
         self.log
     }
@@ -220,55 +181,62 @@ pub fn simulate(network: &mut Network, order: &Order)
         ≡ played (network.old.log.cycles - network.old.time) network.old }
     ensures parts { length network.new.components.parts
         ≡ length network.old.components.parts }
+    ensures run { (inputs : Inputs) → IsNetworkOf inputs network.old
+        → IsNetworkOf inputs network.new × (network.new.time ≡ inputs.cycles) }
 {
     'cycles: while network.time() < network.cycles() {
         network.cycle(order);
     }
 }
 
-// The components of a chip, once they are loaded.
-fn loaded(
-    alloc: Global,
-    chip: &Chip,
-    app: &App,
-    words: &Words,
-    schedule: &Schedule,
-) -> Result<Components, NoMemory>
-    requires rooms { length schedule.now.rooms ≡ queues_of_interface * length chip.now.nis }
-    requires some { 0 < length chip.now.nis }
-    requires loaded { All (IsDoable (map frame_of (new_parts chip.now schedule.now.rooms)))
-        schedule.now.loaded }
-    ensures { IfOk result (λ components. let made = first_components chip.now schedule.now.rooms
-        (replicate (2 * length app.now.connections) no_lane)
-        (values_of words.now (length app.now.connections)) in
-        components ≡ record made { parts = switched schedule.now.loaded made.parts }) }
+// The network of accepted inputs before the first cycle.
+fn first(alloc: Global, inputs: &RunInputs) -> Result<Network, NoMemory>
+    ensures { IfOk result (λ network. network ≡ first_network inputs.now) }
 {
-    let channels = 2 * app.connections() as usize;
-    let lanes = vec![in alloc; no_lane(); channels]?;
-    let values = values(alloc, app, words)?;
-    let mut components = Components::new(alloc, chip, schedule.rooms(), lanes, values)?;
-    components.prepare(schedule.loaded());
-    Ok(components)
+    let given = Given::of(alloc, inputs)?;
+    with_given(alloc, inputs, given)
 }
 
-// A channel of which no session has gone.
-fn no_lane() -> Lane
-    ensures { result ≡ no_lane }
+// That which is given this.
+fn with_given(alloc: Global, inputs: &RunInputs, given: Given) -> Result<Network, NoMemory>
+    requires { stimuli_with given ≡ stimuli_of inputs.now }
+    ensures { IfOk result (λ network. network ≡ first_network inputs.now) }
 {
-    let nowhere = ChannelEnd {
-        ni: NiId(0),
-        queue: 0,
-    };
-    Lane {
-        sender: nowhere,
-        receiver: nowhere,
-        go: 0,
-        fin: 0,
-        first: 0,
-        accepted: 0,
-        pull: USUAL_PULL,
-        handed: 0,
-        landed: 0,
-        taken: 0,
-    }
+    let state = State::of(alloc, inputs, &given.schedule)?;
+    with_state(alloc, inputs, given, state)
+}
+
+// That which is given this, and has this state.
+fn with_state(
+    alloc: Global,
+    inputs: &RunInputs,
+    given: Given,
+    state: State,
+) -> Result<Network, NoMemory>
+    requires given { stimuli_with given ≡ stimuli_of inputs.now }
+    requires state { IsFirstState inputs.now state }
+    ensures { IfOk result (λ network. network ≡ first_network inputs.now) }
+{
+    aeth_events::laws::stimuli_are_stimuli();
+    inputs.are_accepted();
+    let log = first_log(
+        alloc,
+        inputs.chip(),
+        inputs.app(),
+        inputs.words(),
+        given.schedule.goings(),
+        inputs.cycles(),
+    )?;
+    Ok(Network {
+        given,
+        cursors: Cursors {
+            event: 0,
+            going: 0,
+            offer: 0,
+            take: 0,
+        },
+        state,
+        log,
+        time: 0,
+    })
 }

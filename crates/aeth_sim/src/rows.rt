@@ -11,7 +11,7 @@ use std::alloc::Global;
 use std::marker::Model;
 
 // A word is offered to the channel of a number in a cycle.
-#[derive(Clone, Copy, Debug)]
+#[derive(Clone, Copy)]
 pub(crate) struct Offered {
     pub cycle: u32,
     pub number: u32,
@@ -28,7 +28,7 @@ impl Model for Offered {
 }
 
 // The receiver of the channel of a number takes so many words in a cycle, at most, from a cycle on.
-#[derive(Clone, Copy, Debug)]
+#[derive(Clone, Copy)]
 pub(crate) struct Taking {
     pub cycle: u32,
     pub number: u32,

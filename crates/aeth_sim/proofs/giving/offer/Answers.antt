@@ -3,7 +3,7 @@ use Rattle.std.proofs.lemmas.List.Elements.{All-weaker}
 use Rattle.aeth_components.specs.Components.{ComponentsState}
 use Rattle.aeth_stimuli.specs.Stimuli.{Offer}
 use Rattle.aeth_sim.specs.Fits.{AreFit}
-use Rattle.aeth_sim.proofs.FitLemmas.{AreFit-next, HaveCounts-next}
+use Rattle.aeth_sim.proofs.FitLemmas.{AreFit-next, HaveCounts-next, length-all_outside}
 use Rattle.aeth_sim.proofs.Stepping.{lanes-accepted}
 use Rattle.aeth_sim.proofs.giving.offer.Goals as goal
 
@@ -23,7 +23,9 @@ offer_one-requires-clause-untils c = c.requires.untils ∙ sym
 
 pub offer_one-requires-clause-outside : goal.offer_one-requires-clause-outside
 offer_one-requires-clause-outside c =
-    c.loop-one.auto.outside ∙ c.requires.outside ∙ sym
+    ap length c.loop-one.invariant.outside
+    ∙ length-all_outside c.args.time c.args.untils.now (take c.loop-one.one-index c.args.offers.now)
+    c.args.outside.now.items ∙ c.requires.outside ∙ sym
     (lanes-accepted c.loop-one.components c.args.components.now c.args.time c.args.untils.now
     (take c.loop-one.one-index c.args.offers.now) c.loop-one.invariant.components)
 
@@ -47,9 +49,9 @@ offer_one-requires-clause-fit c =
 pub offer_one-requires-clause-counts : goal.offer_one-requires-clause-counts
 offer_one-requires-clause-counts c =
     let outside = c.requires.outside in
-    HaveCounts-next c.args.time c.args.untils.now c.args.offers.now c.args.outside.now
-    c.loop-one.outside c.loop-one.one-index c.one-item.result
+    HaveCounts-next c.args.time c.args.untils.now c.args.offers.now c.args.outside.now.items
+    c.loop-one.outside.items c.loop-one.one-index c.one-item.result
     (All-weaker (λ (one : Offer). one.number < length c.args.components.now.lanes)
-    (λ (one : Offer). one.number < length c.args.outside.now) (λ one within. omega arith)
+    (λ (one : Offer). one.number < length c.args.outside.now.items) (λ one within. omega arith)
     c.args.offers.now c.requires.offers)
     c.loop-one-test.true c.one-item.is c.requires.counts c.loop-one.invariant.outside

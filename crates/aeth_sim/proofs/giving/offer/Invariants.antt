@@ -9,6 +9,6 @@ invariant-loop-one l = record {
     lanes = fold (accepted_with l.time l.untils) l.fn.components.lanes
         (take l.one-index l.offers);
   };
-  outside : l.outside
-      ≡ fold (outside_with l.time l.untils) l.fn.outside (take l.one-index l.offers);
+  outside : l.outside.items
+      ≡ fold (outside_with l.time l.untils) l.fn.outside.items (take l.one-index l.offers);
 }

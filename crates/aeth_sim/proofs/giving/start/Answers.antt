@@ -1,6 +1,7 @@
-use Rattle.std.proofs.Common.{◌∙◌, ◌<◌, arith, length, subst, sym, take}
+use Rattle.std.proofs.Common.{◌∙◌, ◌<◌, ap, arith, length, subst, sym, take}
 use Rattle.aeth_trace.specs.Channels.{channel_number}
 use Rattle.aeth_schedule.specs.declared.going.Going.{Going}
+use Rattle.aeth_sim.proofs.FitLemmas.{length-untils}
 use Rattle.aeth_sim.proofs.Stepping.{lanes-gone}
 use Rattle.aeth_sim.proofs.giving.start.Goals as goal
 
@@ -23,6 +24,8 @@ start_one-requires-clause-few c =
 
 pub start_one-requires-clause-untils : goal.start_one-requires-clause-untils
 start_one-requires-clause-untils c =
-    c.loop-going.auto.untils ∙ c.requires.untils ∙ sym
+    ap length c.loop-going.invariant.untils
+    ∙ length-untils (take c.loop-going.going-index c.args.goings.now) c.args.untils.now.items
+    ∙ c.requires.untils ∙ sym
     (lanes-gone c.loop-going.components c.args.components.now
     (take c.loop-going.going-index c.args.goings.now) c.loop-going.invariant.components)

@@ -8,5 +8,5 @@ invariant-loop-going l = record {
   components : l.components ≡ record l.fn.components {
     lanes = fold gone_with l.fn.components.lanes (take l.going-index l.goings);
   };
-  untils : l.untils ≡ fold until_with l.fn.untils (take l.going-index l.goings);
+  untils : l.untils.items ≡ fold until_with l.fn.untils.items (take l.going-index l.goings);
 }

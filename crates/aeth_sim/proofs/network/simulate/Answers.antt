@@ -1,7 +1,7 @@
 use Rattle.std.proofs.Common.{◌≡◌, ◌∙◌, ◌<◌, ◌+◌, ◌-◌, ap, arith, refl, sym}
 use Rattle.aeth_report.specs.Log.{LogData}
-use Rattle.aeth_running.specs.Network.{NetworkState, stepped}
-use Rattle.aeth_sim.proofs.Playing.{played-more, played-none, stepped-log, stepped-time}
+use Rattle.aeth_running.specs.Network.{NetworkState, played, stepped}
+use Rattle.aeth_sim.proofs.Playing.{done-of, played-more, played-none, stepped-log, stepped-time}
 use Rattle.aeth_sim.proofs.network.simulate.Goals as goal
 
 -- None is played yet.
@@ -60,3 +60,17 @@ cycles-smaller c =
     let early = c.cycles-test.true in
     let less : new.log.cycles - new.time < old.log.cycles - old.time = omega arith in
     less
+
+-- A network of accepted inputs stays theirs, and all their cycles are done.
+pub returns-clause-run : goal.returns-clause-run
+returns-clause-run c = λ inputs is.
+    let first = c.args.network.now in
+    let now = c.time.ensures in
+    let end = c.cycles-in-cycles.ensures in
+    let late = c.cycles-test.false in
+    let least = c.cycles.invariant.least in
+    let most = c.cycles.invariant.most in
+    let same = c.cycles.invariant.cycles in
+    let left : c.cycles.network.time - first.time ≡ first.log.cycles - first.time = omega arith in
+    done-of inputs first c.cycles.network
+    (c.cycles.invariant.is ∙ ap (λ n. played n first) left) is

@@ -23,7 +23,7 @@ returns-clause-plays c =
     (λ (network : NetworkState). told (played (network.log.cycles - network.time) network)
     ≡ log_of (run_of inputs))
     (λ network is. first-plays inputs network is
-    ∙ c.networks_log.ensures inputs c.requires.accepted) c.new.ensures
+    ∙ c.networks_log.ensures inputs c.requires.accepted) c.new.ensures.first
 
 -- All cycles are left.
 pub returns-clause-left : goal.returns-clause-left
@@ -39,7 +39,7 @@ returns-clause-left c =
     } in
     IfOk-weaker c.new.result (λ (network : NetworkState). network ≡ first_network inputs)
     (λ (network : NetworkState). network.log.cycles - network.time ≡ c.args.cycles)
-    (λ network is. first-left inputs network is) c.new.ensures
+    (λ network is. first-left inputs network is) c.new.ensures.first
 
 -- There are components.
 pub returns-clause-count : goal.returns-clause-count
@@ -55,4 +55,4 @@ returns-clause-count c =
     } in
     IfOk-weaker c.new.result (λ (network : NetworkState). network ≡ first_network inputs)
     (λ (network : NetworkState). 0 < length network.components.parts)
-    (λ network is. first-count inputs c.requires.accepted network is) c.new.ensures
+    (λ network is. first-count inputs c.requires.accepted network is) c.new.ensures.first

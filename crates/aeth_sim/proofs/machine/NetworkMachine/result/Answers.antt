@@ -6,5 +6,5 @@ use Rattle.aeth_sim.proofs.machine.NetworkMachine.result.Goals as goal
 -- No cycle is left.
 pub returns : goal.returns
 returns c =
-    c.log.ensures
+    c.log.ensures.told
     ∙ ap told (sym (played-none (c.args.self.log.cycles - c.args.self.time) c.args.self c.requires))
