@@ -5,7 +5,8 @@ use Rattle.std.proofs.lemmas.Bool.{cases_eq, eq-eqb, ne_eqb}
 use Rattle.aeth_base.specs.declared.ids.Channel.{Channel}
 use Rattle.aeth_base.specs.declared.ids.Side.{Side}
 use Rattle.aeth_base.specs.declared.ids.Side.TheVariants.{Back, Fwd}
-use Rattle.aeth_trace.specs.Channels.{channel_number, is_channel, is_side, side_number}
+use Rattle.aeth_base.specs.Sides.{same_side}
+use Rattle.aeth_trace.specs.Channels.{channel_number, is_channel, side_number}
 
 -- Channels of one number are of one connection.
 pub same-connection : (one other : Channel) → channel_number one ≡ channel_number other
@@ -24,7 +25,7 @@ pub number-test : (one other : Channel)
 number-test one other =
     let a = one.conn.0 in
     let b = other.conn.0 in
-    let cases : (s r : Side) → ((a == b) && is_side s r)
+    let cases : (s r : Side) → ((a == b) && same_side s r)
     ≡ (2 * b + side_number r == 2 * a + side_number s) = elim [
       | Fwd ↦ elim [
         | Fwd ↦ elim (cases_eq a b) [

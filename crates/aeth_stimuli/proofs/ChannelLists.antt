@@ -9,13 +9,14 @@ use Rattle.std.proofs.lemmas.Bool.Decides.{nat_tests}
 use Rattle.aeth_base.specs.declared.ids.Channel.{Channel}
 use Rattle.aeth_base.specs.declared.ids.Side.{Side}
 use Rattle.aeth_base.specs.declared.ids.Side.TheVariants.{Back, Fwd}
-use Rattle.aeth_trace.specs.Channels.{channel_number, is_channel, is_side, side_number}
+use Rattle.aeth_base.specs.Sides.{same_side}
+use Rattle.aeth_trace.specs.Channels.{channel_number, is_channel, side_number}
 use Rattle.aeth_report.specs.Channels.{channels_with}
 use Rattle.aeth_report.proofs.ChannelLemmas.{is_channel-itself}
 
 -- Numbers of sides differ as sides do, also beside twice a number.
 same_sides : (a b : ℕ) (one other : Side)
-    → (2 * a + side_number one == 2 * b + side_number other) ≡ (a == b && is_side one other)
+    → (2 * a + side_number one == 2 * b + side_number other) ≡ (a == b && same_side one other)
 same_sides a b Fwd Fwd = grind (arith, nat_tests)
 same_sides a b Fwd Back = grind (arith, nat_tests)
 same_sides a b Back Fwd = grind (arith, nat_tests)
@@ -101,7 +102,7 @@ module _ (channel : Channel) where
       → is_it (record { conn = record { 0 = c }; side = side }) ≡ false
   other-is c side other =
       same_numbers (record { conn = record { 0 = c }; side = side }) channel
-      ∙ and_left (c == channel.conn.0) (is_side side channel.side) (ne_eqb c channel.conn.0 other)
+      ∙ and_left (c == channel.conn.0) (same_side side channel.side) (ne_eqb c channel.conn.0 other)
 
   -- Where neither channel of a connection has, the later ones are left.
   neither : (c : ℕ) → is_it (record { conn = record { 0 = c }; side = Fwd }) ≡ false

@@ -8,4 +8,4 @@ play-requires g c =
     let count = c.components.result in
     ap length c.in_ok-order.ensures
     ∙ length-map-range_with_len (λ place. (c.args.turn + place) % count) 0 count
-    ∙ c.components.ensures
+    ∙ c.components.ensures.count
