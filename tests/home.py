@@ -40,10 +40,10 @@ class Home:
     def __init__(self, program=None, name="home"):
         self.room = pathlib.Path(tempfile.mkdtemp(prefix="aeth-tests-"))
         self.top, self.builds = self.room / name, self.room / "builds"
-        for script in ("aeth", "aeth.d", "draw", "draw.d", "examples", "README.md"):
-            copy = shutil.copytree if (TOP / script).is_dir() else shutil.copy2
-            self.top.mkdir(exist_ok=True)
-            copy(TOP / script, self.top / script)
+        self.top.mkdir()
+        for name in ("aeth", "aeth.d", "draw", "draw.d", "design", "design.d", "examples", "docs"):
+            copy = shutil.copytree if (TOP / name).is_dir() else shutil.copy2
+            copy(TOP / name, self.top / name)
         self.put("HANDLES", "Handles allowed: none.\n")
         self.put("crates.txt", "# lowest first\naeth_base: itoa\naeth_middle: aeth_base toml\naeth: aeth_middle aeth_base\n")
         self.put("crates/aeth_base/src/lib.rt", "base\n")

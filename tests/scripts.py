@@ -1,5 +1,5 @@
 #!/usr/bin/env python3
-"""Tests of the scripts beside the program: `aeth`, which builds and runs it, and `draw`.
+"""Tests of the scripts beside the program: `aeth`, which builds and runs it, `draw` and `design`, and of README.md.
 
 tests/scripts.py [WORD]..
 

@@ -1,0 +1,71 @@
+"""Tests of README.md and of the pages of help: each command that they show prints what stands there."""
+import re
+import shutil
+import subprocess
+import unittest
+
+from home import Home, PROGRAM, TOP
+
+README = (TOP / "README.md").read_text()
+
+
+def sessions():
+    """The commands of each block with prompts, and what stands below each."""
+    for block in re.findall(r"^```\n(\$ .*?)^```", README, re.M | re.S):
+        parts = re.split(r"^\$ ", block.replace("\\\n", ""), flags=re.M)[1:]
+        yield [tuple(part.split("\n", 1)) for part in parts]
+
+
+@unittest.skipUnless(PROGRAM, "there is no program: `./aeth` or `rt ci` builds it")
+class Readme(unittest.TestCase):
+    @classmethod
+    def setUpClass(cls):
+        cls.home = Home(PROGRAM)
+        cls.addClassCleanup(cls.home.end)
+        cls.home.run("chip", "examples/pair.toml")
+
+    def shell(self, command):
+        """What a command prints on both streams."""
+        how = {"cwd": self.home.top, "env": self.home.settings, "check": False, "capture_output": True}
+        ran = subprocess.run(["sh", "-c", command], **how)
+        return ran.stdout.decode() + ran.stderr.decode()
+
+    def has_files(self, command):
+        """Whether the files that a command reads are there: a few are those of a reader's own design."""
+        read = re.sub(r">\s*\S+|&&.*", "", command).split()
+        return all((self.home.top / word).exists() for word in read if re.search(r"\.(toml|plan|csv|log)$", word))
+
+    def test_sessions(self):
+        found = list(sessions())
+        self.assertGreater(len(found), 3)
+        for session in found:
+            for command, text in session:
+                if self.has_files(command):
+                    self.assertEqual(self.shell(command), text, command)
+
+    def test_table_of_commands(self):
+        rows = re.findall(r"^\| `[^|]*` \| `(\./aeth [^|]*)` \| (.*) \|$", README, re.M)
+        self.assertGreater(len(rows), 5)
+        for command, prints in rows:
+            told = self.shell(command)
+            for text in re.findall(r"`([^`]*)`", prints):
+                self.assertIn(text + "\n", told, command)
+
+    def test_commands_without_their_text(self):
+        """They end with status 0."""
+        for block in re.findall(r"^```sh\n(.*?)^```", README, re.M | re.S):
+            for command in re.split(r"\n(?=\S)", re.sub(r" *#.*", "", block.replace("\\\n", ""))):
+                if command.startswith(("./aeth ", "./draw ", "./design ")) and self.has_files(command):
+                    self.assertEqual(self.shell(f"({command.strip()}) >/dev/null || echo $?"), "", command)
+
+    def test_commands_of_the_pages(self):
+        shutil.copy(self.home.top / "examples/one.plan", self.home.top / "one.plan")
+        for page in sorted((TOP / "aeth.d/help").iterdir()):
+            text = re.sub(r" *\\\n *", " ", page.read_text())
+            for command, told in re.findall(r"^  (\./aeth (?!help|COMMAND|--version).*\S)\n((?:      .*\n)*)", text, re.M):
+                command, _, beside = command.partition("        ")
+                shown = self.shell(command)
+                self.assertNotIn("usage", shown, command)
+                if page.name != "aeth":
+                    for line in filter(None, [beside.strip(), *map(str.strip, told.splitlines())]):
+                        self.assertIn(line + "\n", shown, command)
