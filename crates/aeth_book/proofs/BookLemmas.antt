@@ -26,6 +26,7 @@ use Rattle.aeth_group.specs.Occupation.{enters, holds_in}
 use Rattle.aeth_book.specs.Book.{AreApart, BookData, IsBook, IsFit, with_grant}
 use Rattle.aeth_book.specs.Free.{free_starts, is_occupied, is_open, is_taken}
 use Rattle.aeth_group.specs.Tables.{Changes, IsTable, hits_uses}
+use Rattle.aeth_base.proofs.Filters.{filter-none}
 use Rattle.aeth_book.specs.Masks.{IsKept}
 use Rattle.aeth_group.proofs.OccupationLemmas.{is_at, or-false}
 use Rattle.aeth_book.proofs.UseLemmas.{taken_from_blocked}
@@ -232,10 +233,6 @@ kept-remove book grant old new kept changes =
 
 -- ---- no grant
 
-filter_all_out : (xs : List ℕ) → filter (λ x. false) xs ≡ []
-filter_all_out [] = refl
-filter_all_out (x ∷ xs) = filter_all_out xs
-
 -- The first book is kept beside masks without slots.
 pub kept-none : (size : ℕ) (links : List Link) (groups : GroupsData) (masks : List Slots)
     → IsBook (record { size = size; links = links; groups = groups; grants = [] })
@@ -249,7 +246,7 @@ kept-none size links groups masks is_book count empty = record {
       let none : Slots = record { size = size; slots = [] } in
       slice_get-get_or masks (u * length links + l) none within
       ∙ ap Some (empty (u * length links + l) none within
-      ∙ (λ i. record { size = size; slots = sym (filter_all_out (range_with_len 0 size)) i }));
+      ∙ (λ i. record { size = size; slots = sym (filter-none (range_with_len 0 size)) i }));
 }
 
 take_whole : {X : Type 0} (new rest : List X) → take (length new) (new ++ rest) ≡ new

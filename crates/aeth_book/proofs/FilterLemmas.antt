@@ -89,10 +89,6 @@ any-filter {X} first second (x ∷ xs) =
     ]
     in cases (first x) refl
 
--- A number of a range is below its end.
-pub in_range : (count u : ℕ) → Contains (range_with_len 0 count) u → u < count
-in_range count u is_in = (Ascends-bounds 0 count _ (Ascends-slots count) u is_in).1
-
 -- One more number of a range passes a test, or fails it.
 pub range-passes : (test : ℕ → Bool) (u : ℕ) → test u ≡ true
     → filter test (range_with_len 0 (u + 1)) ≡ filter test (range_with_len 0 u) ++ u ∷ []

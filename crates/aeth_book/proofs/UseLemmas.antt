@@ -31,7 +31,8 @@ use Rattle.aeth_book.specs.Free.{occupied_slots, taken_slots, used_slots, uses_w
 use Rattle.aeth_book.specs.Masks.{uses_of}
 use Rattle.aeth_book.proofs.FilterLemmas.{any-filter, filter-push, filter-same-more}
 use Rattle.aeth_book.proofs.FilterLemmas.{filter_all_out, filter_twice}
-use Rattle.aeth_book.proofs.FilterLemmas.{greatest-push, in_range}
+use Rattle.aeth_base.proofs.Ranges.{range-Contains}
+use Rattle.aeth_book.proofs.FilterLemmas.{greatest-push}
 
 -- Whether a slot of a link is occupied in a use case that has the unit.
 abbrev pub is_blocked : BookData → GroupUnit → ℕ → ℕ → Bool
@@ -138,7 +139,7 @@ pub uses_of-beyond : (groups : GroupsData) (g : ℕ) → IsGroups groups → gro
 uses_of-beyond groups g is_groups beyond =
     sym (filter_all_out (λ u. eqb (group_at groups u) g)
     (range_with_len 0 (length groups.uses)) (λ u is_in.
-    let below = in_range (length groups.uses) u is_in in
+    let below = range-Contains (length groups.uses) u is_in in
     let one : UseGroupData = get_or groups.uses u (record { group = 0; has = [] }) in
     let found : slice_get groups.uses u ≡ Some one =
     slice_get-get_or groups.uses u (record { group = 0; has = [] }) below in
@@ -150,7 +151,7 @@ uses_of-beyond groups g is_groups beyond =
 pub uses_of-below : (groups : GroupsData) (g i : ℕ) → i < length (uses_of groups g)
     → get_or (uses_of groups g) i 0 < length groups.uses
 uses_of-below groups g i within =
-    in_range (length groups.uses) (get_or (uses_of groups g) i 0)
+    range-Contains (length groups.uses) (get_or (uses_of groups g) i 0)
     (filter-Contains (λ u. eqb (group_at groups u) g) (range_with_len 0 (length groups.uses))
     (get_or (uses_of groups g) i 0) (
       i,

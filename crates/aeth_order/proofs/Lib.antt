@@ -1,7 +1,6 @@
 mod FirstByLemmas
 mod TurnLemmas
 mod NextLemmas
-mod FilterLemmas
 mod GridLemmas
 mod QueueLemmas
 mod StartLemmas

@@ -1,6 +1,6 @@
 -- The waiting units of all cores beside a table of units: what they tell, and one unit less.
 use Rattle.std.proofs.Common.{◌≡◌, ◌≢◌, ◌<◌, ◌⊎◌, ◌∙◌, ℕ, Bool, true, false, eqb}
-use Rattle.std.proofs.Common.{List, Contains, Some, refl, sym, ap, inl, inr}
+use Rattle.std.proofs.Common.{List, [], ◌∷◌, Contains, Some, refl, sym, ap, inl, inr}
 use Rattle.std.proofs.Common.{subst, arith, filter, get_or, length, not, set, slice_get}
 use Rattle.std.specs.List.{items_where_true}
 use Rattle.std.proofs.lemmas.Bool.{and_from, and_parts, cases_eq, eq-eqb, eqb-true}
@@ -10,16 +10,24 @@ use Rattle.std.proofs.lemmas.Option.{get_or_from_slice_get, same_Some, slice_get
 use Rattle.std.proofs.lemmas.Option.{slice_get_read}
 use Rattle.aeth_base.specs.declared.ids.Unit.{Unit as GroupUnit}
 use Rattle.aeth_base.proofs.Lists.{slice_get-slice_set_other, slice_get-slice_set_same}
-use Rattle.aeth_base.proofs.Members.{filter-Contains}
+use Rattle.aeth_base.proofs.Members.{Contains-here, Contains-there, filter-Contains}
 use Rattle.aeth_app.specs.Limits.{max_uses}
 use Rattle.aeth_order.specs.declared.keys.UnitKeys.{UnitKeys}
-use Rattle.aeth_order.specs.Grid.{IsGrid, IsPlaced, place_of}
+use Rattle.aeth_order.specs.Grid.{IsGrid, IsPlaced, grid_place}
 use Rattle.aeth_order.specs.Order.{has_core}
 use Rattle.aeth_order.specs.Units.{is_unit, units_without}
-use Rattle.aeth_order.proofs.FilterLemmas.{filter-again, filter-all, filter-swap}
+use Rattle.aeth_base.proofs.Filters.{filter-again, filter-swap, filter-yes}
 use Rattle.aeth_order.proofs.GridLemmas.{marked-at, marked-cleared, marked-none}
 use Rattle.aeth_order.proofs.NextLemmas.{AreQueues}
 use Rattle.aeth_order.proofs.TurnLemmas.{unit_order-exact}
+
+-- A filter that all pass keeps all.
+filter-all : {X : Type 0} (test : X → Bool) (xs : List X)
+    → ((x : X) → Contains xs x → test x ≡ true) → filter test xs ≡ xs
+filter-all test [] all = refl
+filter-all test (x ∷ xs) all =
+    filter-yes test x xs (all x (Contains-here x xs))
+    ∙ ap (λ ys. x ∷ ys) (filter-all test xs (λ y has. all y (Contains-there x xs y has)))
 
 -- ---- what the waiting units of the cores tell
 
@@ -67,7 +75,7 @@ grid-queues grid marks queues is =
 
 -- The test of a unit tells its place.
 unit-place : (unit : GroupUnit) (a : UnitKeys) → is_unit unit a ≡ true
-    → place_of a.unit ≡ place_of unit
+    → grid_place a.unit ≡ grid_place unit
 unit-place unit a is =
     let (conn, group) = and_parts (eqb a.unit.conn.0 unit.conn.0) (eqb a.unit.group.0 unit.group.0)
     is in
@@ -76,7 +84,7 @@ unit-place unit a is =
     omega (arith, conns, groups)
 
 -- The place of a unit tells it.
-unit-at : (unit : GroupUnit) (a : UnitKeys) → place_of a.unit ≡ place_of unit
+unit-at : (unit : GroupUnit) (a : UnitKeys) → grid_place a.unit ≡ grid_place unit
     → a.unit.group.0 < max_uses → unit.group.0 < max_uses → is_unit unit a ≡ true
 unit-at unit a same low low' =
     let conn : a.unit.conn.0 ≡ unit.conn.0 = omega (arith, same, low, low') in
@@ -87,11 +95,11 @@ unit-at unit a same low low' =
 -- The waiting units without the one at a place.
 pub marks-done : (grid : List UnitKeys) (marks : List Bool) (queues : List (List UnitKeys))
     (unit : GroupUnit) → IsGrid grid marks queues → unit.group.0 < max_uses
-    → items_where_true (set marks (place_of unit) false) grid
+    → items_where_true (set marks (grid_place unit) false) grid
     ≡ units_without unit (items_where_true marks grid)
 marks-done grid marks queues unit is low =
-    marked-cleared (is_unit unit) marks grid (place_of unit)
-    (λ x at. let placed = is.placed (place_of unit) x at in
+    marked-cleared (is_unit unit) marks grid (grid_place unit)
+    (λ x at. let placed = is.placed (grid_place unit) x at in
     unit-at unit x placed.unit placed.group low)
     (λ q x apart at. false_from_ne_true (is_unit unit x) (λ here.
     apart (sym (is.placed q x at).unit ∙ unit-place unit x here)))
@@ -99,7 +107,7 @@ marks-done grid marks queues unit is low =
 -- A unit that has no place doesn't wait.
 pub marks-same : (grid : List UnitKeys) (marks : List Bool) (queues : List (List UnitKeys))
     (unit : GroupUnit) → IsGrid grid marks queues
-    → ((a : UnitKeys) → slice_get grid (place_of unit) ≡ Some a → unit.group.0 < max_uses → ⊥)
+    → ((a : UnitKeys) → slice_get grid (grid_place unit) ≡ Some a → unit.group.0 < max_uses → ⊥)
     → units_without unit (items_where_true marks grid) ≡ items_where_true marks grid
 marks-same grid marks queues unit is none =
     marked-none (is_unit unit) marks grid (λ q x at.
@@ -108,13 +116,13 @@ marks-same grid marks queues unit is none =
     let (_, group) = and_parts (eqb x.unit.conn.0 unit.conn.0) (eqb x.unit.group.0 unit.group.0)
     here in
     let same = eqb-true x.unit.group.0 unit.group.0 group in
-    let there : q ≡ place_of unit = sym placed.unit ∙ unit-place unit x here in
+    let there : q ≡ grid_place unit = sym placed.unit ∙ unit-place unit x here in
     none x (ap (slice_get grid) (sym there) ∙ at) (omega (arith, same, placed.group))))
 
 -- The waiting units of a core that isn't the unit's are those without it.
 without-other : (grid : List UnitKeys) (marks : List Bool) (queues : List (List UnitKeys))
     (unit : GroupUnit) (a : UnitKeys) (core : ℕ) → IsGrid grid marks queues
-    → slice_get grid (place_of unit) ≡ Some a → core ≢ a.from.0 → core ≢ a.to.0
+    → slice_get grid (grid_place unit) ≡ Some a → core ≢ a.from.0 → core ≢ a.to.0
     → units_without unit (filter (has_core core) (items_where_true marks grid))
     ≡ filter (has_core core) (items_where_true marks grid)
 without-other grid marks queues unit a core is at not_from not_to =
@@ -123,8 +131,8 @@ without-other grid marks queues unit a core is at not_from not_to =
     let (among, of_core) = filter-Contains (has_core core) units x has in
     let (p, there) = marked-at marks grid x among in
     not_from_false (is_unit unit x) (false_from_ne_true (is_unit unit x) (λ here.
-    let place : p ≡ place_of unit = sym (is.placed p x there).unit ∙ unit-place unit x here in
-    let same = same-unit grid p (place_of unit) x a there at place in
+    let place : p ≡ grid_place unit = sym (is.placed p x there).unit ∙ unit-place unit x here in
+    let same = same-unit grid p (grid_place unit) x a there at place in
     elim (or_cases (eqb a.from.0 core) (eqb a.to.0 core)
     (subst (λ y. has_core core y ≡ true) same of_core)) [
       | inl from ↦ not_from (sym (eqb-true _ _ from))
@@ -175,19 +183,19 @@ queue-done unit queues f t core q q' own first second here low low' rest =
 -- A unit had its turn.
 done-at : (grid : List UnitKeys) (marks : List Bool) (queues : List (List UnitKeys))
     (unit : GroupUnit) (a : UnitKeys) (q q' : List UnitKeys) → IsGrid grid marks queues
-    → slice_get grid (place_of unit) ≡ Some a → unit.group.0 < max_uses
+    → slice_get grid (grid_place unit) ≡ Some a → unit.group.0 < max_uses
     → slice_get queues a.from.0 ≡ Some q
     → slice_get (set queues a.from.0 (units_without unit q)) a.to.0 ≡ Some q'
-    → IsGrid grid (set marks (place_of unit) false)
+    → IsGrid grid (set marks (grid_place unit) false)
     (set (set queues a.from.0 (units_without unit q)) a.to.0 (units_without unit q'))
 done-at grid marks queues unit a q q' is at low first second =
     let units : List UnitKeys = items_where_true marks grid in
-    let placed = is.placed (place_of unit) a at in
+    let placed = is.placed (grid_place unit) a at in
     let more : List (List UnitKeys) = set queues a.from.0 (units_without unit q) in
     let size : length (set more a.to.0 (units_without unit q')) ≡ length queues =
     length-set more a.to.0 _ ∙ length-set queues a.from.0 _ in
     record {
-      size = length-set marks (place_of unit) false ∙ is.size;
+      size = length-set marks (grid_place unit) false ∙ is.size;
       placed = λ p b there. subst (λ n. IsPlaced n p b) (sym size) (is.placed p b there);
       each = λ core within.
           let own : List UnitKeys = filter (has_core core) units in
@@ -201,14 +209,14 @@ done-at grid marks queues unit a q q' is at low first second =
 -- The same where the units of a core are read from the list of them.
 pub grid-done : (grid : List UnitKeys) (marks : List Bool) (queues : List (List UnitKeys))
     (unit : GroupUnit) (a : UnitKeys) (q q' left left' : List UnitKeys) → IsGrid grid marks queues
-    → slice_get grid (place_of unit) ≡ Some a → unit.group.0 < max_uses
+    → slice_get grid (grid_place unit) ≡ Some a → unit.group.0 < max_uses
     → q ≡ get_or queues a.from.0 q → left ≡ units_without unit q
     → q' ≡ get_or (set queues a.from.0 left) a.to.0 q' → left' ≡ units_without unit q'
-    → IsGrid grid (set marks (place_of unit) false) (set (set queues a.from.0 left) a.to.0 left')
+    → IsGrid grid (set marks (grid_place unit) false) (set (set queues a.from.0 left) a.to.0 left')
 grid-done grid marks queues unit a q q' left left' is at low first one second two =
-    let placed = is.placed (place_of unit) a at in
+    let placed = is.placed (grid_place unit) a at in
     let size = length-set queues a.from.0 (units_without unit q) in
-    let marks' : List Bool = set marks (place_of unit) false in
+    let marks' : List Bool = set marks (grid_place unit) false in
     let more : List (List UnitKeys) = set queues a.from.0 (units_without unit q) in
     subst (λ l. IsGrid grid marks' (set (set queues a.from.0 l) a.to.0 left')) (sym one)
     (subst (λ l. IsGrid grid marks' (set more a.to.0 l)) (sym two)

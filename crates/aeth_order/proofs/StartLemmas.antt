@@ -23,7 +23,7 @@ use Rattle.aeth_order.specs.declared.keys.UnitKeys.{UnitKeys}
 use Rattle.aeth_order.specs.Grid.{IsGrid, IsPlaced, grid_of, is_unit_at, marks_of, places, unit_at}
 use Rattle.aeth_order.specs.Order.{has_core}
 use Rattle.aeth_order.specs.Units.{all_units, keys_by, keys_of}
-use Rattle.aeth_order.proofs.FilterLemmas.{filter-no, filter-yes}
+use Rattle.aeth_base.proofs.Filters.{filter-no, filter-yes}
 use Rattle.aeth_order.proofs.GridLemmas.{marked-map}
 
 -- ---- lists that are made number by number

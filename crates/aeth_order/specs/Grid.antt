@@ -21,8 +21,8 @@ abbrev pub places : ℕ → ℕ
 places connections = max_uses * connections
 
 -- The place of a unit, and the unit of a place.
-abbrev pub place_of : GroupUnit → ℕ
-place_of unit = max_uses * unit.conn.0 + unit.group.0
+abbrev pub grid_place : GroupUnit → ℕ
+grid_place unit = max_uses * unit.conn.0 + unit.group.0
 
 abbrev pub unit_at : ℕ → GroupUnit
 unit_at place = record {
@@ -57,7 +57,7 @@ rank_order = then_cmp (on (λ (a : Ranked). a.rank) nat_cmp) (on ranked_keys uni
 
 -- What holds of a table of units: each place has its own unit, between two of so many cores.
 pub record IsPlaced (cores place : ℕ) (a : UnitKeys) : Type 0 where
-  pub unit : place_of a.unit ≡ place
+  pub unit : grid_place a.unit ≡ place
   pub group : a.unit.group.0 < max_uses
   pub from : a.from.0 < cores
   pub to : a.to.0 < cores

@@ -3,7 +3,7 @@ use Rattle.std.specs.List.{items_where_true}
 use Rattle.std.proofs.lemmas.List.{length-set}
 use Rattle.std.proofs.lemmas.Option.{slice_get_read, slice_get_within}
 use Rattle.aeth_order.specs.declared.keys.UnitKeys.{UnitKeys}
-use Rattle.aeth_order.specs.Grid.{place_of}
+use Rattle.aeth_order.specs.Grid.{grid_place}
 use Rattle.aeth_order.specs.Units.{UnitsData, without_unit}
 use Rattle.aeth_order.proofs.GridLemmas.{units_data}
 use Rattle.aeth_order.proofs.QueueLemmas.{grid-done, marks-done, marks-same}
@@ -18,12 +18,12 @@ invariant_of-self c =
     let unit = c.args.unit in
     let keys = c.index-keys.result.now in
     let grid : List UnitKeys = units.grid.items in
-    let within : place_of unit < length grid =
+    let within : grid_place unit < length grid =
     omega (arith, c.if-place-len.true, c.len.ensures, units.grid.ok.0) in
     grid-done grid units.marks.items units.queues.items unit keys
     c.index_mut-then-place-len.result.now c.index_mut-then-place-len-2.result.now
     c.remove.new.self c.remove-then-place-len.new.self c.self.invariant
-    (slice_get_read grid (length grid) (place_of unit) keys refl within c.index-keys.ensures)
+    (slice_get_read grid (length grid) (grid_place unit) keys refl within c.index-keys.ensures)
     c.if-unit-lt-MAX_USES.true c.index_mut-then-place-len.ensures.value c.remove.ensures
     c.index_mut-then-place-len-2.ensures.value c.remove-then-place-len.ensures
 
@@ -35,7 +35,7 @@ returns-then-place-len c =
     let keys = c.index-keys.result.now in
     let grid : List UnitKeys = units.grid.items in
     let queues : List (List UnitKeys) = units.queues.items in
-    ap (λ n. units_data n (items_where_true (set units.marks.items (place_of unit) false) grid))
+    ap (λ n. units_data n (items_where_true (set units.marks.items (grid_place unit) false) grid))
     (length-set (set queues keys.from.0 c.remove.new.self) keys.to.0
     c.remove-then-place-len.new.self ∙ length-set queues keys.from.0 c.remove.new.self)
     ∙ ap (units_data (length queues)) (marks-done grid units.marks.items queues unit c.self.invariant
@@ -53,7 +53,7 @@ returns-else-unit-lt-MAX_USES c =
     ∙ ap (units_data (length queues)) (marks-same grid units.marks.items queues unit c.self.invariant
     (λ a at low. elim c.else-unit-lt-MAX_USES.branch [
       | else-unit-lt-MAX_USES-via-then-unit-lt-MAX_USES+else-place-len w ↦
-          let within = slice_get_within grid (place_of unit) a at in
+          let within = slice_get_within grid (grid_place unit) a at in
           absurd (omega (arith, within, w.if-place-len.false, w.len.ensures, units.grid.ok.0))
       | else-unit-lt-MAX_USES-via-else-unit-lt-MAX_USES w ↦
           absurd (omega (arith, low, w.if-unit-lt-MAX_USES.false))
