@@ -29,10 +29,11 @@ pub(crate) fn head_in(line: &[u8]) -> Option<u32>
     number_in(slots)
 }
 
-/// `seat CORE NI SEAT`.
+/// The three words of `seat CORE NI SEAT` after the first.
 #[tactic(auto, unfolding(crate::specs::Lines::seat_in))]
-pub(crate) fn seat_in(line: &[u8]) -> Option<SeatText>
-    ensures { result ≡ seat_in line.now }
+fn seat_words(line: &[u8]) -> Option<(&[u8], &[u8], &[u8])>
+    ensures { MatchOption result (seat_in line.now ≡ None) (λ words. parts space line.now
+        ≡ codes "seat" ∷ words.0.now ∷ words.1.now ∷ words.2.now ∷ []) }
 {
     let (first, words) = next_word(Some(line), b' ')?;
     if first != b"seat".as_slice() {
@@ -44,6 +45,15 @@ pub(crate) fn seat_in(line: &[u8]) -> Option<SeatText>
     if let Some(_) = next_word(words, b' ') {
         return None;
     }
+    Some((core, ni, seat))
+}
+
+/// `seat CORE NI SEAT`.
+#[tactic(auto, unfolding(crate::specs::Lines::seat_in))]
+pub(crate) fn seat_in(line: &[u8]) -> Option<SeatText>
+    ensures { result ≡ seat_in line.now }
+{
+    let (core, ni, seat) = seat_words(line)?;
     let core = Name::new(core)?;
     let ni = Name::new(ni)?;
     let seat = number_in(seat)?;
