@@ -21,23 +21,14 @@ use Rattle.aeth_group.proofs.ListLemmas.{any_from_passes, passes_from_any}
 use Rattle.aeth_plan.specs.Plan.{PlanData}
 use Rattle.aeth_check.specs.Accepted.{HasGrant}
 use Rattle.aeth_check.specs.Channels.{HasSlots, IsOnPath, first_lacking, fits_path, fits_slots}
-use Rattle.aeth_check.specs.Channels.{has_side, is_for, lacking_side, leads, receiver, same_side}
+use Rattle.aeth_check.specs.Channels.{has_side, is_for, lacking_side, leads, receiver}
 use Rattle.aeth_check.specs.Channels.{sender, side_or}
 use Rattle.aeth_check.specs.Seats.{ni_of}
+use Rattle.aeth_base.specs.Sides.{same_side}
+use Rattle.aeth_base.proofs.SideLemmas.{same_side-is, same_side-itself}
 use Rattle.aeth_check.proofs.RouteLaws.{is_admissible-Decides}
 
 -- ---- Units
-
--- Sides that pass are one.
-pub side_is : (a b : Side) → same_side a b ≡ true → a ≡ b
-side_is Fwd Fwd same = refl
-side_is Fwd Back same = absurd (false≢true same)
-side_is Back Fwd same = absurd (false≢true same)
-side_is Back Back same = refl
-
-side_same : (a : Side) → same_side a a ≡ true
-side_same Fwd = refl
-side_same Back = refl
 
 -- The test decides whether a unit has a grant for a side.
 pub has_side-Decides : (plan : PlanData) (unit : GroupUnit) (side : Side)
@@ -52,12 +43,12 @@ has_side-Decides plan unit side = (
         grant = grant.item;
         granted = grant.is_in;
         unit_is = λ i. record { conn = record { 0 = conns i }; group = record { 0 = groups i } };
-        side_is = side_is grant.item.side side same;
+        side_is = same_side-is grant.item.side side same;
       }),
   (λ has. any_from_passes (is_for unit side) plan.grants has.grant has.granted
       (and_from _ _ (eq-eqb _ _ (ap (λ (u : GroupUnit). u.conn.0) has.unit_is))
       (and_from _ _ (eq-eqb _ _ (ap (λ (u : GroupUnit). u.group.0) has.unit_is))
-      (ap (λ s. same_side s side) has.side_is ∙ side_same side)))),
+      (ap (λ s. same_side s side) has.side_is ∙ same_side-itself side)))),
 )
 
 or_none : (unit : GroupUnit) (side : Option Side) (later : Option (GroupUnit × Side))

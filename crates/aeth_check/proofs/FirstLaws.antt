@@ -3,32 +3,19 @@ use Rattle.std.proofs.Common.{◌≡◌, ◌∙◌, ◌<◌, ℕ, zero, suc, Boo
 use Rattle.std.proofs.Common.{◌∷◌, Option, Some, None, Contains, slice_get, refl, sym, ap, inl, inr}
 use Rattle.std.proofs.Common.{arith, not, ◌↔◌}
 use Rattle.std.specs.Bool.{Decides}
-use Rattle.std.proofs.lemmas.Bool.{cond-false, false_from_ne_true, false≢true}
+use Rattle.std.proofs.lemmas.Bool.{cond-false, false_from_ne_true, false≢true, not-false}
 use Rattle.std.proofs.lemmas.Option.{get_or_from_slice_get, none-some, same_Some}
 use Rattle.std.proofs.lemmas.Option.{slice_get-get_or}
 use Rattle.std.proofs.lemmas.Option.{slice_get_within}
-use Rattle.aeth_base.proofs.Members.{Contains-cases, Contains-here, Contains-nil, Contains-there}
+use Rattle.aeth_base.proofs.Members.{Contains-cases, Contains-here, Contains-nil, Contains-slice_get}
+use Rattle.aeth_base.proofs.Members.{Contains-there, slice_get-Contains}
 use Rattle.aeth_text.specs.Order.{line_after}
 use Rattle.aeth_check.specs.Firsts.{NoTwo, first_line, first_pair, pair_or}
-
--- An item at a place is in the list.
-pub contains_at : {X : Type 0} (xs : List X) (i : ℕ) (x : X) → slice_get xs i ≡ Some x
-    → Contains xs x
-contains_at xs i x at = (i, slice_get_within xs i x at, get_or_from_slice_get xs i x x at)
-
--- An item that is in a list stands at a place.
-pub place_in : {X : Type 0} (xs : List X) (x : X) → Contains xs x
-    → (i : ℕ) × (slice_get xs i ≡ Some x)
-place_in xs x has = (has.0, slice_get-get_or xs has.0 x has.1 ∙ ap Some has.2)
 
 pair_none : (line : ℕ) (first : Option ℕ) (later : Option (ℕ × ℕ))
     → pair_or line first later ≡ None → (first ≡ None) × (later ≡ None)
 pair_none line None later none = (refl, none)
 pair_none line (Some other) later none = absurd (none-some (line, other) (sym none))
-
-true_from_not : (b : Bool) → not b ≡ false → b ≡ true
-true_from_not true fails = refl
-true_from_not false fails = absurd (false≢true (sym fails))
 
 module _ {X : Type 0} where
   line_cons : (test : X → Bool) (line : ℕ) (x : X) (xs : List X)
@@ -73,7 +60,7 @@ module _ {X : Type 0} where
       let (first, later) = pair_none line _ _ none in
       let same : x ≡ a = same_Some x a at_i in
       ap (λ y. test y b) (sym same)
-      ∙ none_passes (test x) (line_after line 1) xs first b (contains_at xs j b at_j)
+      ∙ none_passes (test x) (line_after line 1) xs first b (Contains-slice_get xs j b at_j)
   no_two_pass test line (x ∷ xs) none (suc i) zero a b less at_i at_j = absurd (omega arith)
   no_two_pass test line (x ∷ xs) none (suc i) (suc j) a b less at_i at_j =
       let (first, later) = pair_none line _ _ none in
@@ -88,7 +75,7 @@ module _ {X : Type 0} where
   no_pair_of test line (x ∷ xs) fails =
       ap (λ o. pair_or line o (first_pair test (line_after line 1) xs))
       (no_line (test x) (line_after line 1) xs (λ y has.
-      let at = place_in xs y has in fails 0 (suc at.0) x y (omega arith) refl at.1))
+      let at = slice_get-Contains xs y has in fails 0 (suc at.0) x y (omega arith) refl at.1))
       ∙ no_pair_of test (line_after line 1) xs (λ i j a b less at_i at_j.
       fails (suc i) (suc j) a b (omega arith) at_i at_j)
 
@@ -112,7 +99,7 @@ module _ {X : Type 0} where
   all_hold test Holds line xs decides = (
     (λ none x has.
         let fails = none_passes (λ y. not (test y)) line xs none x has in
-        (decides x).0 (true_from_not (test x) fails)),
+        (decides x).0 (not-false (test x) fails)),
     (λ holds. no_line (λ x. not (test x)) line xs
         (λ x has. ap not ((decides x).1 (holds x has)))),
   )

@@ -12,8 +12,8 @@ use Rattle.aeth_group.proofs.ListLemmas.{any_from_passes, passes_from_any}
 use Rattle.aeth_text.specs.Order.{Rises}
 use Rattle.aeth_plan.specs.Plan.{grant_before}
 use Rattle.aeth_check.specs.Channels.{has_side, is_before, is_for}
-use Rattle.aeth_check.proofs.ChannelLaws.{side_is}
-use Rattle.aeth_check.proofs.FirstLaws.{contains_at, place_in}
+use Rattle.aeth_base.proofs.SideLemmas.{same_side-is}
+use Rattle.aeth_base.proofs.Members.{Contains-slice_get, slice_get-Contains}
 use Rattle.aeth_check.proofs.GrantOrder.{before_trans, not_before, rises_at}
 
 -- A grant for a side of a unit has its connection, group and side.
@@ -29,7 +29,7 @@ for_parts unit side grant found =
     let (group, same) = and_parts (eqb grant.unit.group.0 unit.group.0) _ onward in record {
       conn = eqb-true _ _ conn;
       group = eqb-true _ _ group;
-      side_is = side_is grant.side side same;
+      side_is = same_side-is grant.side side same;
     }
 
 -- A grant that is sought, with any path and slots.
@@ -92,10 +92,10 @@ module _ (unit : GroupUnit) (side : Side) (grants : List Grant)
       let cases : (b : Bool) → is_for unit side y ≡ b → is_for unit side y ≡ has_side grants unit side =
       elim [
         | true ↦ λ is. is ∙ sym (any_from_passes (is_for unit side) grants y
-            (contains_at grants low y at) is)
+            (Contains-slice_get grants low y at) is)
         | false ↦ λ is. is ∙ sym (false_from_ne_true (has_side grants unit side) (λ some.
             let found = passes_from_any (is_for unit side) grants some in
-            let (k, at_k) = place_in grants found.item found.is_in in
+            let (k, at_k) = slice_get-Contains grants found.item found.is_in in
             elim (cases_lt k low) [
               | inl less ↦ not_for found.item (before k found.item less at_k) found.passes
               | inr past ↦ elim (cases_lt low k) [
@@ -118,6 +118,6 @@ module _ (unit : GroupUnit) (side : Side) (grants : List Grant)
   none_for low past before =
       sym (false_from_ne_true (has_side grants unit side) (λ some.
       let found = passes_from_any (is_for unit side) grants some in
-      let (k, at_k) = place_in grants found.item found.is_in in
+      let (k, at_k) = slice_get-Contains grants found.item found.is_in in
       let within = slice_get_within grants k found.item at_k in
       not_for found.item (before k found.item (omega (arith, within)) at_k) found.passes))

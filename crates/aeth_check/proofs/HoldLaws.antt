@@ -5,6 +5,7 @@ use Rattle.std.specs.Prelude.{filter}
 use Rattle.std.specs.List.{range_with_len}
 use Rattle.std.proofs.lemmas.Bool.{cases_lt, le-ltb, lt-ltb}
 use Rattle.std.proofs.lemmas.Option.{slice_get-get_or, slice_get_past}
+use Rattle.aeth_base.proofs.Filters.{filter-none}
 use Rattle.aeth_slots.specs.SlotSet.{Slots}
 use Rattle.aeth_chip.specs.Chip.{ChipData}
 use Rattle.aeth_group.specs.Members.{GroupsData, group_at, has_unit, use_has}
@@ -13,10 +14,6 @@ use Rattle.aeth_group.specs.declared.grant.Grant.{Grant}
 use Rattle.aeth_group.specs.Tables.{Changes, hits_uses}
 use Rattle.aeth_group.proofs.TableLemmas.{table-same}
 use Rattle.aeth_check.specs.Masks.{Holds, is_held}
-
-filter-none : (xs : List ℕ) → filter (λ x. false) xs ≡ []
-filter-none [] = refl
-filter-none (x ∷ xs) = filter-none xs
 
 -- Masks without slots hold no grant.
 pub holds-none : (chip : ChipData) (groups : GroupsData) (masks : List Slots)

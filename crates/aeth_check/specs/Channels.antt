@@ -10,6 +10,7 @@
 use Rattle.std.specs.Prelude.{◌≡◌, ◌+◌, ◌-◌, ℕ, ◌==◌, ◌&&◌, Bool, true, false, List, [], ◌∷◌}
 use Rattle.std.specs.Prelude.{Option, Some, None, slice_get, if◌then◌else◌}
 use Rattle.std.specs.List.{list_any}
+pub use Rattle.aeth_base.specs.Sides.{same_side}
 use Rattle.aeth_base.specs.declared.ids.CoreId.{CoreId}
 use Rattle.aeth_base.specs.declared.ids.LinkId.{LinkId}
 use Rattle.aeth_base.specs.declared.ids.NiId.{NiId}
@@ -39,13 +40,6 @@ receiver connection Fwd = connection.to
 receiver connection Back = connection.from
 
 -- ---- Units
-
--- Whether two sides are one.
-abbrev pub same_side : Side → Side → Bool
-same_side Fwd Fwd = true
-same_side Fwd Back = false
-same_side Back Fwd = false
-same_side Back Back = true
 
 -- Whether a grant is for a side of a unit.
 abbrev pub is_for : GroupUnit → Side → Grant → Bool

@@ -1,6 +1,7 @@
 // Rules 3 and 4: units and their sides.
 ghost use Rattle.aeth_check.specs.Channels.{first_lacking, has_side, is_before, is_for};
-ghost use Rattle.aeth_check.specs.Channels.{lacking_side, same_side};
+ghost use Rattle.aeth_base.specs.Sides.{same_side};
+ghost use Rattle.aeth_check.specs.Channels.{lacking_side};
 ghost use Rattle.aeth_check.specs.Firsts.{first_line};
 ghost use Rattle.aeth_check.specs.Verdict.{lacking, stranger};
 ghost use Rattle.aeth_group.specs.Members.{is_member, units_of, units_with};
