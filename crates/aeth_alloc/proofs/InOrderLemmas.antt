@@ -19,29 +19,21 @@ use Rattle.aeth_group.specs.declared.grant.Grant.{Grant}
 use Rattle.aeth_plan.specs.Making.{AreApart}
 use Rattle.aeth_plan.specs.Plan.{PlanData, grant_before, side_before}
 use Rattle.aeth_plan.proofs.MadePlans.{grants_apart}
-use Rattle.aeth_check.specs.Channels.{is_for, same_side}
+use Rattle.aeth_base.specs.Sides.{same_side}
+use Rattle.aeth_base.proofs.SideLemmas.{same_side-is, same_side-itself}
+use Rattle.aeth_check.specs.Channels.{is_for}
 use Rattle.aeth_text.specs.Order.{Rises}
 use Rattle.aeth_alloc.specs.Allocation.{grants_for, in_order}
 use Rattle.aeth_alloc.proofs.OnceLists.{AreOnce, once-pairs, once-permutation}
 use Rattle.aeth_alloc.proofs.OrderedLists.{Ordered, ordered-append, ordered-filter, ordered-flat_map}
 use Rattle.aeth_alloc.proofs.OrderedLists.{ordered-map, ordered-range, rises-ordered}
 
--- ---- which grants are for a side of a unit
-
-side-is : (a b : Side) → same_side a b ≡ true → a ≡ b
-side-is Fwd Fwd same = refl
-side-is Fwd Back same = absurd (false≢true same)
-side-is Back Fwd same = absurd (false≢true same)
-side-is Back Back same = refl
-
-side-same : (a : Side) → same_side a a ≡ true
-side-same Fwd = refl
-side-same Back = refl
-
 -- Units with one connection and one group are one.
 pub one-unit : (a b : GroupUnit) → a.conn.0 ≡ b.conn.0 → a.group.0 ≡ b.group.0 → a ≡ b
 one-unit a b conns groups =
     λ i. record { conn = record { 0 = conns i }; group = record { 0 = groups i } }
+
+-- ---- which grants are for a side of a unit
 
 is-for : (unit : GroupUnit) (side : Side) (grant : Grant) → is_for unit side grant ≡ true
     → (grant.unit ≡ unit) × (grant.side ≡ side)
@@ -49,7 +41,7 @@ is-for unit side grant passes =
     let (conn, onward) = and_parts (eqb grant.unit.conn.0 unit.conn.0) _ passes in
     let (group, same) = and_parts (eqb grant.unit.group.0 unit.group.0) _ onward in (
       one-unit grant.unit unit (eqb-true _ _ conn) (eqb-true _ _ group),
-      side-is grant.side side same,
+      same_side-is grant.side side same,
     )
 
 for-is : (unit : GroupUnit) (side : Side) (grant : Grant) → grant.unit ≡ unit → grant.side ≡ side
@@ -57,7 +49,7 @@ for-is : (unit : GroupUnit) (side : Side) (grant : Grant) → grant.unit ≡ uni
 for-is unit side grant units sides =
     and_from _ _ (eq-eqb _ _ (ap (λ (u : GroupUnit). u.conn.0) units))
     (and_from _ _ (eq-eqb _ _ (ap (λ (u : GroupUnit). u.group.0) units))
-    (ap (λ s. same_side s side) sides ∙ side-same side))
+    (ap (λ s. same_side s side) sides ∙ same_side-itself side))
 
 -- ---- the same grants
 

@@ -20,6 +20,7 @@ mod UnitTryLemmas
 pub mod StateLemmas
 pub mod LastStateLemmas
 mod RefusalLemmas
+mod LackLemmas
 pub mod PlanLemmas
 pub mod PlanOfLemmas
 pub mod OutcomeLemmas

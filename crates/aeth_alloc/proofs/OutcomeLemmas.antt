@@ -5,14 +5,14 @@ use Rattle.aeth_chip.specs.Chip.{ChipData, IsChip}
 use Rattle.aeth_app.specs.App.{AppData, IsApp, IsAppOf}
 use Rattle.aeth_group.specs.Members.{GroupsData, groups_of, units_of}
 use Rattle.aeth_plan.specs.Making.{AreApart, IsPlanWith}
-use Rattle.aeth_plan.specs.Plan.{IsPlanOf}
 use Rattle.aeth_plan.proofs.MadePlans.{made_once}
 use Rattle.aeth_alloc.specs.Allocation.{OutcomeData, allocation, last_state, outcome_of}
 use Rattle.aeth_alloc.specs.Channels.{Design}
+use Rattle.aeth_alloc.specs.Refusals.{RefusesExactly}
 use Rattle.aeth_alloc.specs.Turns.{State}
 use Rattle.aeth_alloc.proofs.LastStateLemmas.{last-apart, sound-turns}
 use Rattle.aeth_alloc.proofs.PlanLemmas.{plan-with}
-use Rattle.aeth_alloc.proofs.PlanOfLemmas.{allocation-plan_of}
+use Rattle.aeth_alloc.proofs.LackLemmas.{refuses-exactly}
 
 -- The grants of the last state stand apart, so that a plan can be made of them.
 pub state-apart : (design : Design) (groups : GroupsData) (state : State) → IsChip design.chip
@@ -57,14 +57,23 @@ allocation-made chip app groups prices state outcome is_chip is_app of are is ma
     all made)
     (subst (λ (s : State). outcome.refused ≡ s.refused) all same))
 
--- So its plan is one for the chip, the application and its groups.
-pub plan-made : {E : Type 0} (chip : ChipData) (app : AppData) (groups : GroupsData)
-    (prices : List ℕ) → IsChip chip → IsApp app → IsAppOf chip app → groups ≡ groups_of app
+-- What holds of the allocation holds of what is made.
+pub of-made : {E : Type 0} (chip : ChipData) (app : AppData) (groups : GroupsData)
+    (prices : List ℕ) → groups ≡ groups_of app → (P : GroupsData → OutcomeData → Type 0)
+    → P (groups_of app) (allocation chip app (groups_of app) prices)
     → (answer : Result OutcomeData E)
     → IfOk answer (λ outcome. outcome ≡ allocation chip app groups prices)
-    → IfOk answer (λ outcome. IsPlanOf chip app groups outcome.plan)
-plan-made chip app groups prices is_chip is_app of are (Err e) is = tt
-plan-made chip app groups prices is_chip is_app of are (Ok outcome) is =
-    subst (λ (outcome : OutcomeData). IsPlanOf chip app groups outcome.plan) (sym is)
-    (subst (λ (gs : GroupsData). IsPlanOf chip app gs (allocation chip app gs prices).plan) (sym are)
-    (allocation-plan_of chip app prices is_chip is_app of))
+    → IfOk answer (P groups)
+of-made chip app groups prices are P holds (Err e) is = tt
+of-made chip app groups prices are P holds (Ok outcome) is =
+    subst (P groups) (sym is)
+    (subst (λ (gs : GroupsData). P gs (allocation chip app gs prices)) (sym are) holds)
+
+-- The allocation refuses exactly the units of which a channel has no candidate in its turn.
+pub allocation-refuses : (chip : ChipData) (app : AppData) (prices : List ℕ) → IsChip chip
+    → IsApp app → IsAppOf chip app
+    → RefusesExactly (record { chip = chip; app = app; prices = prices }) (groups_of app)
+    (allocation chip app (groups_of app) prices).refused
+unfolding allocation
+allocation-refuses chip app prices =
+    refuses-exactly (record { chip = chip; app = app; prices = prices })

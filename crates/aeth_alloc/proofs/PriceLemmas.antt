@@ -6,7 +6,7 @@ use Rattle.std.proofs.lemmas.List.FromFn.{get_or-map-range_with_len, length-map-
 use Rattle.aeth_base.specs.Limits.{max_link_delay, max_slots}
 use Rattle.aeth_paths.specs.Costs.{AreCosts, cost_count, price, used_count}
 use Rattle.aeth_app.specs.declared.connection.Price.{Price}
-use Rattle.aeth_alloc.specs.Prices.{price_of, prices_of, table_of}
+use Rattle.aeth_alloc.specs.Prices.{cost_by, prices_of, table_of}
 
 -- A table whose answers are those of a function is the table of this function.
 same-table : (table : List ℕ) (cost : ℕ → ℕ → ℕ) → AreCosts table
@@ -26,7 +26,7 @@ same-table table cost are same =
 
 -- So a cost with the answers of a price is seen as this price's table.
 pub price-table : (its : Price) (table : List ℕ) → AreCosts table
-    → ((d u : ℕ) → 1 ≤ d → d ≤ max_link_delay → u ≤ max_slots → price table d u ≡ price_of its d u)
+    → ((d u : ℕ) → 1 ≤ d → d ≤ max_link_delay → u ≤ max_slots → price table d u ≡ cost_by its d u)
     → table ≡ prices_of its
 unfolding prices_of
-price-table its table = same-table table (price_of its)
+price-table its table = same-table table (cost_by its)

@@ -1,7 +1,7 @@
 -- What links cost by an application's price, as tables of costs. This project's own.
 --
 --   table_of      the table of the answers of a function of a link's delay and its used slots
---   hops, pressure, price_of      the two prices
+--   hops, pressure, cost_by      the two prices
 --   prices_of      the table of an application's price
 use Rattle.std.specs.Prelude.{ℕ, ◌+◌, ◌/◌, ◌%◌, List, map}
 use Rattle.std.specs.List.{range_with_len}
@@ -16,10 +16,10 @@ table_of cost = map (λ i. cost (1 + i / used_count) (i % used_count)) (range_wi
 
 -- By `hops` each link costs 1. By `pressure` it costs 1 and one more for each of its slots that is
 -- used.
-abbrev pub price_of : Price → ℕ → ℕ → ℕ
-price_of Hops delay used = 1
-price_of Pressure delay used = 1 + used
+abbrev pub cost_by : Price → ℕ → ℕ → ℕ
+cost_by Hops delay used = 1
+cost_by Pressure delay used = 1 + used
 
 -- The table of a price.
 unfoldable pub prices_of : Price → List ℕ
-prices_of price = table_of (price_of price)
+prices_of price = table_of (cost_by price)

@@ -2,9 +2,10 @@
 --
 --   HasNoCandidate      nothing is a candidate for a channel
 --   IsBeforeTry, IsRefused      what is reserved when a side is tried; why a unit is refused
+--   LacksCandidate, RefusesExactly      a channel has no candidate in its turn; exactly such are refused
 --   IsAmong, LacksOnlyRefused      a plan breaks no rule of an accepted plan but the one on missing
 --                                  sides, and that one for refused units alone
-use Rattle.std.specs.Prelude.{◌≡◌, ◌<◌, ◌+◌, ℕ, Some, Contains, length, slice_get, IsTrue}
+use Rattle.std.specs.Prelude.{◌≡◌, ◌<◌, ◌+◌, ℕ, ◌↔◌, List, Some, Contains, length, slice_get, IsTrue}
 use Rattle.aeth_base.specs.declared.ids.CoreId.{CoreId}
 use Rattle.aeth_base.specs.declared.ids.NiId.{NiId}
 use Rattle.aeth_base.specs.declared.ids.Side.{Side}
@@ -55,6 +56,26 @@ pub record IsRefused (design : Design) (groups : GroupsData) (refused : Refused)
   pub none : HasNoCandidate design reserved connection refused.unit refused.side
   pub kept : (after_turns design groups (before + 1)).reserved
       ≡ (after_turns design groups before).reserved
+
+-- In the turn of a unit the channel of a side has no candidate when it is tried.
+pub record LacksCandidate (design : Design) (groups : GroupsData) (refused : Refused) : Type 0 where
+  pub before : ℕ
+  pub turn : refused.turn ≡ before + 1
+  pub within : before < length (units_of groups)
+  pub next : next_unit (after_turns design groups before).units
+      (after_turns design groups before).reserved.seats.places ≡ Some refused.unit
+  pub connection : Connection
+  pub is : slice_get design.app.connections refused.unit.conn.0 ≡ Some connection
+  pub reserved : Reserved
+  pub tried : IsBeforeTry design (after_turns design groups before).reserved refused.unit
+      refused.side reserved
+  pub none : HasNoCandidate design reserved connection refused.unit refused.side
+
+-- A unit is refused, with a side and its turn, exactly where the channel of this side has no
+-- candidate in this turn.
+abbrev pub RefusesExactly : Design → GroupsData → List Refused → Type 0
+RefusesExactly design groups refusals = (refused : Refused)
+    → Contains refusals refused ↔ LacksCandidate design groups refused
 
 -- A unit is among the refused.
 pub record IsAmong (outcome : OutcomeData) (unit : GroupUnit) : Type 0 where

@@ -1,10 +1,12 @@
 // The allocation.
-ghost use Rattle.std.specs.Prelude.{◌≡◌, IfOk};
+ghost use Rattle.std.specs.Prelude.{◌≡◌, [], IfOk};
 ghost use Rattle.aeth_app.specs.App.{IsAppOf};
+ghost use Rattle.aeth_check.specs.Accepted.{IsAccepted};
 ghost use Rattle.aeth_group.specs.Members.{groups_of};
 ghost use Rattle.aeth_plan.specs.Plan.{IsPlanOf};
 ghost use Rattle.aeth_alloc.specs.Allocation.{allocation, last_state};
 ghost use Rattle.aeth_alloc.specs.Prices.{prices_of};
+ghost use Rattle.aeth_alloc.specs.Refusals.{LacksOnlyRefused, RefusesExactly};
 
 use crate::channels::Design;
 use crate::outcome::Outcome;
@@ -28,6 +30,16 @@ pub fn allocate(alloc: Global, chip: &Chip, app: &App, groups: &Groups) -> Resul
     ensures gives { IfOk result (λ outcome.
         outcome ≡ allocation chip.now app.now groups.now (prices_of app.now.price)) }
     ensures plan { IfOk result (λ outcome. IsPlanOf chip.now app.now groups.now outcome.plan) }
+    // The plan breaks no rule of the check but that refused units lack sides.
+    ensures lacks { IfOk result (λ outcome. LacksOnlyRefused chip.now app.now groups.now outcome) }
+    // A unit is refused exactly where a channel of it has no candidate in its turn.
+    ensures refused { IfOk result (λ outcome. RefusesExactly (record {
+      chip = chip.now;
+      app = app.now;
+      prices = prices_of app.now.price;
+    }) groups.now outcome.refused) }
+    ensures accepted { IfOk result (λ outcome. outcome.refused ≡ []
+        → IsAccepted chip.now app.now groups.now outcome.plan) }
 {
     match app.price() {
         Price::Hops => allocate_with(alloc, chip, app, groups, &Cost::new(|_delay, _used| 1)),
@@ -56,6 +68,16 @@ pub fn allocate_with<F: Fn(u32, u32) -> u32>(
     ensures gives { IfOk result (λ outcome.
         outcome ≡ allocation chip.now app.now groups.now cost.now) }
     ensures plan { IfOk result (λ outcome. IsPlanOf chip.now app.now groups.now outcome.plan) }
+    // The plan breaks no rule of the check but that refused units lack sides.
+    ensures lacks { IfOk result (λ outcome. LacksOnlyRefused chip.now app.now groups.now outcome) }
+    // A unit is refused exactly where a channel of it has no candidate in its turn.
+    ensures refused { IfOk result (λ outcome. RefusesExactly (record {
+      chip = chip.now;
+      app = app.now;
+      prices = cost.now;
+    }) groups.now outcome.refused) }
+    ensures accepted { IfOk result (λ outcome. outcome.refused ≡ []
+        → IsAccepted chip.now app.now groups.now outcome.plan) }
 {
     let _slots = chip.slots();
     let _app_slots = app.slots();

@@ -14,7 +14,7 @@ ghost use Rattle.aeth_plan.specs.Plan.{IsPlanOf};
 ghost use Rattle.aeth_alloc.specs.Allocation.{allocation, last_state};
 ghost use Rattle.aeth_alloc.specs.Channels.{Design};
 ghost use Rattle.aeth_alloc.specs.FirstCandidate.{first_candidate};
-ghost use Rattle.aeth_alloc.specs.Refusals.{IsRefused, LacksOnlyRefused};
+ghost use Rattle.aeth_alloc.specs.Refusals.{IsRefused, LacksOnlyRefused, RefusesExactly};
 ghost use Rattle.aeth_alloc.specs.declared.outcome.Refused.{Refused};
 
 /// The first candidate as a function is the first candidate as a fact, and there is none exactly
@@ -37,12 +37,16 @@ pub fn turns()
 {}
 
 /// A refused unit is that of its turn, the side for which it is refused had no candidate, and the turn
-/// leaves all that is reserved as it was.
+/// leaves all that is reserved as it was. Each unit is refused of which a channel has no candidate in
+/// its turn.
 pub fn refusals()
-    ensures { (design : Design) → IsChip design.chip → IsApp design.app
+    ensures rightly { (design : Design) → IsChip design.chip → IsApp design.app
         → IsAppOf design.chip design.app → (refused : Refused)
         → Contains (last_state design (groups_of design.app)).refused refused
         → IsRefused design (groups_of design.app) refused }
+    ensures exactly { (design : Design) → IsChip design.chip → IsApp design.app
+        → IsAppOf design.chip design.app → RefusesExactly design (groups_of design.app)
+        (last_state design (groups_of design.app)).refused }
 {}
 
 /// The plan is one for the chip, the application and its groups. It breaks no rule of an accepted plan

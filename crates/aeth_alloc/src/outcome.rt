@@ -5,7 +5,7 @@ use aeth_plan::Plan;
 use std::marker::Model;
 
 /// A unit that was refused, with the side that had no candidate, and its turn, counted from 1.
-#[derive(Clone, Copy, Debug, PartialEq, Eq)]
+#[derive(Clone, Copy, PartialEq)]
 pub struct Refused {
     pub unit: Unit,
     pub side: Side,

@@ -3,6 +3,7 @@ use Rattle.std.specs.Prelude.{IfOk}
 use Rattle.aeth_app.specs.declared.connection.Price.TheVariants.{Hops, Pressure}
 use Rattle.aeth_alloc.specs.Allocation.{allocation}
 use Rattle.aeth_alloc.specs.Prices.{prices_of}
+use Rattle.aeth_alloc.specs.Refusals.{RefusesExactly}
 use Rattle.aeth_alloc.proofs.PriceLemmas.{price-table}
 use Rattle.aeth_alloc.proofs.allocation.allocate.Goals as goal
 
@@ -32,3 +33,26 @@ returns-in-Pressure-clause-gives c =
     (λ d u some most few.
     let told = c.new-in-Pressure.ensures.answers d u some most few in search rules)
     ∙ ap prices_of c.in-Pressure.ensures) c.allocate_with-in-Pressure.ensures.gives
+
+-- So are those by which units are refused.
+pub returns-in-Hops-clause-refused : goal.returns-in-Hops-clause-refused
+returns-in-Hops-clause-refused c =
+    subst (λ (prices : List ℕ). IfOk c.allocate_with.result (λ outcome. RefusesExactly (record {
+      chip = c.args.chip.now;
+      app = c.args.app.now;
+      prices = prices;
+    }) c.args.groups.now outcome.refused))
+    (price-table Hops c.new.result c.new.ensures.costs (λ d u some most few.
+    let told = c.new.ensures.answers d u some most few in search rules)
+    ∙ ap prices_of c.in-Hops.ensures) c.allocate_with.ensures.refused
+
+pub returns-in-Pressure-clause-refused : goal.returns-in-Pressure-clause-refused
+returns-in-Pressure-clause-refused c =
+    subst (λ (prices : List ℕ). IfOk c.allocate_with-in-Pressure.result (λ outcome. RefusesExactly (record {
+      chip = c.args.chip.now;
+      app = c.args.app.now;
+      prices = prices;
+    }) c.args.groups.now outcome.refused))
+    (price-table Pressure c.new-in-Pressure.result c.new-in-Pressure.ensures.costs (λ d u some most few.
+    let told = c.new-in-Pressure.ensures.answers d u some most few in search rules)
+    ∙ ap prices_of c.in-Pressure.ensures) c.allocate_with-in-Pressure.ensures.refused
