@@ -15,8 +15,8 @@ use Rattle.aeth_app.specs.App.{AppData, has_connection, is_marked}
 use Rattle.aeth_group.specs.Members.{UseGroupData, group_at, groups_of, has_at, use_group, use_has}
 use Rattle.aeth_group.specs.declared.grant.Grant.{Grant}
 use Rattle.aeth_group.proofs.MemberLemmas.{connections-groups_of, length-groups_of}
-use Rattle.aeth_check.specs.Channels.{is_for as is_grant_for, same_side}
-use Rattle.aeth_trace.specs.Channels.{is_side}
+use Rattle.aeth_check.specs.Channels.{is_for as is_grant_for, same_side as is_same}
+use Rattle.aeth_base.specs.Sides.{same_side}
 use Rattle.aeth_report.specs.Design.{connection_at, grant_at, is_for, no_connection, no_grant}
 use Rattle.aeth_tables.specs.Granted.{Granted, grant_of, grant_on, granted_in, unit_in}
 use Rattle.aeth_tables.proofs.ListLaws.{has_place}
@@ -25,7 +25,7 @@ use Rattle.aeth_tables.proofs.UseLaws.{conns_of, made_in}
 use Rattle.aeth_accepted.specs.Inputs.{AreAccepted, Inputs, design_of}
 
 -- Two tests of sides are one.
-sides-same : (one other : Side) → is_side one other ≡ same_side one other
+sides-same : (one other : Side) → same_side one other ≡ is_same one other
 sides-same Fwd Fwd = refl
 sides-same Fwd Back = refl
 sides-same Back Fwd = refl

@@ -2,3 +2,6 @@ pub mod PathPlaces
 pub mod GivenGrants
 pub mod SoundRuns
 pub mod TableFlows
+pub mod SessionRows
+pub mod ApartRows
+pub mod Wished

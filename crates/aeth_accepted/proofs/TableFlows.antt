@@ -39,14 +39,15 @@ use Rattle.aeth_header.specs.Route.{route_of}
 use Rattle.aeth_report.specs.declared.session.Session.{Session}
 use Rattle.aeth_check.specs.Channels.{receiver as receiving_core, sender as sending_core}
 use Rattle.aeth_reconf.specs.Rows.{channels_that, rows_that}
-use Rattle.aeth_report.specs.Channels.{channels_with, opposite, other_side as opposite_side}
+use Rattle.aeth_base.specs.Sides.{channels_with, other_side}
+use Rattle.aeth_report.specs.Channels.{opposite}
 use Rattle.aeth_report.specs.Channels.{receiver, sender}
 use Rattle.aeth_report.specs.Design.{grant_at, queue_at, remote_at, seat_at, shape_at}
 use Rattle.aeth_report.specs.Flows.{server_of, sessions_in}
 use Rattle.aeth_report.specs.Sound.{IsSound}
 use Rattle.aeth_report.proofs.ClosingLemmas.{stay_of}
 use Rattle.aeth_report.specs.Routes.{port_of as port_named, route_along as route_named}
-use Rattle.aeth_tables.specs.Granted.{Granted, grant_on, granted_in, granted_of, line_of, other_side}
+use Rattle.aeth_tables.specs.Granted.{Granted, grant_on, granted_in, granted_of, line_of}
 use Rattle.aeth_tables.specs.Granted.{receiving_seat, sending_seat}
 use Rattle.aeth_tables.specs.Reserved.{IsReserved}
 use Rattle.aeth_tables.specs.Routes.{port_from, port_of, route_along}
@@ -132,15 +133,11 @@ senders-same : (connection : Connection) (side : Side)
 senders-same connection Fwd = refl
 senders-same connection Back = refl
 
--- Two words for the receiver of a side are one, and so are two for the other side.
+-- Two words for the receiver of a side are one,
 receivers-same : (connection : Connection) (side : Side)
     → receiver connection side ≡ receiving_core connection side
 receivers-same connection Fwd = refl
 receivers-same connection Back = refl
-
-sides-opposite : (side : Side) → opposite_side side ≡ other_side side
-sides-opposite Fwd = refl
-sides-opposite Back = refl
 
 -- ---- Flows
 
@@ -175,8 +172,7 @@ module _ (inputs : Inputs) (accepted : AreAccepted inputs) (u : UseId)
         let design = design_of inputs in
         let own = given.grants_are side in
         let back : grant_at design (opposite channel) group ≡ grant_on granted (other_side side) =
-        ap (λ (s : Side). grant_at design (record { conn = granted.conn; side = s }) group)
-        (sides-opposite side) ∙ given.grants_are (other_side side) in
+        given.grants_are (other_side side) in
         let size = sym (reserved.serves side).size in
         let slots = sym accepted.of_chip.slots in
         let connection = given.connection_is in

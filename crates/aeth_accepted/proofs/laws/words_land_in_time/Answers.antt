@@ -1,4 +1,6 @@
 use Rattle.aeth_accepted.specs.Inputs.{run_of}
+use Rattle.aeth_accepted.specs.Wishes.{latency_at}
+use Rattle.aeth_accepted.proofs.Wished.{need_at, waits_alone}
 use Rattle.aeth_accepted.proofs.laws.words_land_in_time.Goals as goal
 
 -- The run is sound, and the channel is granted what it asks for.
@@ -19,3 +21,12 @@ returns-clause-alone c = λ inputs accepted channel session has.
     let sound = c.runs_are_sound.ensures in
     c.single_words_land.ensures (run_of inputs) (sound.sound inputs accepted) accepted.words.order
     channel session has (sound.granted inputs accepted channel session has)
+
+-- The slots are suitable for what the channel wishes.
+pub returns-clause-wished : goal.returns-clause-wished
+returns-clause-wished c = λ inputs accepted channel session has i a offered.
+    let sound = c.runs_are_sound.ensures in
+    let run_sound = sound.sound inputs accepted in
+    c.single_words_land.ensures (run_of inputs) run_sound accepted.words.order channel session has
+    (sound.granted inputs accepted channel session has) (need_at inputs channel) i a
+    (latency_at inputs channel) (waits_alone inputs accepted run_sound channel session has i a offered)
