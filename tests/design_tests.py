@@ -1,18 +1,271 @@
-"""The tests of `./design`, which stand beside it, run in a folder with the program."""
-import subprocess
+"""Tests of `./design`: each shape through `aeth`, each kind of trace by what it may hold, each refusal with its words."""
+from collections import Counter
+import csv
+import io
 import sys
 import unittest
 
-from home import Home, PROGRAM
+from home import Home, PROGRAM, TOP
+
+sys.path.append(str(TOP / "design.d"))
+import files  # noqa: E402: its folder is told above
+import toml_lines  # noqa: E402
+
+EXAMPLES = TOP / "examples"
 
 
-@unittest.skipUnless(PROGRAM, "there is no program: `./aeth` or `rt ci` builds it")
-class Design(unittest.TestCase):
-    def test_design(self):
-        home = Home(PROGRAM)
-        self.addCleanup(home.end)
-        home.run("chip", "examples/pair.toml")
-        words = [sys.executable, home.top / "design.d/tests.py"]
-        how = {"cwd": home.top, "env": home.settings, "check": False, "capture_output": True, "text": True}
-        ran = subprocess.run(words, **how)
-        self.assertEqual(ran.returncode, 0, ran.stdout + ran.stderr)
+def rows(text):
+    return list(csv.DictReader(io.StringIO(text)))
+
+
+@unittest.skipUnless(PROGRAM, "there is no built program")
+class Designs(unittest.TestCase):
+    """Tests that share a folder with the scripts and the program."""
+
+    @classmethod
+    def setUpClass(cls):
+        cls.home = Home(PROGRAM)
+
+    @classmethod
+    def tearDownClass(cls):
+        cls.home.end()
+
+    def run_script(self, script, *words):
+        return self.home.run(*words, script=script)
+
+    def file(self, name, text):
+        return self.home.put(name, text)
+
+    def made(self, name, *words):
+        status, text, errors = self.run_script("design", *words)
+        self.assertEqual(status, 0, errors)
+        return self.file(name, text)
+
+
+class Chips(Designs):
+    """What `aeth chip` says of each shape: routers, links, and the greatest least distance."""
+
+    SHAPES = (
+        # shape, routers, links, far: worked out by hand
+        ("mesh 4 4", 16, 2 * 16 + 2 * 24, 8),
+        ("mesh 8 8", 64, 2 * 64 + 2 * 112, 16),
+        ("torus 4 4", 16, 2 * 16 + 2 * 32, 6),
+        ("torus 8 8", 64, 2 * 64 + 2 * 128, 10),
+        ("ring 16", 16, 2 * 16 + 2 * 16, 10),
+        ("ring 64", 64, 2 * 64 + 2 * 64, 34),
+        ("tree 16 4", 16, 2 * 16 + 2 * 15, 6),
+        ("tree 64 4", 64, 2 * 64 + 2 * 63, 8),
+        ("mesh 1 1", 1, 2, 2),
+        ("torus 2 2", 4, 2 * 4 + 2 * 4, 4),
+        ("ring 2", 2, 2 * 2 + 2, 3),
+    )
+
+    def test_each_shape_is_a_chip(self):
+        for shape, routers, links, far in self.SHAPES:
+            for more in ((), ("--slots", "128"), ("--delay", "4")):
+                with self.subTest(shape=shape, more=more):
+                    path = self.made("chip", "chip", *shape.split(), *more)
+                    status, text, errors = self.run_script("aeth", "chip", path)
+                    slots = 128 if "--slots" in more else 64
+                    tells = f"chip slots {slots} routers {routers} nis {routers} links {links} far {far} unreached 0\n"
+                    self.assertEqual((status, text), (0, tells), errors)
+
+    def test_interfaces_at_named_routers(self):
+        path = self.made("chip", "chip", "ring", "4", "--at", "r0,r2,r2")
+        self.assertEqual(self.run_script("aeth", "chip", path)[1], "chip slots 64 routers 4 nis 3 links 14 far 4 unreached 0\n")
+
+    def test_what_makes_no_chip(self):
+        for words, tells in (
+            ("mesh 9 9", "a chip has 1 to 64 routers"),
+            ("mesh 4", "mesh has 2 sizes, and 1 are given"),
+            ("tree 9 8", "router r0 would have 9 links each way, and 8 are allowed"),
+            ("ring 3 --at r3", "there is no router r3: they are r0 to r2"),
+            ("ring 3 --slots 129", "a slot table has 1 to 128 slots"),
+            ("ring 3 --delay 5", "a link has a delay of 1 to 4 cycles"),
+        ):
+            with self.subTest(words=words):
+                self.assertEqual(self.run_script("design", "chip", *words.split()), (1, "", f"design: {tells}\n"))
+
+
+class Traces(Designs):
+    """Words at the rates that channels wish, receivers and switches, for the video pipeline."""
+
+    FILES = (EXAMPLES / "mesh.toml", EXAMPLES / "video.toml")
+    # In 960 cycles: 1/8 gives 120, 1/4 gives 240, 1/64 gives 15, 1/16 gives 60.
+    DECODE = {"vin_mem": 120, "mem_dec": 120, "dec_mem": 120, "mem_scal": 120, "scal_disp": 240, "mem_aud": 15,
+              "cpu_mem": 60, "cpu_ctl": 15}
+
+    def words(self, *more):
+        status, text, errors = self.run_script("design", "words", *self.FILES, "decode", "960", *more)
+        self.assertEqual(status, 0, errors)
+        return rows(text)
+
+    def test_each_kind_has_the_wished_words(self):
+        for kind in ("periodic", "greedy", "random"):
+            with self.subTest(kind=kind):
+                words = self.words("--kind", kind)
+                counts = Counter(row["connection"] for row in words if row["side"] == "fwd")
+                self.assertEqual(counts, self.DECODE)
+                cycles = [int(row["cycle"]) for row in words]
+                self.assertEqual(cycles, sorted(cycles))
+                self.assertLess(cycles[-1], 960)
+
+    def test_periodic_words_are_evenly_apart(self):
+        cycles = [int(row["cycle"]) for row in self.words() if row["connection"] == "scal_disp"]
+        self.assertEqual(cycles, list(range(0, 960, 4)))
+
+    def test_half_the_load_is_half_the_words(self):
+        counts = Counter(row["connection"] for row in self.words("--load", "50") if row["side"] == "fwd")
+        self.assertEqual(counts["scal_disp"], 120)
+
+    def test_seeds_differ_and_repeat(self):
+        one, two = (self.words("--kind", "random", "--seed", seed) for seed in ("1", "2"))
+        self.assertNotEqual(one, two)
+        self.assertEqual(one, self.words("--kind", "random", "--seed", "1"))
+
+    def test_no_word_of_greedy_traffic_is_late(self):
+        plan = self.file("plan", self.run_script("aeth", "allocate", *self.FILES)[1])
+        words = self.made("words", "words", *self.FILES, "decode", "2000", "--kind", "greedy")
+        receivers = self.made("receivers", "receivers", *self.FILES, "decode", "2000", "--late")
+        switches = self.made("switches", "switches", *self.FILES, "2000", "decode", "menu", "record")
+        status, log, errors = self.run_script("aeth", "simulate", *self.FILES, plan, words, receivers, switches, "2000")
+        self.assertEqual(status, 0, errors)
+        landings = [list(map(int, line.split()[1:5])) for line in log.splitlines() if line.startswith("land ")]
+        self.assertGreater(len(landings), 500)
+        self.assertEqual([row for row in landings if row[2] > row[3]], [])
+
+    def test_a_stalled_receiver_takes_nothing(self):
+        status, text, _ = self.run_script("design", "receivers", *self.FILES, "decode", "100", "--stall", "cpu_mem,fwd,7")
+        self.assertEqual((status, text), (0, "connection,side,cycle,pull\ncpu_mem,fwd,7,0\n"))
+
+    def test_switches_are_evenly_apart(self):
+        status, text, _ = self.run_script("design", "switches", *self.FILES, "3000", "decode", "menu", "record", "--drain", "9")
+        self.assertEqual((status, text), (0, "cycle,use,drain\n0,decode,0\n1000,menu,9\n2000,record,9\n"))
+
+    def test_what_makes_no_trace(self):
+        none = "no use case has the name play: they are decode, menu, record"
+        for words, tells in (
+            (("words", *self.FILES, "play", "10"), none),
+            (("switches", *self.FILES, "10", "play"), none),
+            (("words", *self.FILES, "decode", "1000001"), "a run has 1 to 1,000,000 cycles"),
+            (("receivers", *self.FILES, "menu", "9", "--stall", "vin_mem,fwd,0"), "menu has no channel vin_mem fwd"),
+        ):
+            with self.subTest(words=words):
+                self.assertEqual(self.run_script("design", *words), (1, "", f"design: {tells}\n"))
+
+
+class Fits(Designs):
+    """Which table sizes grant everything."""
+
+    def test_the_smallest_table(self):
+        words = (EXAMPLES / "pair.toml", EXAMPLES / "one.toml", "--slots", "1,2,4,8", "--detours", "0", "--costs", "hops")
+        status, text, errors = self.run_script("design", "fit", *words)
+        self.assertEqual(status, 0, errors)
+        self.assertIn("The smallest table that grants everything has", text)
+
+    def test_none_fits(self):
+        words = (EXAMPLES / "mesh.toml", EXAMPLES / "video.toml", "--slots", "1", "--detours", "0", "--costs", "hops")
+        status, text, _ = self.run_script("design", "fit", *words)
+        self.assertEqual(status, 3)
+        self.assertTrue(text.endswith("None of these grants everything.\n"))
+
+
+class Refusals(Designs):
+    """Where a refusal points: changes of the examples, each with the line that it is about."""
+
+    def where(self, old, new, example, place, *words):
+        text = (EXAMPLES / example).read_text(encoding="utf-8")
+        self.assertEqual(text.count(old), 1)
+        path = self.file(example, text.replace(old, new))
+        line = text[: text.index(old)].count("\n") + 1
+        given = [EXAMPLES / word if (EXAMPLES / word).exists() else word for word in words]
+        given[place] = path
+        status, _, errors = self.run_script("design", "where", *given)
+        self.assertEqual(status, 2, errors)
+        return errors.replace(str(path), "FILE"), line
+
+    def test_files_of_toml(self):
+        one = ("app", "pair.toml", "one.toml")
+        for old, new, example, place, words, tells in (
+            ("slots = 8", "slots = 129", "pair.toml", 1, ("chip", "pair.toml"), "`slots` is 129"),
+            ('to = "r1"}, {from = "r1", to = "n1"}', 'to = "r7"}, {from = "r1", to = "n1"}', "pair.toml", 1,
+             ("chip", "pair.toml"), "`link` 2 `to` is 'r7'"),
+            ("detour = 0", "detour = 5", "one.toml", 2, one, "`detour` is 5"),
+            ("words = 1, per = 2", "words = 5, per = 2", "one.toml", 2, one, "`connection` 0 (c0) `fwd` `words` is 5"),
+            ('to = "mem"', 'to = "cpu"', "one.toml", 2, one, "`connection` 0 (c0) `to` is 'cpu'"),
+            ('ni = "n1"', 'ni = "n9"', "one.toml", 2, one, "`core` 1 (mem) `ni` is 'n9'"),
+            ("latency = 6, ", "", "one.toml", 2, one, "`connection` 0 (c0) `fwd`, key `latency` is missing"),
+        ):
+            with self.subTest(new=new):
+                said, line = self.where(old, new, example, place, *words)
+                self.assertIn(f"FILE, line {line}: {tells}", said)
+                self.assertIn("is broken where", said)
+
+    def test_rows_of_traces(self):
+        words = ("simulate", "pair.toml", "two.toml", "two.plan", "two.words.csv", "two.receivers.csv", "two.switches.csv", "24")
+        plan = self.file("two.plan", self.run_script("aeth", "allocate", EXAMPLES / "pair.toml", EXAMPLES / "two.toml")[1])
+        words = [plan if word == "two.plan" else word for word in words]
+        said, line = self.where("c1,fwd,10", "c9,fwd,10", "two.words.csv", 4, *words)
+        self.assertIn(f"FILE, line {line}: c9,fwd,10,200", said)
+
+    def test_a_refused_unit(self):
+        app = self.file("app", (EXAMPLES / "one.toml").read_text(encoding="utf-8").replace("latency = 6", "latency = 2"))
+        status, _, errors = self.run_script("design", "where", "allocate", EXAMPLES / "pair.toml", app)
+        self.assertEqual(status, 3)
+        self.assertIn("Connection `c0` in group 0: in turn 1 its channel fwd had no admissible path", errors)
+
+    def test_no_command(self):
+        self.assertIn("These words are no command", self.run_script("design", "where", "slots", "8")[2])
+
+
+class Reports(Designs):
+    """The page of a design and of a run."""
+
+    FILES = (EXAMPLES / "torus.toml", EXAMPLES / "camera.toml")
+
+    def report(self, *words):
+        status, text, errors = self.run_script("draw", "report", *words)
+        self.assertEqual(status, 0, errors)
+        self.assertTrue(text.startswith("<!DOCTYPE html>") and text.endswith("</html>\n"))
+        return text
+
+    def test_a_plan(self):
+        plan = self.file("plan", self.run_script("aeth", "allocate", *self.FILES)[1])
+        text = self.report(*self.FILES, plan)
+        self.assertIn("Everything is granted: 18 channels.", text)
+        self.assertEqual(text.count("<figure>"), 2)
+        self.assertEqual(text.count("<tr"), 1 + 18)
+
+    def test_a_run(self):
+        plan = self.file("plan", self.run_script("aeth", "allocate", *self.FILES)[1])
+        words = self.made("words", "words", *self.FILES, "record", "1000")
+        receivers = self.made("receivers", "receivers", *self.FILES, "record", "1000", "--late")
+        switches = self.made("switches", "switches", *self.FILES, "1000", "record")
+        text = self.report(*self.FILES, plan, words, receivers, switches, "1000")
+        self.assertRegex(text, r"Everything is granted: 18 channels\. In 1,000 cycles \d+ words landed, 0 late\.")
+        self.assertEqual(text.count("<figure>"), 3)
+
+    def test_refused_units(self):
+        app = self.file("app", (EXAMPLES / "one.toml").read_text(encoding="utf-8").replace("latency = 6", "latency = 2"))
+        text = self.report(EXAMPLES / "pair.toml", app, self.file("plan", ""))
+        self.assertIn("Not everything is granted: 1 unit refused.", text)
+        self.assertIn("Connection c0 in group 0: its channel fwd had no admissible path", text)
+
+    def test_a_plan_that_is_refused(self):
+        words = (EXAMPLES / "pair.toml", EXAMPLES / "one.toml", self.file("plan", "plan 1 9\nend\n"))
+        self.assertEqual(self.run_script("draw", "report", *words), (2, "", "refused plan 2 Unknown 1 3\n"))
+
+
+class Readers(unittest.TestCase):
+    """The reader of TOML 1.1, and texts that say the same."""
+
+    def test_lines(self):
+        data = b'\xef\xbb\xbfa = {\n  b = 1, # one\n c = "\\e\\x41",\n}\n[[x]]\ny.z = [1,\n2,\n]\n'
+        tree, lines = toml_lines.read(data)
+        self.assertEqual(tree, {"a": {"b": 1, "c": "\x1bA"}, "x": [{"y": {"z": [1, 2]}}]})
+        self.assertEqual((lines["a", "c"], lines["x", 0, "y", "z", 1]), (3, 7))
+
+    def test_a_text_says_the_same(self):
+        for example in EXAMPLES.glob("*.toml"):
+            tree, _ = toml_lines.read(example.read_bytes())
+            self.assertEqual(toml_lines.read(files.text_of(tree).encode())[0], tree)

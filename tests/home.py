@@ -75,6 +75,9 @@ class Home:
     def draw(self, *words, **how):
         return self.run(*words, script="draw", **how)
 
+    def design(self, *words, **how):
+        return self.run(*words, script="design", **how)
+
     def on_terminal(self, *words, **settings):
         """The status of `aeth`, and what it says where its messages go to a terminal."""
         ours, theirs = pty.openpty()
