@@ -4,6 +4,7 @@ use Rattle.std.specs.Prelude.{◌≤◌, ◌<◌, ℕ, All, Bool, codes, List, l
 use Rattle.std.specs.Prelude.{Result, Ok}
 use Rattle.std.specs.List.Sorted.{IsNonDecreasingBy}
 use Rattle.aeth_app.specs.App.{AppData}
+pub use Rattle.aeth_app.specs.Connections.{connection_names}
 use Rattle.aeth_base.specs.Faults.{BrokenRule}
 use Rattle.aeth_base.specs.declared.ids.Channel.{Channel}
 use Rattle.aeth_base.specs.Limits.{max_cycles}
@@ -27,10 +28,6 @@ word_on told = record { channel = told.0; cycle = told.1; value = told.2 }
 -- of its name among these.
 abbrev pub word_in : List (List ℕ) → List (List ℕ) → Option WordRow
 word_in names fields = option_map word_on (channel_in names max_value (four_of fields))
-
--- The names of an application's connections.
-abbrev pub connection_names : AppData → List (List ℕ)
-connection_names app = map (λ connection. connection.name) app.connections
 
 -- The words of a file's bytes, for an application, in file order; or the first rule that the file
 -- breaks.
