@@ -1,43 +1,7 @@
-// `demo`, and the files that it makes from a number. Their lines were drawn by hand, with another
-// program's generator.
-use crate::rows::wrong_rows;
-use crate::runs::{said, shelf_of};
+// The files that `demo` makes from a number. Their lines were drawn by hand, with another program's generator.
 use aeth_cli::demo_texts;
 use std::str;
 use std::test::Fail;
-
-/// Words that are no command.
-const ROWS: &str = "
-demo => 1 err usage;
-demo 1000001 => 1 err usage;
-demo 07 => 1 err usage;
-demo -1 => 1 err usage;
-demo 0 0 => 1 err usage;";
-
-#[test]
-fn other_words_are_usage(rt: HostRuntime) -> Result<(), Fail> {
-    let wrong = wrong_rows(rt.alloc(), &[], ROWS)?;
-    assert_eq!(rt; wrong.as_str(), "");
-    Ok(())
-}
-
-/// The numbers of large runs.
-const NUMBERS: [u32; 2] = [0, 7];
-
-#[test]
-fn all_is_granted_and_nothing_is_late(rt: HostRuntime) -> Result<(), Fail> {
-    let alloc = rt.alloc();
-    for n in NUMBERS {
-        let line = format!(in alloc; "demo {n}")?;
-        let front = format!(in alloc; "0 out demo {n} granted 128 offered ")?;
-        let once = said(alloc, line.as_str(), &mut shelf_of(alloc, &[])?)?;
-        let again = said(alloc, line.as_str(), &mut shelf_of(alloc, &[])?)?;
-        assert!(rt; once.starts_with(front.as_str()), "{once}");
-        assert!(rt; once.contains(" late 0 flits "), "{once}");
-        assert_eq!(rt; once.as_str(), again.as_str());
-    }
-    Ok(())
-}
 
 /// Parts of a file of words, by number.
 const WORDS: [(u32, &str, &str); 3] = [

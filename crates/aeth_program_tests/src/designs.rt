@@ -1,4 +1,5 @@
-// Chips and applications of the worked examples.
+// Chips, applications and a plan of the worked examples.
+
 /// Two routers, each with a network interface, and a link each way between them.
 pub(crate) const PAIR: &str = r#"version = 1
 slots = 8
@@ -8,18 +9,6 @@ link = [
   {from = "n0", to = "r0"}, {from = "r0", to = "n0"},
   {from = "n1", to = "r1"}, {from = "r1", to = "n1"},
   {from = "r0", to = "r1"}, {from = "r1", to = "r0"},
-]
-"#;
-
-/// The pair in version 2, with a delay on its fifth link, from one router to the other.
-pub(crate) const DELAYED: &str = r#"version = 2
-slots = 8
-routers = ["r0", "r1"]
-nis = ["n0", "n1"]
-link = [
-  {from = "n0", to = "r0"}, {from = "r0", to = "n0"},
-  {from = "n1", to = "r1"}, {from = "r1", to = "n1"},
-  {from = "r0", to = "r1", delay = 2}, {from = "r1", to = "r0"},
 ]
 "#;
 
@@ -67,78 +56,11 @@ name = "u1"
 connections = ["c0", "c1"]
 "#;
 
-/// Two connections on the pair, one of them between cores on one interface.
-pub(crate) const LOCAL: &str = r#"version = 1
-detour = 0
-core = [ {name = "cpu", ni = "n0"}, {name = "mem", ni = "n1"}, {name = "dsp", ni = "n0"} ]
-[[connection]]
-name = "c0"
-from = "cpu"
-to = "mem"
-fwd = {words = 1, per = 2, latency = 6, delay = 0}
-back = {words = 0, per = 1, latency = 12, delay = 0}
-[[connection]]
-name = "c1"
-from = "cpu"
-to = "dsp"
-fwd = {words = 0, per = 1, latency = 12, delay = 0}
-back = {words = 0, per = 1, latency = 12, delay = 0}
-[[use]]
-name = "main"
-connections = ["c0", "c1"]
-"#;
-
-/// A mesh of four columns and four rows of routers, each with a network interface.
-pub(crate) const MESH: &str = r#"version = 1
-slots = 64
-routers = [
-  "r0", "r1", "r2", "r3", "r4", "r5", "r6", "r7",
-  "r8", "r9", "r10", "r11", "r12", "r13", "r14", "r15",
-]
-nis = [
-  "n0", "n1", "n2", "n3", "n4", "n5", "n6", "n7",
-  "n8", "n9", "n10", "n11", "n12", "n13", "n14", "n15",
-]
-link = [
-  {from = "n0", to = "r0"}, {from = "r0", to = "n0"},
-  {from = "n1", to = "r1"}, {from = "r1", to = "n1"},
-  {from = "n2", to = "r2"}, {from = "r2", to = "n2"},
-  {from = "n3", to = "r3"}, {from = "r3", to = "n3"},
-  {from = "n4", to = "r4"}, {from = "r4", to = "n4"},
-  {from = "n5", to = "r5"}, {from = "r5", to = "n5"},
-  {from = "n6", to = "r6"}, {from = "r6", to = "n6"},
-  {from = "n7", to = "r7"}, {from = "r7", to = "n7"},
-  {from = "n8", to = "r8"}, {from = "r8", to = "n8"},
-  {from = "n9", to = "r9"}, {from = "r9", to = "n9"},
-  {from = "n10", to = "r10"}, {from = "r10", to = "n10"},
-  {from = "n11", to = "r11"}, {from = "r11", to = "n11"},
-  {from = "n12", to = "r12"}, {from = "r12", to = "n12"},
-  {from = "n13", to = "r13"}, {from = "r13", to = "n13"},
-  {from = "n14", to = "r14"}, {from = "r14", to = "n14"},
-  {from = "n15", to = "r15"}, {from = "r15", to = "n15"},
-  {from = "r0", to = "r1"}, {from = "r1", to = "r0"},
-  {from = "r0", to = "r4"}, {from = "r4", to = "r0"},
-  {from = "r1", to = "r2"}, {from = "r2", to = "r1"},
-  {from = "r1", to = "r5"}, {from = "r5", to = "r1"},
-  {from = "r2", to = "r3"}, {from = "r3", to = "r2"},
-  {from = "r2", to = "r6"}, {from = "r6", to = "r2"},
-  {from = "r3", to = "r7"}, {from = "r7", to = "r3"},
-  {from = "r4", to = "r5"}, {from = "r5", to = "r4"},
-  {from = "r4", to = "r8"}, {from = "r8", to = "r4"},
-  {from = "r5", to = "r6"}, {from = "r6", to = "r5"},
-  {from = "r5", to = "r9"}, {from = "r9", to = "r5"},
-  {from = "r6", to = "r7"}, {from = "r7", to = "r6"},
-  {from = "r6", to = "r10"}, {from = "r10", to = "r6"},
-  {from = "r7", to = "r11"}, {from = "r11", to = "r7"},
-  {from = "r8", to = "r9"}, {from = "r9", to = "r8"},
-  {from = "r8", to = "r12"}, {from = "r12", to = "r8"},
-  {from = "r9", to = "r10"}, {from = "r10", to = "r9"},
-  {from = "r9", to = "r13"}, {from = "r13", to = "r9"},
-  {from = "r10", to = "r11"}, {from = "r11", to = "r10"},
-  {from = "r10", to = "r14"}, {from = "r14", to = "r10"},
-  {from = "r11", to = "r15"}, {from = "r15", to = "r11"},
-  {from = "r12", to = "r13"}, {from = "r13", to = "r12"},
-  {from = "r13", to = "r14"}, {from = "r14", to = "r13"},
-  {from = "r14", to = "r15"}, {from = "r15", to = "r14"},
-]
-"#;
+/// A plan for the connection of `one`.
+pub(crate) const PLAN: &str = "plan 1 8
+seat cpu n0 0
+seat mem n1 0
+grant c0 0 fwd 0,4,3 0,4
+grant c0 0 back 2,5,1 0
+end
+";
