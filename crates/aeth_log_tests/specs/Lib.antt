@@ -1,4 +1,3 @@
 pub mod Designs
 pub mod Traces
 pub mod Texts
-pub mod Told

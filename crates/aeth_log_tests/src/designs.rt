@@ -1,4 +1,4 @@
-// A chip and applications.
+// A chip and an application.
 
 /// Two routers, each with a network interface, and a link each way between them.
 pub(crate) const PAIR: &str = r#"version = 1
@@ -10,46 +10,6 @@ link = [
   {from = "n1", to = "r1"}, {from = "r1", to = "n1"},
   {from = "r0", to = "r1"}, {from = "r1", to = "r0"},
 ]
-"#;
-
-/// One connection, in one use case.
-pub(crate) const ONE: &str = r#"version = 1
-detour = 0
-core = [{name = "cpu", ni = "n0"}, {name = "mem", ni = "n1"}]
-[[connection]]
-name = "c0"
-from = "cpu"
-to = "mem"
-fwd = {words = 1, per = 2, latency = 6, delay = 0}
-back = {words = 0, per = 1, latency = 12, delay = 0}
-[[use]]
-name = "main"
-connections = ["c0"]
-"#;
-
-/// Two connections, and two use cases of one group: with the first, and with both.
-pub(crate) const TWO: &str = r#"version = 1
-detour = 0
-core = [{name = "cpu", ni = "n0"}, {name = "mem", ni = "n1"}, {name = "dsp", ni = "n0"}]
-[[connection]]
-name = "c0"
-from = "cpu"
-to = "mem"
-fwd = {words = 1, per = 2, latency = 6, delay = 0}
-back = {words = 0, per = 1, latency = 12, delay = 0}
-[[connection]]
-name = "c1"
-from = "dsp"
-to = "mem"
-fwd = {words = 1, per = 8, latency = 12, delay = 0}
-back = {words = 0, per = 1, latency = 12, delay = 0}
-[[use]]
-name = "u0"
-connections = ["c0"]
-smooth = ["u1"]
-[[use]]
-name = "u1"
-connections = ["c0", "c1"]
 "#;
 
 /// Two connections, and three use cases of one group: with the first, with both, and with the second.

@@ -3,10 +3,10 @@ ghost use Rattle.std.specs.Prelude.{◌≡◌, IfSome};
 
 use crate::designs::{PAIR, THREE};
 use aeth_app::{App, read_app};
-use aeth_base::{Channel, ConnId, GroupId, Side};
+use aeth_base::{Channel, ConnId, Side};
 use aeth_chip::read_chip;
 use aeth_group::Groups;
-use aeth_reconf::{Close, Session, Timeline};
+use aeth_reconf::{Session, Timeline};
 use aeth_trace::{Spans, read_switches};
 use std::alloc::Global;
 use std::test::*;
@@ -54,46 +54,44 @@ fn timeline(alloc: Global) -> Option<Timeline> {
     timeline_with(alloc, &app)
 }
 
-// A session of group 0.
-fn session(go: u64, close: Option<Close>) -> Session {
-    Session {
-        go,
-        group: GroupId(0),
-        close,
-    }
+// A session of group 0: when it goes, and how it closes where a switch closes it.
+type Told = (u64, Option<(u64, u64, u64)>);
+
+fn is_session(session: &Session, told: Told) -> bool {
+    let close = match session.close {
+        Some(close) => Some((close.until, close.stop, close.fin)),
+        None => None,
+    };
+    session.group.0 == 0 && session.go == told.0 && close == told.1
 }
 
-// A channel of a connection.
-fn channel(conn: u32, side: Side) -> Channel {
-    Channel {
-        conn: ConnId(conn),
-        side,
+fn are_sessions(sessions: &[Session], told: &[Told]) -> bool {
+    if sessions.len() != told.len() {
+        return false;
     }
+    for place in 0..sessions.len() {
+        if !is_session(&sessions[place], told[place]) {
+            return false;
+        }
+    }
+    true
 }
+
+// A connection that is kept twice and then closed, and one that is closed and opened anew behind the
+// writes.
+const SESSIONS: [(u32, Side, &[Told]); 3] = [
+    (0, Side::Fwd, &[(0, Some((30, 35, 38)))]),
+    (0, Side::Back, &[(0, Some((30, 35, 38)))]),
+    (1, Side::Fwd, &[(0, Some((10, 10, 13))), (24, None)]),
+];
 
 #[test]
-fn a_connection_is_kept_twice_and_then_closed(rt: HostRuntime) -> Result<(), Fail> {
+fn connections_are_kept_and_closed_and_opened_anew(rt: HostRuntime) -> Result<(), Fail> {
     let timeline = timeline(rt.alloc()).ok_or("a timeline")?;
-    let close = Close {
-        until: 30,
-        stop: 35,
-        fin: 38,
-    };
-    let first = [session(0, Some(close))];
-    assert_eq!(rt; timeline.sessions(channel(0, Side::Fwd)), first.as_slice());
-    assert_eq!(rt; timeline.sessions(channel(0, Side::Back)), first.as_slice());
-    Ok(())
-}
-
-#[test]
-fn a_connection_is_opened_anew_behind_the_writes(rt: HostRuntime) -> Result<(), Fail> {
-    let timeline = timeline(rt.alloc()).ok_or("a timeline")?;
-    let close = Close {
-        until: 10,
-        stop: 10,
-        fin: 13,
-    };
-    let second = [session(0, Some(close)), session(24, None)];
-    assert_eq!(rt; timeline.sessions(channel(1, Side::Fwd)), second.as_slice());
+    for (conn, side, told) in SESSIONS {
+        let conn = ConnId(conn);
+        let sessions = timeline.sessions(Channel { conn, side });
+        assert!(rt; are_sessions(sessions, told), "{}", conn.0);
+    }
     Ok(())
 }
