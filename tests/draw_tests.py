@@ -162,7 +162,8 @@ class Plans(WithProgram):
             numbers = [float(n) for n in re.findall(r"-?[\d.]+", use.get("transform"))]
             upright = use.get("transform").startswith("matrix")
             x, y = numbers[-2:]
-            strips.append((x, y, x + 10, y + 160) if upright else (x, y, x + 160, y + 10))
+            wide, high = (10, 160) if upright else (160, 10)
+            strips.append((x - 2, y - 2, x + wide + 2, y + high + 2))
             line = next(e for e in group if e.get("class") == "line").get("d")
             points = [tuple(map(float, point.split(" "))) for point in line[1:].split("L")]
             lines += list(zip(points, points[1:]))
