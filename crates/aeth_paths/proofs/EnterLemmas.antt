@@ -29,7 +29,7 @@ use Rattle.aeth_book.proofs.FreeLemmas.{is_clear, is_open-push}
 use Rattle.aeth_paths.specs.declared.request.Request.{Request}
 use Rattle.aeth_paths.specs.Candidates.{gap_on, is_live}
 use Rattle.aeth_paths.proofs.EndLemmas.{path-all, path-delay-some, path-last, path-some}
-use Rattle.aeth_paths.proofs.JoinLemmas.{place-contains}
+use Rattle.aeth_base.proofs.Members.{Contains-slice_get}
 use Rattle.aeth_paths.proofs.LiveLemmas.{free_starts-set, true_from}
 use Rattle.aeth_paths.proofs.NearLemmas.{gap-near, moved-comes}
 
@@ -76,7 +76,7 @@ last-enters links b path enters only end =
     let same : 0 + end.last.0 ≡ end.last.0 = omega arith in
     let at = numbers_from-at (ends_at (Ni b)) 0 links end.last.0 end.link end.is
     (rw end.ends (same_node-refl (Ni b))) in
-    let has = place-contains (receives_on (Ni b) links) _ end.last.0 (at ∙ ap Some same) in
+    let has = Contains-slice_get (receives_on (Ni b) links) _ end.last.0 (at ∙ ap Some same) in
     let one : end.last.0 ≡ enters.0 =
     elim (Contains-cases enters.0 [] end.last.0
     (subst (λ (ls : List ℕ). Contains ls end.last.0) only has)) [

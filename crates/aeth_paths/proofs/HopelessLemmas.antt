@@ -13,13 +13,15 @@ use Rattle.aeth_chip.specs.declared.node.Node.{Node}
 use Rattle.aeth_chip.specs.declared.node.Node.TheVariants.{Ni, Router}
 use Rattle.aeth_chip.specs.Chip.{ChipData, IsChip, IsNode}
 use Rattle.aeth_chip.specs.Paths.{IsLinkFrom, delay_in, to_of}
-use Rattle.aeth_chip.proofs.LeastDistanceLemmas.{IsLeast-unique}
+use Rattle.aeth_chip.specs.LeastOnward.{least_from}
+use Rattle.aeth_chip.proofs.LeastDistanceLemmas.{distance_is_least_distance}
+use Rattle.aeth_chip.proofs.LeastOnwardLemmas.{distance_is_least_onward}
 use Rattle.aeth_base.proofs.Members.{Contains-cases, Contains-nil}
 use Rattle.aeth_book.specs.Book.{BookData, IsBook}
 use Rattle.aeth_book.proofs.UseLemmas.{used_slots-within}
 use Rattle.aeth_paths.specs.declared.request.Request.{Request}
 use Rattle.aeth_paths.specs.Costs.{AreCosts}
-use Rattle.aeth_paths.specs.Open.{AreLeast, is_near, is_open}
+use Rattle.aeth_paths.specs.Open.{is_near, is_open}
 use Rattle.aeth_paths.specs.Search.{Field, Walks}
 use Rattle.aeth_paths.specs.Task.{field}
 use Rattle.aeth_paths.specs.declared.search.Goal.{Goal}
@@ -96,12 +98,11 @@ all-cost chip book prices ask b most is is_book same costs node link leaves =
       is_book.within,
     ))
 
--- The function gives what was asked.
-pub least-is : (links : List Link) (least : NiId → Node → Option ℕ) → AreLeast links least
-    → (b : NiId) (node : Node) (told : Option ℕ) → IsLeastFrom links b node told
-    → least b node ≡ told
-least-is links least are b (Router r) told is = IsLeast-unique _ _ told (are.onward r b) is
-least-is links least are b (Ni a) told is = IsLeast-unique _ _ told (are.between a b) is
+-- The least number of links as a function is the one that was told.
+pub least-told : (chip : ChipData) → IsChip chip → (b : NiId) (node : Node) (told : Option ℕ)
+    → IsLeastFrom chip.links b node told → least_from chip b node ≡ told
+least-told chip is_chip b (Router r) told is = sym (distance_is_least_onward chip is_chip r b told is)
+least-told chip is_chip b (Ni a) told is = sym (distance_is_least_distance chip is_chip a b told is)
 
 -- A live list whose end is near enough is open.
 pub open-from : (f : Field) (least : Node → Option ℕ) (node : Node) (path : List LinkId)

@@ -6,6 +6,8 @@ use Rattle.std.proofs.lemmas.Bool.{and_parts, both_ways, eqb-true, false≢true,
 use Rattle.std.proofs.lemmas.Bool.{false_from_ne_true, or_from, or_parts, or_right}
 use Rattle.std.proofs.lemmas.List.Folds.{list_any-append}
 use Rattle.std.proofs.lemmas.Option.{get_or_from_slice_get, slice_get-get_or, slice_get_within}
+use Rattle.aeth_base.proofs.Lists.{map-nil}
+use Rattle.aeth_base.proofs.Members.{Contains-slice_get}
 use Rattle.aeth_base.specs.declared.ids.LinkId.{LinkId}
 use Rattle.aeth_base.specs.declared.ids.NiId.{NiId}
 use Rattle.aeth_base.specs.declared.ids.RouterId.{RouterId}
@@ -26,12 +28,6 @@ use Rattle.aeth_paths.specs.Search.{Field, Walks, is_new, passes}
 use Rattle.aeth_paths.specs.Task.{field, links_from}
 
 -- ---- the links that leave a node
-
--- What stands at a place of a list is in it.
-pub place-contains : {X : Type 0} (xs : List X) (place : ℕ) (x : X)
-    → slice_get xs place ≡ Some x → Contains xs x
-place-contains xs place x at =
-    (place, slice_get_within xs place x at, get_or_from_slice_get xs place x x at)
 
 -- A link that leaves a node begins there.
 pub leaving-begins : (links : List Link) (link : LinkId) (node : Node)
@@ -58,7 +54,7 @@ begins-sent links link node to goes =
     let same : 0 + link.0 ≡ link.0 = omega arith in
     let at = numbers_from-at (begins_at node) 0 links link.0 goes.link goes.is
     (rw goes.begins (same_node-refl node)) in
-    place-contains (sends_on node links) _ link.0 (at ∙ ap Some same)
+    Contains-slice_get (sends_on node links) _ link.0 (at ∙ ap Some same)
 
 -- A link that begins at a node leaves it.
 pub begins-leaving : (links : List Link) (link : LinkId) (node : Node)
@@ -66,11 +62,6 @@ pub begins-leaving : (links : List Link) (link : LinkId) (node : Node)
 begins-leaving links link node begins =
     Contains-map (λ l. record { 0 = l }) (sends_on node links) link.0
     (begins-sent links link node (to_of links link) begins)
-
--- Nothing is shown of no links alone.
-nothing : {X Y : Type 0} (f : X → Y) (xs : List X) → map f xs ≡ [] → xs ≡ []
-nothing f [] is = refl
-nothing f (x ∷ xs) is = absurd (cc is)
 
 -- ---- routers that are passed
 
@@ -145,7 +136,7 @@ module _ (f : Field) where
       → ((r : RouterId) → Contains rs r → passes f.to path (Router r) ≡ false)
       → ((rest ≡ []) × (f.to link ≡ f.goal)) ⊎ More node path link rest =
       elim [
-        | [] ↦ λ ends distinct new. inl (nothing f.to rest (cc ends), cc ends)
+        | [] ↦ λ ends distinct new. inl (map-nil f.to rest (cc ends), cc ends)
         | (r ∷ rs) ↦ λ ends distinct new.
             let here : f.to link ≡ Router r = cc ends in
             let fresh : passes f.to path (Router r) ≡ false = new r (Contains-here r rs) in

@@ -9,6 +9,9 @@ mod HopelessLemmas
 mod VainLemmas
 mod OrderLemmas
 mod CostLemmas
+mod OnceLemmas
+mod OpenListLemmas
+mod OpenFactLemmas
 mod TryLemmas
 mod EndLemmas
 mod NearLemmas

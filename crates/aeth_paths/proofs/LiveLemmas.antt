@@ -24,10 +24,6 @@ use Rattle.aeth_paths.specs.Candidates.{gap_on, is_live}
 pub true_from : (b : Bool) → IsTrue b → b ≡ true
 true_from b test = search rules
 
-pub not_false : (b : Bool) → not b ≡ false → b ≡ true
-not_false true is = refl
-not_false false is = sym is
-
 pub from_true : (b : Bool) → b ≡ true → IsTrue b
 from_true b test = search rules
 

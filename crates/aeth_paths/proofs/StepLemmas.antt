@@ -1,6 +1,6 @@
 -- Steps of the search: one more link of those that leave a node, and how many steps it may take.
 use Rattle.std.proofs.Common.{◌≡◌, ◌∙◌, ◌+◌, ◌-◌, ◌<◌, ◌≤◌, ◌++◌, ℕ, zero, suc, true, cond}
-use Rattle.std.proofs.Common.{List, [], ◌∷◌, length, take, Option, Some, slice_get, sym, refl, ap}
+use Rattle.std.proofs.Common.{List, [], ◌∷◌, Contains, length, take, Option, Some, slice_get, sym, refl, ap}
 use Rattle.std.proofs.Common.{subst}
 use Rattle.std.proofs.Common.{arith, None, inl, inr}
 use Rattle.std.specs.List.{flat_map}
@@ -22,7 +22,6 @@ use Rattle.aeth_chip.specs.Nodes.{begins_at, is_router, same_node, sends_on}
 use Rattle.aeth_chip.proofs.NodeLemmas.{length-numbers_from, same_node-refl}
 use Rattle.aeth_group.proofs.ListLemmas.{take-at}
 use Rattle.aeth_paths.specs.declared.search.Priced.{Priced}
-use Rattle.aeth_paths.specs.declared.search.Turn.{Turn}
 use Rattle.aeth_paths.specs.declared.search.Turn.TheVariants.{Goes}
 use Rattle.aeth_paths.specs.Open.{is_open, open_steps}
 use Rattle.aeth_paths.specs.Search.{Field, along, by_turn, completions, first_from, is_new}
@@ -30,7 +29,7 @@ use Rattle.aeth_paths.specs.Search.{passes, turn_of}
 use Rattle.aeth_paths.specs.Task.{links_from}
 use Rattle.aeth_paths.specs.declared.search.Task.{Task}
 use Rattle.aeth_paths.specs.Walk.{IsTask, Stands, path_in, priced}
-use Rattle.aeth_paths.proofs.JoinLemmas.{leaving-begins, passes-push, place-contains}
+use Rattle.aeth_paths.proofs.JoinLemmas.{leaving-begins, passes-push}
 use Rattle.aeth_paths.proofs.FirstLemmas.{first_from-append}
 use Rattle.aeth_paths.proofs.WalkLemmas.{turn-goes}
 
@@ -116,23 +115,38 @@ steps_over-goes f least left path link goes =
 
 -- One more link: what is best now.
 pub best-step : (f : Field) (path : List LinkId) (more : Node → List LinkId → List (List LinkId))
-    (first : Option (List LinkId)) (links : List LinkId) (place : ℕ) (link : LinkId) (turn : Turn)
-    (old new : Option Priced) → slice_get links place ≡ Some link → turn ≡ turn_of f path link
+    (first : Option (List LinkId)) (links : List LinkId) (place : ℕ) (link : LinkId)
+    (old new : Option Priced) → slice_get links place ≡ Some link
     → old ≡ priced f.cost (first_from f first (flat_map (along f path more) (take place links)))
-    → new ≡ priced f.cost (first_from f (path_in old) (by_turn turn ((path ++ link ∷ []) ∷ [])
-    (more (f.to link) (path ++ link ∷ []))))
+    → new ≡ priced f.cost (first_from f (path_in old) (along f path more link))
     → new
     ≡ priced f.cost (first_from f first (flat_map (along f path more) (take (place + 1) links)))
-best-step f path more first links place link turn old new at is was gives =
+best-step f path more first links place link old new at was gives =
     let best : Option (List LinkId) =
     first_from f first (flat_map (along f path more) (take place links)) in
-    let over : Turn → List (List LinkId) =
-    λ t. by_turn t ((path ++ link ∷ []) ∷ []) (more (f.to link) (path ++ link ∷ [])) in
     gives
-    ∙ ap (λ o. priced f.cost (first_from f o (over turn)))
+    ∙ ap (λ o. priced f.cost (first_from f o (along f path more link)))
     (ap path_in was ∙ path_in-priced f.cost best)
-    ∙ ap (λ t. priced f.cost (first_from f best (over t))) is
     ∙ ap (priced f.cost) (sym (along-more f path more first links place link at))
+
+-- A longer list has the paths that go on over its last link, and their steps.
+module _ (f : Field) (path : List LinkId) (link : LinkId) (goes : turn_of f path link ≡ Goes)
+    (end : Node) (longer : List LinkId) (ends : end ≡ f.to link)
+    (is : longer ≡ path ++ link ∷ []) where
+  pub along-longer : (left : ℕ)
+      → completions f left end longer ≡ along f path (completions f left) link
+  along-longer left =
+      ap (λ (n : Node). completions f left n longer) ends
+      ∙ ap (completions f left (f.to link)) is
+      ∙ ap (λ t. by_turn t ((path ++ link ∷ []) ∷ [])
+      (completions f left (f.to link) (path ++ link ∷ []))) (sym goes)
+
+  pub steps-longer : (least : Node → Option ℕ) (left : ℕ)
+      → open_steps f least left end longer ≡ steps_over f least left path link
+  steps-longer least left =
+      ap (λ (n : Node). open_steps f least left n longer) ends
+      ∙ ap (open_steps f least left (f.to link)) is
+      ∙ sym (steps_over-goes f least left path link goes)
 
 -- All links: the best of all paths that go on.
 pub best-end : (f : Field) (left : ℕ) (node : Node) (path : List LinkId)
@@ -171,12 +185,11 @@ steps-end f least left node path place old now some opens within all was =
       ap (sum_by (steps_over f least (left - 1) path)) whole,
     )
 
--- A link by its place among those that leave a node is a link of the chip.
-pub link-below : (links : List Link) (node : Node) (place : ℕ) (link : LinkId)
-    → slice_get (links_from links node) place ≡ Some link → link.0 < length links
-link-below links node place link at =
-    let goes = leaving-begins links link node
-    (place-contains (links_from links node) place link at) in
+-- A link that leaves a node is a link of the chip.
+pub link-below : (links : List Link) (node : Node) (link : LinkId)
+    → Contains (links_from links node) link → link.0 < length links
+link-below links node link leaves =
+    let goes = leaving-begins links link node leaves in
     slice_get_within links link.0 goes.link goes.is
 
 -- No more links leave a node than a router has ports.

@@ -4,5 +4,7 @@ pub mod Candidates
 pub mod Search
 pub mod Task
 pub mod Walk
+pub mod Over
+pub mod OpenLists
 pub mod Open
 pub mod Pairs

@@ -1,32 +1,27 @@
 -- Open lists of links, and how many steps a search takes at most.
 -- This project's own.
 --
---   AreLeast      the least numbers of links to each interface, as a function
 --   is_near, is_open      whether a list of links may lead to the goal
 --   open_steps      the number of pairs of an open list and a link that leaves its end
+--   each_once      a list of interfaces without those that stand in it again
 --   pair_steps, allowed_steps, all_steps      those of a pair of interfaces, if it is allowed, and
 --                                             of all allowed pairs
 use Rattle.std.specs.Prelude.{ℕ, ◌+◌, ◌++◌, ◌&&◌, ◌==◌, nat_le, if◌then◌else◌, zero, suc, Bool}
-use Rattle.std.specs.Prelude.{false}
+use Rattle.std.specs.Prelude.{false, filter, not}
 use Rattle.std.specs.Prelude.{List, [], ◌∷◌, Option, None, Some, length, min, sum_by}
 use Rattle.std.specs.List.{list_any}
 use Rattle.aeth_base.specs.declared.ids.LinkId.{LinkId}
 use Rattle.aeth_base.specs.declared.ids.NiId.{NiId}
-use Rattle.aeth_base.specs.declared.ids.RouterId.{RouterId}
 use Rattle.aeth_base.specs.Limits.{max_path_links}
-use Rattle.aeth_chip.specs.declared.node.Link.{Link}
+use Rattle.aeth_chip.specs.Chip.{ChipData}
+use Rattle.aeth_chip.specs.LeastDistance.{least_distance}
+use Rattle.aeth_chip.specs.LeastOnward.{least_from}
 use Rattle.aeth_chip.specs.declared.node.Node.{Node}
-use Rattle.aeth_chip.specs.declared.node.Node.TheVariants.{Router, Ni}
-use Rattle.aeth_chip.specs.Paths.{IsDistance, IsOnwardDistance}
+use Rattle.aeth_chip.specs.declared.node.Node.TheVariants.{Ni}
 use Rattle.aeth_book.specs.Book.{BookData}
 use Rattle.aeth_paths.specs.declared.request.Request.{Request}
 use Rattle.aeth_paths.specs.Search.{Field, is_new}
 use Rattle.aeth_paths.specs.Task.{field}
-
--- The function gives the least number of links from each node to each interface.
-pub record AreLeast (links : List Link) (least : NiId → Node → Option ℕ) : Type 0 where
-  pub between : (a b : NiId) → IsDistance links a b (least b (Ni a))
-  pub onward : (r : RouterId) (b : NiId) → IsOnwardDistance links r b (least b (Router r))
 
 -- Whether a list with so many more links is short enough.
 abbrev pub is_near : ℕ → List LinkId → Option ℕ → Bool
@@ -63,14 +58,20 @@ abbrev pub is_crowded : List NiId → NiId → NiId → Bool
 is_crowded crowded a b = a.0 == b.0 && list_any (λ (n : NiId). n.0 == a.0) crowded
 
 -- The number over a pair, where it isn't one crowded interface.
-abbrev pub allowed_steps : BookData → List ℕ → Request → (NiId → Node → Option ℕ) → List NiId
-    → NiId → NiId → ℕ
-allowed_steps book prices ask least crowded a b =
+abbrev pub allowed_steps : ChipData → BookData → List ℕ → Request → List NiId → NiId → NiId → ℕ
+allowed_steps chip book prices ask crowded a b =
     if is_crowded crowded a b then 0
-    else pair_steps book prices ask (least b) a b (least b (Ni a))
+    else pair_steps book prices ask (least_from chip b) a b (least_distance chip a b)
 
--- The number over all allowed pairs of a sender and a receiver.
-abbrev pub all_steps : BookData → List ℕ → Request → (NiId → Node → Option ℕ) → List NiId
-    → List NiId → List NiId → ℕ
-all_steps book prices ask least from to crowded =
-    sum_by (λ a. sum_by (allowed_steps book prices ask least crowded a) to) from
+-- A list of interfaces, each once: where it stands first.
+abbrev pub each_once : List NiId → List NiId
+each_once [] = []
+each_once (n ∷ ns) = n ∷ filter (λ (m : NiId). not (m.0 == n.0)) (each_once ns)
+
+-- The number over all allowed pairs of a sender and a receiver. An interface that stands twice in a
+-- list counts once.
+abbrev pub all_steps : ChipData → BookData → List ℕ → Request → List NiId → List NiId → List NiId
+    → ℕ
+all_steps chip book prices ask from to crowded =
+    sum_by (λ a. sum_by (allowed_steps chip book prices ask crowded a) (each_once to))
+    (each_once from)

@@ -3,6 +3,7 @@
 
 mod cost;
 mod ends;
+pub mod laws;
 mod pairs;
 mod request;
 mod search;

@@ -1,15 +1,14 @@
 // The search over all pairs of a sender and a receiver.
-ghost use Rattle.std.specs.Prelude.{◌≡◌, ◌+◌, ◌<◌, ◌≤◌, ◌==◌, [], ◌∷◌, ℕ, List, Option, None};
+ghost use Rattle.std.specs.Prelude.{◌≡◌, ◌+◌, ◌<◌, ◌≤◌, ◌==◌, [], ◌∷◌, List, None};
 ghost use Rattle.std.specs.Prelude.{IfOk, MatchOption, false, length, sum_by};
 ghost use Rattle.std.specs.List.{list_any};
 ghost use Rattle.aeth_base.specs.declared.ids.LinkId.{LinkId};
 ghost use Rattle.aeth_base.specs.declared.ids.NiId.{NiId};
 ghost use Rattle.aeth_chip.specs.Paths.{IsPath};
-ghost use Rattle.aeth_chip.specs.declared.node.Node.{Node};
 ghost use Rattle.aeth_chip.specs.declared.node.Node.TheVariants.{Ni};
 ghost use Rattle.aeth_paths.specs.declared.request.Found.{Found};
 ghost use Rattle.aeth_paths.specs.Candidates.{IsCandidate, IsFirst, is_live};
-ghost use Rattle.aeth_paths.specs.Open.{AreLeast, all_steps, allowed_steps};
+ghost use Rattle.aeth_paths.specs.Open.{all_steps, allowed_steps, each_once};
 ghost use Rattle.aeth_paths.specs.Pairs.{IsOffered, OfferedFrom, OfferedTo, Tries};
 ghost use Rattle.aeth_paths.specs.Walk.{IsPrefix, IsTask, costs_of, path_in, priced};
 
@@ -88,9 +87,8 @@ fn try_pair<L: Ledger>(
     ensures best { result ≡ priced (costs_of task.now) (path_in result) }
     ensures tries { Tries (costs_of task.now) (path_in best) (path_in result)
         (IsOffered task.now.book.now task.now.ask crowded.now a b) }
-    ensures steps { (least : NiId → Node → Option ℕ) → AreLeast task.now.chip.now.links least
-        → steps.new ≤ steps.old + allowed_steps task.now.book.now task.now.prices.now task.now.ask
-        least crowded.now a b }
+    ensures steps { steps.new ≤ steps.old + allowed_steps task.now.chip.now task.now.book.now
+        task.now.prices.now task.now.ask crowded.now a b }
 {
     if a.0 == b.0 && holds(crowded, a) {
         return best;
@@ -120,13 +118,15 @@ fn try_to<L: Ledger>(
     ensures best { result ≡ priced (costs_of task.now) (path_in result) }
     ensures tries { Tries (costs_of task.now) (path_in best) (path_in result)
         (OfferedTo task.now.book.now task.now.ask crowded.now a to.now) }
-    ensures steps { (least : NiId → Node → Option ℕ) → AreLeast task.now.chip.now.links least
-        → steps.new ≤ steps.old + sum_by (allowed_steps task.now.book.now task.now.prices.now
-        task.now.ask least crowded.now a) to.now }
+    ensures steps { steps.new ≤ steps.old + sum_by (allowed_steps task.now.chip.now
+        task.now.book.now task.now.prices.now task.now.ask crowded.now a) (each_once to.now) }
 {
     let mut best = best;
-    for b in to {
-        best = try_pair(task, a, *b, crowded, best, steps);
+    for i in 0..to.len() {
+        let b = to[i];
+        if !holds(&to[..i], b) {
+            best = try_pair(task, a, b, crowded, best, steps);
+        }
     }
     best
 }
@@ -143,13 +143,15 @@ fn try_from<L: Ledger>(
     ensures best { result ≡ priced (costs_of task.now) (path_in result) }
     ensures tries { Tries (costs_of task.now) None (path_in result)
         (OfferedFrom task.now.book.now task.now.ask crowded.now from.now to.now) }
-    ensures steps { (least : NiId → Node → Option ℕ) → AreLeast task.now.chip.now.links least
-        → steps.new ≤ steps.old + all_steps task.now.book.now task.now.prices.now task.now.ask
-        least from.now to.now crowded.now }
+    ensures steps { steps.new ≤ steps.old + all_steps task.now.chip.now task.now.book.now
+        task.now.prices.now task.now.ask from.now to.now crowded.now }
 {
     let mut best = None;
-    for a in from {
-        best = try_to(task, *a, to, crowded, best, steps);
+    for i in 0..from.len() {
+        let a = from[i];
+        if !holds(&from[..i], a) {
+            best = try_to(task, a, to, crowded, best, steps);
+        }
     }
     best
 }
@@ -182,7 +184,7 @@ fn task_of<'a, F>(
 }
 
 /// What `find` gives, with the steps counted: at most one for each allowed pair, open list of links
-/// and link that leaves the list's end.
+/// and link that leaves the list's end. An interface that stands twice in a list counts once.
 pub fn find_counted<F: Fn(u32, u32) -> u32, L: Ledger>(
     chip: &Chip,
     far: &Distances,
@@ -199,9 +201,8 @@ pub fn find_counted<F: Fn(u32, u32) -> u32, L: Ledger>(
     ensures found { IfOk result (λ found. MatchOption found
         ((other : Found) → IsCandidate book.now ask.now from.now to.now crowded.now other → ⊥)
         (IsFirst book.now cost.now ask.now from.now to.now crowded.now)) }
-    ensures steps { (least : NiId → Node → Option ℕ) → AreLeast chip.now.links least
-        → steps.new ≤ steps.old + all_steps book.now cost.now ask.now least from.now to.now
-        crowded.now }
+    ensures steps { steps.new ≤ steps.old + all_steps chip.now book.now cost.now ask.now from.now
+        to.now crowded.now }
 {
     let task = task_of(chip, far, book, ask, cost);
     match try_from(&task, from, to, crowded, steps) {

@@ -5,7 +5,7 @@ use aeth_slots::SlotSet;
 
 /// What a channel asks of a path: so many slots (`need`), so many cycles from a word's offer to its
 /// landing (`latency`), and at most so many links more than the least number (`detour`).
-#[derive(Clone, Copy, Debug)]
+#[derive(Clone, Copy)]
 pub struct Request {
     pub unit: Unit,
     pub side: Side,
@@ -15,7 +15,7 @@ pub struct Request {
 }
 
 /// A path from a network interface to a network interface, and slots that are free on it.
-#[derive(Clone, Copy, Debug)]
+#[derive(Clone, Copy)]
 pub struct Found {
     pub from: NiId,
     pub to: NiId,

@@ -1,26 +1,24 @@
-// The search: it extends a list of links link by link, and gives up a list from which no better
-// path goes on.
-ghost use Rattle.std.specs.Prelude.{◌≡◌, ◌+◌, ◌*◌, ◌<◌, ◌≤◌, ◌++◌, ◌∷◌, ◌↔◌, ◌⊎◌, [], ℕ, List, Option};
+// The search: a list of links is extended link by link, and given up where no better path goes on.
+ghost use Rattle.std.specs.Prelude.{◌≡◌, ◌+◌, ◌*◌, ◌<◌, ◌≤◌, ◌++◌, ◌∷◌, ◌↔◌, ◌⊎◌, [], ℕ, List};
 ghost use Rattle.std.specs.Prelude.{true, false, Contains, IsTrue, length, map, slice_get};
 ghost use Rattle.std.specs.Cmp.Lexicographic.{slice_cmp};
 ghost use Rattle.std.specs.Ordering.{is_lt, nat_cmp};
 ghost use Rattle.std.specs.Int.{bit_at};
 ghost use Rattle.aeth_base.specs.Limits.{max_path_links};
 ghost use Rattle.aeth_base.specs.declared.ids.LinkId.{LinkId};
-ghost use Rattle.aeth_base.specs.declared.ids.NiId.{NiId};
 ghost use Rattle.aeth_base.specs.declared.ids.RouterId.{RouterId};
 ghost use Rattle.aeth_chip.specs.Limits.{max_routers};
 ghost use Rattle.aeth_chip.specs.declared.node.Node.TheVariants.{Router};
-ghost use Rattle.aeth_chip.specs.declared.node.Node.{Node};
 ghost use Rattle.aeth_chip.specs.Chip.{IsNode};
 ghost use Rattle.aeth_chip.specs.Paths.{to_of};
 ghost use Rattle.aeth_paths.specs.Candidates.{is_live};
-ghost use Rattle.aeth_paths.specs.Open.{AreLeast, is_open, open_steps};
+ghost use Rattle.aeth_chip.specs.LeastOnward.{least_from};
+ghost use Rattle.aeth_paths.specs.Open.{is_open, open_steps};
+ghost use Rattle.aeth_paths.specs.Over.{IsOver};
 ghost use Rattle.aeth_paths.specs.Search.{completions, first_from, is_better, keep, turn_of};
 ghost use Rattle.aeth_paths.specs.Task.{links_from};
 ghost use Rattle.aeth_paths.specs.Walk.{GainsNothing, IsLeastFrom, IsPrefix, IsTask, Stands};
-ghost use Rattle.aeth_paths.specs.Walk.{field_of};
-ghost use Rattle.aeth_paths.specs.Walk.{costs_of, is_before, path_in, priced};
+ghost use Rattle.aeth_paths.specs.Walk.{costs_of, field_of, is_before, path_in, priced};
 
 use crate::cost::Prices;
 use crate::request::Request;
@@ -66,13 +64,19 @@ pub(crate) struct Priced {
     pub cost: u32,
 }
 
-/// What a link is for a search with the links that led to it: one to no new router, the last one of
-/// a path, or one to a new router.
+/// What a link is for a search: one to no new router, the last one of a path, or one to a new router.
 #[derive(Clone, Copy)]
 pub(crate) enum Turn {
     Away,
     Ends,
     Goes,
+}
+
+/// What comes of following a link: what is best then, and the list to go on from, if any.
+#[derive(Clone, Copy)]
+pub(crate) struct Over {
+    pub best: Option<Priced>,
+    pub longer: Option<Prefix>,
 }
 
 /// A link that leaves a node, by its place among these links; `None` where there is none.
@@ -265,9 +269,8 @@ fn may_precede(path: &Path, cost: u64, links: u64, best: &Priced) -> bool
     !is_behind(path, &best.path)
 }
 
-/// Whether no better path goes on over a link that leaves a list's end to a new router: it leads too
-/// far from the goal, or with the least cost of the links that are still needed no path over it comes
-/// before the best.
+/// Whether no better path goes on over a link to a new router: it leads too far from the goal, or
+/// with the least cost of the links that are still needed no path over it comes before the best.
 fn is_vain(task: &Task, goal: &Goal, prefix: &Prefix, link: LinkId, best: &Option<Priced>) -> bool
     requires task { IsTask task.now }
     requires prefix { IsPrefix task.now prefix.now }
@@ -303,10 +306,8 @@ fn is_hopeless(task: &Task, goal: &Goal, prefix: &Prefix, best: &Option<Priced>)
     requires best { best.now ≡ priced (costs_of task.now) (path_in best.now) }
     ensures none { IsTrue result → GainsNothing (field_of task.now goal.now) (path_in best.now)
         prefix.now.end prefix.now.path }
-    ensures open { result ≡ false → (least : NiId → Node → Option ℕ)
-        → AreLeast task.now.chip.now.links least
-        → is_open (field_of task.now goal.now) (least goal.now.ni) prefix.now.end prefix.now.path
-        ≡ true }
+    ensures open { result ≡ false → is_open (field_of task.now goal.now)
+        (least_from task.now.chip.now goal.now.ni) prefix.now.end prefix.now.path ≡ true }
 {
     let Some(more) = onward(task, goal, prefix.end) else {
         return true;
@@ -321,6 +322,40 @@ fn is_hopeless(task: &Task, goal: &Goal, prefix: &Prefix, best: &Option<Priced>)
         }
     }
     !is_live(task, prefix)
+}
+
+/// What comes of a link that leaves a list's end: what is best then, or a longer list to go on from.
+fn over_link<L: Ledger>(
+    task: &Task,
+    goal: &Goal,
+    prefix: &Prefix,
+    link: LinkId,
+    best: Option<Priced>,
+    steps: &mut Steps<L>,
+) -> Over
+    requires task { IsTask task.now }
+    requires prefix { IsPrefix task.now prefix.now }
+    requires short { length prefix.now.path < max_path_links }
+    requires link { Contains (links_from task.now.chip.now.links prefix.now.end) link }
+    requires best { best ≡ priced (costs_of task.now) (path_in best) }
+    ensures over { IsOver task.now goal.now prefix.now link best result.best result.longer }
+    ensures steps { steps.new ≤ steps.old + 1 }
+{
+    match turn_at(task, goal, prefix, link) {
+        Turn::Away => Over { best, longer: None },
+        Turn::Ends => {
+            let path = grown(task, prefix, link, steps);
+            let best = consider(task, goal, &path, best);
+            Over { best, longer: None }
+        }
+        Turn::Goes => {
+            if is_vain(task, goal, prefix, link, &best) {
+                return Over { best, longer: None };
+            }
+            let longer = Some(grown(task, prefix, link, steps));
+            Over { best, longer }
+        }
+    }
 }
 
 /// The first of what was best and the candidates among the paths that go on from a list over at
@@ -342,9 +377,8 @@ pub(crate) fn extend<L: Ledger>(
     ensures best { result ≡ priced (costs_of task.now)
         (first_from (field_of task.now goal.now) (path_in best)
         (completions (field_of task.now goal.now) left prefix.now.end prefix.now.path)) }
-    ensures steps { (least : NiId → Node → Option ℕ) → AreLeast task.now.chip.now.links least
-        → steps.new ≤ steps.old + open_steps (field_of task.now goal.now) (least goal.now.ni) left
-        prefix.now.end prefix.now.path }
+    ensures steps { steps.new ≤ steps.old + open_steps (field_of task.now goal.now)
+        (least_from task.now.chip.now goal.now.ni) left prefix.now.end prefix.now.path }
 {
     if left == 0 {
         return best;
@@ -357,20 +391,10 @@ pub(crate) fn extend<L: Ledger>(
         let Some(link) = leaving(task.chip, prefix.end, place) else {
             return best;
         };
-        best = match turn_at(task, goal, prefix, link) {
-            Turn::Away => best,
-            Turn::Ends => {
-                let path = grown(task, prefix, link, steps);
-                consider(task, goal, &path, best)
-            }
-            Turn::Goes => {
-                if is_vain(task, goal, prefix, link, &best) {
-                    best
-                } else {
-                    let longer = grown(task, prefix, link, steps);
-                    extend(task, goal, &longer, best, left - 1, steps)
-                }
-            }
+        let Over { best: met, longer } = over_link(task, goal, prefix, link, best, steps);
+        best = match longer {
+            None => met,
+            Some(longer) => extend(task, goal, &longer, met, left - 1, steps),
         };
     }
     best

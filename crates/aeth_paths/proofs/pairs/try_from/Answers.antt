@@ -1,62 +1,87 @@
-use Rattle.std.proofs.Common.{List, None, ap}
-use Rattle.std.proofs.Common.{arith, refl, subst}
+use Rattle.std.proofs.Common.{◌≡◌, ◌∙◌, ℕ, List, None, refl, ap, arith, not, sym, subst}
 use Rattle.std.specs.Prelude.{sum_by}
 use Rattle.std.proofs.lemmas.List.{take_all}
-use Rattle.std.proofs.lemmas.List.Sums.{sum_by_more}
 use Rattle.aeth_base.specs.declared.ids.NiId.{NiId}
-use Rattle.aeth_paths.specs.Open.{allowed_steps}
+use Rattle.aeth_paths.specs.Open.{allowed_steps, each_once}
 use Rattle.aeth_paths.specs.Pairs.{OfferedFrom, OfferedTo, Tries}
 use Rattle.aeth_paths.specs.Walk.{costs_of, path_in}
-use Rattle.aeth_paths.proofs.TryLemmas.{tries-more, tries-no}
+use Rattle.aeth_paths.proofs.OnceLemmas.{stands-Contains, sum-new, sum-old}
+use Rattle.aeth_paths.proofs.TryLemmas.{tries-again, tries-more, tries-no}
+use Rattle.aeth_paths.proofs.pairs.try_from.Goals.{then-not-holds, else-not-holds}
 use Rattle.aeth_paths.proofs.pairs.try_from.Goals as goal
 
 -- No sender was tried.
-pub loop-a-init : goal.loop-a-init
-loop-a-init g c =
+pub loop-i-init : goal.loop-i-init
+loop-i-init g c =
     let task = c.args.task.now in
     record {
       best = refl;
       tries = tries-no
           (λ (a : NiId). OfferedTo task.book.now task.ask c.args.crowded.now a c.args.to.now)
           (costs_of task) None;
-      steps = λ least are. omega arith;
+      steps = omega arith;
     }
 
--- One more was.
-pub loop-a-preserved : goal.loop-a-preserved
-loop-a-preserved g c =
+-- One more was, or was one before.
+pub loop-i-preserved : goal.loop-i-preserved
+loop-i-preserved g c =
     let task = c.args.task.now in
-    let i = c.loop-a.a-index in
-    record {
-      best = c.try_to-best.ensures.best;
-      tries = tries-more
-          (λ (a : NiId). OfferedTo task.book.now task.ask c.args.crowded.now a c.args.to.now)
-          (costs_of task) None (path_in c.loop-a.best) (path_in c.try_to-best.result)
-          c.args.from.now i (record { 0 = 0 })
-          c.loop-a-test.true c.loop-a.invariant.tries
-          c.try_to-best.ensures.tries;
-      steps = λ least are. omega (
-        arith,
-        sum_by_more (λ (a : NiId). sum_by (allowed_steps task.book.now task.prices.now task.ask
-            least c.args.crowded.now a) c.args.to.now) c.args.from.now i (record { 0 = 0 })
-            c.loop-a-test.true,
-        c.loop-a.invariant.steps least are,
-        c.try_to-best.ensures.steps least are,
-      );
-    }
+    let crowded = c.args.crowded.now in
+    let i = c.loop-i.i in
+    let xs : List NiId = c.args.from.now in
+    let d : NiId = record { 0 = 0 } in
+    let best = path_in c.loop-i.best in
+    let many : NiId → ℕ =
+    λ a. sum_by (allowed_steps task.chip.now task.book.now task.prices.now task.ask crowded a)
+    (each_once c.args.to.now) in
+    elim c.if-not-holds.branch [
+      | then-not-holds w ↦ record {
+        best = rw w.best-is w.try_to-best.ensures.best;
+        tries = rw w.best-is (tries-more
+            (λ (a : NiId). OfferedTo task.book.now task.ask c.args.crowded.now a c.args.to.now)
+            (costs_of task) None best (path_in w.try_to-best.result) xs i d
+            c.loop-i-test.true c.loop-i.invariant.tries w.try_to-best.ensures.tries);
+        steps = omega (
+          arith,
+          w.steps-is,
+          sum-new many xs i d c.loop-i-test.true (sym c.holds.ensures ∙ w.if-not-holds.true),
+          c.loop-i.invariant.steps,
+          w.try_to-best.ensures.steps,
+        );
+      }
+      | else-not-holds w ↦
+          let again = sym c.holds.ensures ∙ w.if-not-holds.false in
+          record {
+            best = rw w.best-is c.loop-i.invariant.best;
+            tries = rw w.best-is (tries-again
+                (λ (a : NiId). OfferedTo task.book.now task.ask c.args.crowded.now a c.args.to.now)
+                (costs_of task) None best xs i d c.loop-i-test.true
+                (stands-Contains _ _ again) c.loop-i.invariant.tries);
+            steps = omega (
+              arith,
+              w.steps-is,
+              sum-old many xs i d c.loop-i-test.true again,
+              c.loop-i.invariant.steps,
+            );
+          }
+    ]
 
 -- All were.
 pub returns-clause-tries : goal.returns-clause-tries
 returns-clause-tries g c =
     let task = c.args.task.now in
-    subst (λ (starts : List NiId). Tries (costs_of task) None (path_in c.loop-a.best)
-    (OfferedFrom task.book.now task.ask c.args.crowded.now starts c.args.to.now))
-    (take_all c.loop-a.a-index c.args.from.now c.loop-a-test.false) c.loop-a.invariant.tries
+    let crowded = c.args.crowded.now in
+    subst (λ (ns : List NiId). Tries (costs_of task) None (path_in c.loop-i.best)
+    (OfferedFrom task.book.now task.ask crowded ns c.args.to.now))
+    (take_all c.loop-i.i c.args.from.now c.loop-i-test.false) c.loop-i.invariant.tries
 
 pub returns-clause-steps : goal.returns-clause-steps
-returns-clause-steps g c least are =
+returns-clause-steps g c =
     let task = c.args.task.now in
-    let all = ap (sum_by (λ (a : NiId). sum_by (allowed_steps task.book.now task.prices.now task.ask
-    least c.args.crowded.now a) c.args.to.now))
-    (take_all c.loop-a.a-index c.args.from.now c.loop-a-test.false) in
-    omega (arith, all, c.loop-a.invariant.steps least are)
+    let crowded = c.args.crowded.now in
+    let many : NiId → ℕ =
+    λ a. sum_by (allowed_steps task.chip.now task.book.now task.prices.now task.ask crowded a)
+    (each_once c.args.to.now) in
+    let all = ap (λ (ns : List NiId). sum_by many (each_once ns))
+    (take_all c.loop-i.i c.args.from.now c.loop-i-test.false) in
+    omega (arith, all, c.loop-i.invariant.steps)

@@ -1,5 +1,5 @@
 use Rattle.std.proofs.Common.{◌≡◌, ◌∙◌, false, eqb, List, [], Option, None, Some}
-use Rattle.std.proofs.Common.{sym, ap, subst}
+use Rattle.std.proofs.Common.{ℕ, sym, ap, subst, arith}
 use Rattle.std.proofs.lemmas.Bool.{and_from, and_left, and_right, both_ways, eq-eqb, ne_eqb}
 use Rattle.aeth_base.specs.Limits.{max_path_links}
 use Rattle.aeth_base.specs.declared.ids.LinkId.{LinkId}
@@ -9,7 +9,9 @@ use Rattle.aeth_chip.specs.declared.node.Node.TheVariants.{Ni}
 use Rattle.aeth_chip.specs.Chip.{IsNode}
 use Rattle.aeth_chip.specs.Paths.{IsDistance, IsLinkFrom}
 use Rattle.aeth_paths.specs.declared.search.Goal.{Goal}
-use Rattle.aeth_paths.specs.Open.{is_crowded}
+use Rattle.aeth_chip.specs.LeastOnward.{least_from}
+use Rattle.aeth_paths.specs.Open.{is_crowded, open_steps}
+use Rattle.aeth_paths.specs.Task.{field}
 use Rattle.aeth_paths.specs.Pairs.{IsOffered, Tries}
 use Rattle.aeth_paths.specs.Search.{completions, first_from}
 use Rattle.aeth_paths.specs.Walk.{costs_of, field_of, path_in}
@@ -17,8 +19,10 @@ use Rattle.aeth_paths.proofs.EndLemmas.{from-inside}
 use Rattle.aeth_paths.proofs.EnterLemmas.{to-inside}
 use Rattle.aeth_paths.proofs.HopelessLemmas.{no-direct}
 use Rattle.aeth_paths.proofs.StepLemmas.{path_in-priced}
-use Rattle.aeth_paths.proofs.TryLemmas.{tries-none, tries-pair}
+use Rattle.aeth_paths.proofs.TryLemmas.{steps-allowed, tries-none, tries-pair}
+use Rattle.aeth_paths.proofs.pairs.try_pair.Given as given
 use Rattle.aeth_paths.proofs.pairs.try_pair.Goals as goal
+use Rattle.aeth_paths.proofs.pairs.try_pair.Goals.{After-extend}
 use Rattle.aeth_paths.proofs.pairs.try_pair.Goals.{else-a-b-via-then-a-b+else-holds}
 use Rattle.aeth_paths.proofs.pairs.try_pair.Goals.{else-a-b-via-else-a-b}
 
@@ -68,6 +72,16 @@ extend-requires-clause-node g c =
     subst (IsNode chip.routers chip.nis) (sym c.start.ensures.end)
     (from-inside chip c.args.a c.args.b far.path c.requires.task.is_chip far.has)
 
+-- The pair isn't one crowded interface.
+room : (g : given.Over) (c : goal.After-extend g)
+    → is_crowded c.args.crowded.now c.args.a c.args.b ≡ false
+room g c = elim c.else-a-b.branch [
+  | else-a-b-via-then-a-b+else-holds w ↦
+      and_right (eqb c.args.a.0 c.args.b.0) _ (sym w.holds.ensures ∙ w.if-holds.false)
+  | else-a-b-via-else-a-b w ↦
+      and_left (eqb c.args.a.0 c.args.b.0) _ (ne_eqb c.args.a.0 c.args.b.0 w.if-a-b.false)
+]
+
 -- All paths of the pair were tried.
 pub returns-clause-tries : goal.returns-clause-tries
 returns-clause-tries g c =
@@ -82,13 +96,6 @@ returns-clause-tries g c =
     λ link. subst (λ (ls : List Link). IsLinkFrom ls link (Ni c.args.a) (Ni c.args.b) → ⊥)
     (sym c.requires.task.book)
     (no-direct task.chip.now c.requires.task.is_chip c.args.a c.args.b link) in
-    let room : is_crowded c.args.crowded.now c.args.a c.args.b ≡ false =
-    elim c.else-a-b.branch [
-      | else-a-b-via-then-a-b+else-holds w ↦
-          and_right (eqb c.args.a.0 c.args.b.0) _ (sym w.holds.ensures ∙ w.if-holds.false)
-      | else-a-b-via-else-a-b w ↦
-          and_left (eqb c.args.a.0 c.args.b.0) _ (ne_eqb c.args.a.0 c.args.b.0 w.if-a-b.false)
-    ] in
     let all : path_in c.extend.result
     ≡ first_from f (path_in c.args.best) (completions f max_path_links (Ni c.args.a) []) =
     ap path_in c.extend.ensures.best ∙ path_in-priced (costs_of task) _
@@ -99,4 +106,23 @@ returns-clause-tries g c =
     subst (λ (o : Option (List LinkId)). Tries (costs_of task) (path_in c.args.best) o
     (IsOffered task.book.now ask c.args.crowded.now c.args.a c.args.b)) (sym all)
     (tries-pair task.book.now task.prices.now ask c.args.crowded.now c.args.a c.args.b
-    c.in-Some.distance c.min-most.result far c.min-most.ensures apart room (path_in c.args.best))
+    c.in-Some.distance c.min-most.result far c.min-most.ensures apart
+    (room g (goal.at.returns-clause-tries g c).After-extend) (path_in c.args.best))
+
+-- Its lists are those of the pair.
+pub returns-clause-steps : goal.returns-clause-steps
+returns-clause-steps g c =
+    let task = c.args.task.now in
+    let chip = task.chip.now in
+    let most : ℕ = c.min-most.result in
+    let far = subst (λ (ls : List Link). IsDistance ls c.args.a c.args.b (Some c.in-Some.distance))
+    c.requires.task.far c.in-Some.ensures.distance in
+    let steps : Node → List LinkId → ℕ =
+    open_steps (field task.book.now task.prices.now task.ask c.args.b most)
+    (least_from chip c.args.b) max_path_links in
+    let end = ap (λ (n : Node). steps n c.start.result.path) c.start.ensures.end in
+    let none = ap (steps (Ni c.args.a)) c.start.ensures.path in
+    let all = steps-allowed chip c.requires.task.is_chip task.book.now task.prices.now task.ask
+    c.args.crowded.now c.args.a c.args.b c.in-Some.distance most far c.min-most.ensures
+    (room g (goal.at.returns-clause-steps g c).After-extend) in
+    omega (arith, c.extend.ensures.steps, end, none, all)

@@ -1,59 +1,85 @@
-use Rattle.std.proofs.Common.{List, ap, subst}
-use Rattle.std.proofs.Common.{arith}
+use Rattle.std.proofs.Common.{◌≡◌, ◌∙◌, ℕ, List, ap, arith, not, sym, subst}
 use Rattle.std.specs.Prelude.{sum_by}
 use Rattle.std.proofs.lemmas.List.{take_all}
-use Rattle.std.proofs.lemmas.List.Sums.{sum_by_more}
 use Rattle.aeth_base.specs.declared.ids.NiId.{NiId}
-use Rattle.aeth_paths.specs.Open.{allowed_steps}
+use Rattle.aeth_paths.specs.Open.{allowed_steps, each_once}
 use Rattle.aeth_paths.specs.Pairs.{IsOffered, OfferedTo, Tries}
 use Rattle.aeth_paths.specs.Walk.{costs_of, path_in}
-use Rattle.aeth_paths.proofs.TryLemmas.{tries-more, tries-no}
+use Rattle.aeth_paths.proofs.OnceLemmas.{stands-Contains, sum-new, sum-old}
+use Rattle.aeth_paths.proofs.TryLemmas.{tries-again, tries-more, tries-no}
+use Rattle.aeth_paths.proofs.pairs.try_to.Goals.{then-not-holds, else-not-holds}
 use Rattle.aeth_paths.proofs.pairs.try_to.Goals as goal
 
 -- No receiver was tried.
-pub loop-b-init : goal.loop-b-init
-loop-b-init g c =
+pub loop-i-init : goal.loop-i-init
+loop-i-init g c =
     let task = c.args.task.now in
     record {
       best = c.requires.best;
-      tries = tries-no (IsOffered task.book.now task.ask c.args.crowded.now c.args.a)
+      tries = tries-no
+          (IsOffered task.book.now task.ask c.args.crowded.now c.args.a)
           (costs_of task) (path_in c.args.best);
-      steps = λ least are. omega arith;
+      steps = omega arith;
     }
 
--- One more was.
-pub loop-b-preserved : goal.loop-b-preserved
-loop-b-preserved g c =
+-- One more was, or was one before.
+pub loop-i-preserved : goal.loop-i-preserved
+loop-i-preserved g c =
     let task = c.args.task.now in
-    let i = c.loop-b.b-index in
-    record {
-      best = c.try_pair-best.ensures.best;
-      tries = tries-more (IsOffered task.book.now task.ask c.args.crowded.now c.args.a)
-          (costs_of task) (path_in c.args.best) (path_in c.loop-b.best)
-          (path_in c.try_pair-best.result) c.args.to.now i (record { 0 = 0 })
-          c.loop-b-test.true
-          c.loop-b.invariant.tries c.try_pair-best.ensures.tries;
-      steps = λ least are. omega (
-        arith,
-        sum_by_more (allowed_steps task.book.now task.prices.now task.ask least
-            c.args.crowded.now c.args.a) c.args.to.now i (record { 0 = 0 })
-            c.loop-b-test.true,
-        c.loop-b.invariant.steps least are,
-        c.try_pair-best.ensures.steps least are,
-      );
-    }
+    let crowded = c.args.crowded.now in
+    let i = c.loop-i.i in
+    let xs : List NiId = c.args.to.now in
+    let d : NiId = record { 0 = 0 } in
+    let best = path_in c.loop-i.best in
+    let many : NiId → ℕ =
+    allowed_steps task.chip.now task.book.now task.prices.now task.ask crowded c.args.a in
+    elim c.if-not-holds.branch [
+      | then-not-holds w ↦ record {
+        best = rw w.best-is w.try_pair-best.ensures.best;
+        tries = rw w.best-is (tries-more
+            (IsOffered task.book.now task.ask c.args.crowded.now c.args.a)
+            (costs_of task) (path_in c.args.best) best (path_in w.try_pair-best.result) xs i d
+            c.loop-i-test.true c.loop-i.invariant.tries w.try_pair-best.ensures.tries);
+        steps = omega (
+          arith,
+          w.steps-is,
+          sum-new many xs i d c.loop-i-test.true (sym c.holds.ensures ∙ w.if-not-holds.true),
+          c.loop-i.invariant.steps,
+          w.try_pair-best.ensures.steps,
+        );
+      }
+      | else-not-holds w ↦
+          let again = sym c.holds.ensures ∙ w.if-not-holds.false in
+          record {
+            best = rw w.best-is c.loop-i.invariant.best;
+            tries = rw w.best-is (tries-again
+                (IsOffered task.book.now task.ask c.args.crowded.now c.args.a)
+                (costs_of task) (path_in c.args.best) best xs i d c.loop-i-test.true
+                (stands-Contains _ _ again) c.loop-i.invariant.tries);
+            steps = omega (
+              arith,
+              w.steps-is,
+              sum-old many xs i d c.loop-i-test.true again,
+              c.loop-i.invariant.steps,
+            );
+          }
+    ]
 
 -- All were.
 pub returns-clause-tries : goal.returns-clause-tries
 returns-clause-tries g c =
     let task = c.args.task.now in
-    subst (λ (bs : List NiId). Tries (costs_of task) (path_in c.args.best) (path_in c.loop-b.best)
-    (OfferedTo task.book.now task.ask c.args.crowded.now c.args.a bs))
-    (take_all c.loop-b.b-index c.args.to.now c.loop-b-test.false) c.loop-b.invariant.tries
+    let crowded = c.args.crowded.now in
+    subst (λ (ns : List NiId). Tries (costs_of task) (path_in c.args.best) (path_in c.loop-i.best)
+    (OfferedTo task.book.now task.ask crowded c.args.a ns))
+    (take_all c.loop-i.i c.args.to.now c.loop-i-test.false) c.loop-i.invariant.tries
 
 pub returns-clause-steps : goal.returns-clause-steps
-returns-clause-steps g c least are =
+returns-clause-steps g c =
     let task = c.args.task.now in
-    let all = ap (sum_by (allowed_steps task.book.now task.prices.now task.ask least
-    c.args.crowded.now c.args.a)) (take_all c.loop-b.b-index c.args.to.now c.loop-b-test.false) in
-    omega (arith, all, c.loop-b.invariant.steps least are)
+    let crowded = c.args.crowded.now in
+    let many : NiId → ℕ =
+    allowed_steps task.chip.now task.book.now task.prices.now task.ask crowded c.args.a in
+    let all = ap (λ (ns : List NiId). sum_by many (each_once ns))
+    (take_all c.loop-i.i c.args.to.now c.loop-i-test.false) in
+    omega (arith, all, c.loop-i.invariant.steps)

@@ -1,9 +1,7 @@
-use Rattle.std.proofs.Common.{◌≡◌, ◌-◌, ◌+◌, ◌≤◌, ℕ, Option, length, take}
+use Rattle.std.proofs.Common.{◌≡◌, ◌-◌, ◌+◌, ◌≤◌, length, take}
 use Rattle.std.specs.List.{flat_map}
 use Rattle.std.specs.Prelude.{sum_by}
-use Rattle.aeth_base.specs.declared.ids.NiId.{NiId}
-use Rattle.aeth_chip.specs.declared.node.Node.{Node}
-use Rattle.aeth_paths.specs.Open.{AreLeast}
+use Rattle.aeth_chip.specs.LeastOnward.{least_from}
 use Rattle.aeth_paths.specs.Search.{along, completions, first_from}
 use Rattle.aeth_paths.specs.Walk.{field_of, path_in, priced}
 use Rattle.aeth_paths.proofs.StepLemmas.{steps_over}
@@ -22,7 +20,6 @@ invariant-loop-place g l =
       within : l.place ≤ length links;
       best : l.best ≡ priced f.cost (first_from f (path_in l.fn.best)
           (flat_map (along f l.prefix.path (completions f (l.left - 1))) (take l.place links)));
-      steps : (least : NiId → Node → Option ℕ) → AreLeast l.task.chip.now.links least
-          → l.steps ≤ l.fn.steps + l.place
-          + sum_by (steps_over f (least l.goal.ni) (l.left - 1) l.prefix.path) (take l.place links);
+      steps : l.steps ≤ l.fn.steps + l.place + sum_by (steps_over f
+          (least_from l.task.chip.now l.goal.ni) (l.left - 1) l.prefix.path) (take l.place links);
     }

@@ -1,11 +1,12 @@
 use Rattle.std.proofs.Common.{◌∙◌, ◌+◌, List, Some, sym, subst, arith}
-use Rattle.std.proofs.lemmas.Bool.{not-true}
+use Rattle.std.proofs.lemmas.Bool.{not-false, not-true}
+use Rattle.aeth_chip.specs.LeastOnward.{least_from}
 use Rattle.aeth_chip.specs.declared.node.Link.{Link}
 use Rattle.aeth_paths.specs.Walk.{IsLeastFrom, field_of, path_in}
 use Rattle.aeth_paths.proofs.GiveUpLemmas.{dead-none, far-none, nowhere-none}
-use Rattle.aeth_paths.proofs.HopelessLemmas.{least-is, open-from, task-near, task-never}
+use Rattle.aeth_paths.proofs.HopelessLemmas.{least-told, open-from, task-near, task-never}
 use Rattle.aeth_paths.proofs.HopelessLemmas.{task-outdone}
-use Rattle.aeth_paths.proofs.LiveLemmas.{dead-stays, not_false, true_from}
+use Rattle.aeth_paths.proofs.LiveLemmas.{dead-stays, true_from}
 use Rattle.aeth_paths.proofs.search.is_hopeless.Goals as goal
 
 -- No path leads to the goal.
@@ -45,12 +46,12 @@ returns-clause-none c given =
 
 -- Else it is open.
 pub returns-clause-open : goal.returns-clause-open
-returns-clause-open c given least are =
+returns-clause-open c given =
     let task = c.args.task.now in
-    open-from (field_of task c.args.goal.now) (least c.args.goal.now.ni) c.args.prefix.now.end
-    c.args.prefix.now.path c.in-Some.more
-    (sym c.is_live.ensures ∙ not_false c.is_live.result given)
-    (least-is task.chip.now.links least are c.args.goal.now.ni c.args.prefix.now.end
+    open-from (field_of task c.args.goal.now) (least_from task.chip.now c.args.goal.now.ni)
+    c.args.prefix.now.end c.args.prefix.now.path c.in-Some.more
+    (sym c.is_live.ensures ∙ not-false c.is_live.result given)
+    (least-told task.chip.now c.requires.task.is_chip c.args.goal.now.ni c.args.prefix.now.end
     (Some c.in-Some.more)
     (subst (λ (ls : List Link). IsLeastFrom ls c.args.goal.now.ni c.args.prefix.now.end
     (Some c.in-Some.more)) c.requires.task.far c.in-Some.ensures))

@@ -1,0 +1,79 @@
+-- Lists of interfaces, each once: a further one that stands in the list before adds nothing.
+use Rattle.std.proofs.Common.{◌≡◌, ◌∙◌, ◌+◌, ◌<◌, ◌++◌, ℕ, Bool, true, false, cond, ◌||◌, List, [], ◌∷◌}
+use Rattle.std.proofs.Common.{Contains, filter, not, eqb, get_or, length, take, sym, ap, subst, inl}
+use Rattle.std.proofs.Common.{inr, arith, refl}
+use Rattle.std.specs.List.{list_any}
+use Rattle.std.specs.Prelude.{sum_by}
+use Rattle.std.proofs.lemmas.Bool.{cases_Bool, eq-eqb, eqb-true, false≢true, ne_eqb}
+use Rattle.std.proofs.lemmas.List.{append-nil, take_more}
+use Rattle.std.proofs.lemmas.List.Elements.{filter-append}
+use Rattle.std.proofs.lemmas.List.Sums.{sum_by-append, sum_by-cons}
+use Rattle.aeth_base.specs.declared.ids.NiId.{NiId}
+use Rattle.aeth_group.proofs.ListLemmas.{passes_from_any}
+use Rattle.aeth_paths.specs.Open.{each_once}
+
+-- Whether an interface is in a list.
+abbrev pub stands_in : List NiId → NiId → Bool
+stands_in ns n = list_any (λ (m : NiId). eqb m.0 n.0) ns
+
+-- Whether it is another one.
+abbrev differs : NiId → NiId → Bool
+differs k m = not (eqb m.0 k.0)
+
+-- One that isn't in the list stands behind those of the list; one that is adds nothing.
+once-new : (ns : List NiId) (n : NiId) → stands_in ns n ≡ false
+    → each_once (ns ++ n ∷ []) ≡ each_once ns ++ n ∷ []
+once-new [] n new = refl
+once-new (k ∷ ns) n new = elim (cases_Bool (eqb k.0 n.0)) [
+  | inl same ↦ absurd (false≢true (sym new ∙ ap (λ b. b || stands_in ns n) same))
+  | inr other ↦
+      let rest : stands_in ns n ≡ false = sym (ap (λ b. b || stands_in ns n) other) ∙ new in
+      let apart : eqb n.0 k.0 ≡ false =
+      ne_eqb n.0 k.0 (λ is. false≢true (sym other ∙ eq-eqb k.0 n.0 (sym is))) in
+      ap (λ (ms : List NiId). k ∷ filter (differs k) ms) (once-new ns n rest)
+      ∙ ap (λ (ms : List NiId). k ∷ ms) (filter-append (differs k) (each_once ns) (n ∷ [])
+      ∙ ap (λ b. filter (differs k) (each_once ns) ++ cond (not b) (n ∷ []) []) apart)
+]
+
+once-old : (ns : List NiId) (n : NiId) → stands_in ns n ≡ true
+    → each_once (ns ++ n ∷ []) ≡ each_once ns
+once-old [] n old = absurd (false≢true old)
+once-old (k ∷ ns) n old = elim (cases_Bool (stands_in ns n)) [
+  | inl later ↦ ap (λ (ms : List NiId). k ∷ filter (differs k) ms) (once-old ns n later)
+  | inr not_later ↦ elim (cases_Bool (eqb k.0 n.0)) [
+    | inl same ↦
+        let here : eqb n.0 k.0 ≡ true = eq-eqb n.0 k.0 (sym (eqb-true k.0 n.0 same)) in
+        ap (λ (ms : List NiId). k ∷ filter (differs k) ms) (once-new ns n not_later)
+        ∙ ap (λ (ms : List NiId). k ∷ ms) (filter-append (differs k) (each_once ns) (n ∷ [])
+        ∙ ap (λ b. filter (differs k) (each_once ns) ++ cond (not b) (n ∷ []) []) here
+        ∙ append-nil (filter (differs k) (each_once ns)))
+    | inr other ↦ absurd (false≢true (sym not_later
+        ∙ sym (ap (λ b. b || stands_in ns n) other) ∙ old))
+  ]
+]
+
+-- One more interface of a list, of which another number is summed up.
+module _ (g : NiId → ℕ) (ns : List NiId) (i : ℕ) (d : NiId) (within : i < length ns) where
+  pub sum-new : stands_in (take i ns) (get_or ns i d) ≡ false
+      → sum_by g (each_once (take (i + 1) ns))
+      ≡ sum_by g (each_once (take i ns)) + g (get_or ns i d)
+  sum-new new =
+      let n : NiId = get_or ns i d in
+      let one : sum_by g (n ∷ []) ≡ g n = sum_by-cons g n [] ∙ omega arith in
+      ap (λ ms. sum_by g (each_once ms)) (take_more ns i d within)
+      ∙ ap (sum_by g) (once-new (take i ns) n new)
+      ∙ sum_by-append g (each_once (take i ns)) (n ∷ [])
+      ∙ ap (λ k. sum_by g (each_once (take i ns)) + k) one
+
+  pub sum-old : stands_in (take i ns) (get_or ns i d) ≡ true
+      → sum_by g (each_once (take (i + 1) ns)) ≡ sum_by g (each_once (take i ns))
+  sum-old old =
+      ap (λ ms. sum_by g (each_once ms)) (take_more ns i d within)
+      ∙ ap (sum_by g) (once-old (take i ns) (get_or ns i d) old)
+
+-- One that is in a list is an element of it.
+pub stands-Contains : (ns : List NiId) (n : NiId) → stands_in ns n ≡ true → Contains ns n
+stands-Contains ns n found =
+    let one = passes_from_any (λ (m : NiId). eqb m.0 n.0) ns found in
+    let same : one.item ≡ n = ap (λ k. record { 0 = k }) (eqb-true one.item.0 n.0 one.passes) in
+    subst (Contains ns) same one.is_in
