@@ -13,7 +13,7 @@ use Rattle.aeth_report.proofs.Places.{enumerate_from-place, flat_map-none, flat_
 use Rattle.aeth_report.proofs.Places.{place-enumerate_from, range-place}
 use Rattle.aeth_refinement.specs.Accepted.{IsAccepted}
 use Rattle.aeth_refinement.specs.Carried.{Exact, IsOnWire, flit_of}
-use Rattle.aeth_refinement.specs.Carries.{carries, flits_at, flits_on, is_there}
+use Rattle.aeth_refinement.specs.Carries.{carries, flits_at_place, flits_of_session, is_on_wire}
 use Rattle.aeth_refinement.specs.Fabric.{Fabric, flow_at}
 use Rattle.aeth_refinement.proofs.Unique.{one_flit}
 
@@ -39,7 +39,7 @@ module _ (fabric : Fabric) (l t : ℕ) where
 
   -- A flit that is there is on the wire.
   there-on : (c i : ℕ) (place : ℕ × ℕ) → c < fabric.count → slice_get (places c) i ≡ Some place
-      → is_there fabric l t c place ≡ true → IsOnWire fabric l t c i (t - i)
+      → is_on_wire fabric l t c place ≡ true → IsOnWire fabric l t c i (t - i)
   there-on c i place h at there =
       let found = enumerate_from-place 0 (fabric.passage c).wires i place at in
       let number : place.0 ≡ i = found.0 ∙ omega arith in
@@ -56,8 +56,8 @@ module _ (fabric : Fabric) (l t : ℕ) where
 
   -- Where none is, the place gives nothing.
   none-at : (c i : ℕ) (place : ℕ × ℕ) → c < fabric.count → slice_get (places c) i ≡ Some place
-      → ((u : ℕ) → IsOnWire fabric l t c i u → ⊥) → flits_at fabric l t c place ≡ []
-  none-at c i place h at never = elim (cases_Bool (is_there fabric l t c place)) [
+      → ((u : ℕ) → IsOnWire fabric l t c i u → ⊥) → flits_at_place fabric l t c place ≡ []
+  none-at c i place h at never = elim (cases_Bool (is_on_wire fabric l t c place)) [
     | inl there ↦ absurd (never (t - i) (there-on c i place h at there))
     | inr other ↦
         ap (λ (b : Bool). cond b (flit_of fabric c place.0 (t - place.0) ∷ []) []) other
@@ -65,11 +65,11 @@ module _ (fabric : Fabric) (l t : ℕ) where
 
   -- Where one is, that is what it gives.
   some-at : (c i u : ℕ) → IsOnWire fabric l t c i u
-      → flits_at fabric l t c (i, l) ≡ flit_of fabric c i u ∷ []
+      → flits_at_place fabric l t c (i, l) ≡ flit_of fabric c i u ∷ []
   some-at c i u on =
       let time = on.time in
       let back : t - i ≡ u = omega (arith, time) in
-      let there : is_there fabric l t c (i, l) ≡ true =
+      let there : is_on_wire fabric l t c (i, l) ≡ true =
       and_from (l == l && nat_le i t) (injects (flow_at fabric c) (t - i))
       (and_from (l == l) (nat_le i t) (eq-eqb l l refl) (le-leb i t (omega (arith, time))))
       (subst (λ n. IsTrue (injects (flow_at fabric c) n)) (sym back) on.injected) in
@@ -78,9 +78,9 @@ module _ (fabric : Fabric) (l t : ℕ) where
 
   -- A session that has no flit on the wire gives none.
   none-on : (c : ℕ) → c < fabric.count → ((i u : ℕ) → IsOnWire fabric l t c i u → ⊥)
-      → flits_on fabric l t c ≡ []
+      → flits_of_session fabric l t c ≡ []
   none-on c h never =
-      flat_map-none (flits_at fabric l t c) (places c) (λ i place at.
+      flat_map-none (flits_at_place fabric l t c) (places c) (λ i place at.
       none-at c i place h at (never i))
 
   -- The number at a place of all.
@@ -99,7 +99,7 @@ wires-carry fabric ok t wires exact l =
     let cases : (flit : Option Flit) → wires l ≡ flit
     → carries fabric l t ≡ option_to_list flit = elim [
       | None ↦ λ none.
-          flat_map-none (flits_on fabric l t) numbers (λ k c at.
+          flat_map-none (flits_of_session fabric l t) numbers (λ k c at.
           none-on fabric l t c (session-at fabric l t k c at).1 (λ i u on.
           let some : None ≡ Some (flit_of fabric c i u) = sym none ∙ exact.all l c i u on in
           absurd cc))
@@ -112,12 +112,12 @@ wires-carry fabric ok t wires exact l =
           let alone = λ (d j v : ℕ) (other : IsOnWire fabric l t d j v).
           one_flit fabric ok l t d j v c i u other on in
           let same : 0 + c ≡ c = omega arith in
-          flat_map-sole (flits_on fabric l t) numbers c c
+          flat_map-sole (flits_of_session fabric l t) numbers c c
           (place-range 0 fabric.count c on.known ∙ ap (λ k. Some k) same)
           (λ k d at ne.
           let is = session-at fabric l t k d at in
           none-on fabric l t d is.1 (λ j v other. ne (is.0 ∙ (alone d j v other).0)))
-          ∙ flat_map-sole (flits_at fabric l t c) (places fabric l t c) i (i, l)
+          ∙ flat_map-sole (flits_at_place fabric l t c) (places fabric l t c) i (i, l)
           (place-enumerate_from 0 (fabric.passage c).wires i i l (omega arith) on.place)
           (λ j place at ne.
           none-at fabric l t c j place on.known at (λ v other. ne (alone c j v other).1))

@@ -3,8 +3,7 @@ use Rattle.std.proofs.Common.{◌≡◌, ◌≤◌, ◌∙◌, ℕ, zero, suc, �
 use Rattle.std.proofs.Common.{false}
 use Rattle.std.proofs.Common.{cond, List, [], ◌∷◌, length, drop}
 use Rattle.std.proofs.Common.{refl}
-use Rattle.std.proofs.Common.{sym, ap, subst, arith, inl, inr}
-use Rattle.std.proofs.lemmas.Bool.{cases_lt}
+use Rattle.std.proofs.Common.{sym, ap, subst, arith}
 use Rattle.std.proofs.lemmas.Bool.{ne_eqb}
 use Rattle.std.specs.Prelude.{◌==◌}
 use Rattle.aeth_ni.specs.Limits.{max_count}
@@ -63,53 +62,3 @@ words_taken-is (suc count) queue few =
           subst (λ (q : QueueState). IsTaken (suc count) queue (words_taken count q)) (sym same) is
     ] in
     cases queue.received refl
-
--- One take more, at the end of the others.
-pub words_taken-last : (count : ℕ) (queue : QueueState)
-    → words_taken (suc count) queue ≡ word_taken (words_taken count queue)
-words_taken-last zero queue = refl
-words_taken-last (suc count) queue = words_taken-last count (word_taken queue)
-
--- Takes behind those of all words change nothing.
-words_taken-all : (count : ℕ) (queue : QueueState) → length queue.received ≤ count
-    → words_taken count queue ≡ words_taken (length queue.received) queue
-words_taken-all zero queue few =
-    let none : 0 ≡ length queue.received = omega arith in
-    ap (λ (n : ℕ). words_taken n queue) none
-words_taken-all (suc count) queue few =
-    let next = once queue in
-    let cases : (ws : List ℕ) → queue.received ≡ ws
-    → words_taken count (word_taken queue) ≡ words_taken (length queue.received) queue = elim [
-      | [] ↦ λ none.
-          let same : word_taken queue ≡ queue =
-          ap (λ (ws : List ℕ). cond (length ws == 0) queue next) none in
-          let size : length queue.received ≡ 0 = ap (λ (ws : List ℕ). length ws) none in
-          ap (λ (q : QueueState). words_taken count q) same
-          ∙ words_taken-all count queue (omega arith)
-      | first ∷ rest ↦ λ some.
-          let size : length queue.received ≡ suc (length rest) =
-          ap (λ (ws : List ℕ). length ws) some in
-          let held : (length queue.received == 0) ≡ false =
-          ne_eqb (length queue.received) 0 (λ none. absurd (omega (arith, none, size))) in
-          let same : word_taken queue ≡ next = ap (λ (b : Bool). cond b queue next) held in
-          let left : length next.received ≡ length rest =
-          ap (λ (ws : List ℕ). length (drop 1 ws)) some in
-          let all : suc (length next.received) ≡ length queue.received = omega arith in
-          ap (λ (q : QueueState). words_taken count q) same
-          ∙ words_taken-all count next (omega arith)
-          ∙ ap (λ (q : QueueState). words_taken (length next.received) q) (sym same)
-          ∙ ap (λ (n : ℕ). words_taken n queue) all
-    ] in
-    cases queue.received refl
-
--- So no more are done than there are words.
-pub words_taken-min : (count : ℕ) (queue : QueueState)
-    → words_taken count queue ≡ words_taken (min count (length queue.received)) queue
-words_taken-min count queue = elim (cases_lt count (length queue.received)) [
-  | inl less ↦
-      let same : count ≡ min count (length queue.received) = omega arith in
-      ap (λ (n : ℕ). words_taken n queue) same
-  | inr more ↦
-      let same : length queue.received ≡ min count (length queue.received) = omega arith in
-      words_taken-all count queue more ∙ ap (λ (n : ℕ). words_taken n queue) same
-]

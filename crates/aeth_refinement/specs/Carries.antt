@@ -9,19 +9,19 @@ use Rattle.aeth_refinement.specs.Carried.{flit_of}
 
 module _ (fabric : Fabric) (l t : ℕ) where
   -- Whether a flit of a session is on the wire in the cycle, at a place of its path.
-  abbrev pub is_there : ℕ → ℕ × ℕ → Bool
-  is_there c place =
+  abbrev pub is_on_wire : ℕ → ℕ × ℕ → Bool
+  is_on_wire c place =
       place.1 == l && nat_le place.0 t && injects (flow_at fabric c) (t - place.0)
 
   -- That flit, if there is one.
-  abbrev pub flits_at : ℕ → ℕ × ℕ → List Flit
-  flits_at c place =
-      if is_there c place then flit_of fabric c place.0 (t - place.0) ∷ [] else []
+  abbrev pub flits_at_place : ℕ → ℕ × ℕ → List Flit
+  flits_at_place c place =
+      if is_on_wire c place then flit_of fabric c place.0 (t - place.0) ∷ [] else []
 
   -- Those at all places of its path.
-  abbrev pub flits_on : ℕ → List Flit
-  flits_on c = flat_map (flits_at c) (enumerate_from 0 (fabric.passage c).wires)
+  abbrev pub flits_of_session : ℕ → List Flit
+  flits_of_session c = flat_map (flits_at_place c) (enumerate_from 0 (fabric.passage c).wires)
 
   -- The flits that the wire carries in the cycle, in the order of sessions.
   abbrev pub carries : List Flit
-  carries = flat_map flits_on (range_with_len 0 fabric.count)
+  carries = flat_map flits_of_session (range_with_len 0 fabric.count)
