@@ -2,7 +2,8 @@
 use Rattle.std.proofs.Common.{ℕ, zero, suc, ◌≡◌, ◌<◌, ◌≤◌, ◌+◌, refl, sym, ◌∙◌, ap, arith, subst}
 use Rattle.std.proofs.Common.{List, [], ◌∷◌, ◌++◌, length, map, fold, take, drop, get_or, set}
 use Rattle.std.specs.Option.{option_map_or}
-use Rattle.std.proofs.Common.{Option, Some, None, is_some, slice_get, inl, inr, true, false, length-set}
+use Rattle.std.proofs.Common.{Option, Some, None, is_some, slice_get, inl, inr, true, false}
+use Rattle.std.proofs.Common.{length-set}
 use Rattle.std.proofs.lemmas.Bool.{cases_Bool}
 use Rattle.std.proofs.lemmas.List.Sums.{fold_push}
 use Rattle.std.proofs.lemmas.List.{set-get_or, take_more}

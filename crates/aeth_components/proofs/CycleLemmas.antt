@@ -8,122 +8,60 @@ use Rattle.std.specs.List.{All, range_with_len}
 use Rattle.std.proofs.lemmas.List.Elements.{All-map}
 use Rattle.std.proofs.lemmas.List.{length-map}
 use Rattle.aeth_clocked.specs.declared.flit.Flit.{Flit}
+use Rattle.aeth_router.specs.Part.{absorb_of, after_of}
 use Rattle.aeth_router.specs.declared.part.Part.{Part}
 use Rattle.aeth_components.specs.declared.event.Event.{Event}
 use Rattle.aeth_components.specs.declared.lane.Lane.{Lane}
 use Rattle.aeth_components.proofs.CountingLemmas.{IsLane-counted, length-flits_counted}
 use Rattle.aeth_components.proofs.CountingLemmas.{length-notes}
-use Rattle.aeth_components.proofs.FrameLemmas.{frames-absorb, frames-after, length-wires_driven}
+use Rattle.aeth_components.proofs.FrameLemmas.{length-wires_driven}
 use Rattle.aeth_components.proofs.PartLemmas.{frames-switched}
-use Rattle.aeth_components.proofs.TurnLemmas.{All-turns, IsLane-pulled, IsLane-refilled}
-use Rattle.aeth_components.proofs.TurnLemmas.{frames-pulled, frames-refilled, frames-turns}
+use Rattle.aeth_components.proofs.SkipLemmas.{length-turns}
 use Rattle.aeth_components.specs.Changes.{switched}
 use Rattle.aeth_components.specs.Components.{ComponentsState, Cycle, IsComponents, Runs}
 use Rattle.aeth_components.specs.Components.{components_of, driven_from, frames_of, latched_from}
-use Rattle.aeth_components.specs.Components.{moment_of, ready_of, switched_from}
+use Rattle.aeth_components.specs.Components.{wires_driven}
+use Rattle.aeth_components.specs.Components.{moment_of, ready_of}
 use Rattle.aeth_components.specs.Counting.{counted, flits_counted, noted}
 use Rattle.aeth_components.specs.Frames.{Frame, IsWired, frame_of}
 use Rattle.aeth_components.specs.Lanes.{IsLane}
 use Rattle.aeth_components.specs.Phases.{Moment, in_turn, pulled, refilled}
 
--- The components have these frames, and the channels are sound among so many words.
-pub record Sound (fixed : List Frame) (words : ℕ) (moment : Moment) : Type 0 where
-  pub frames : map frame_of moment.parts ≡ fixed
-  pub lanes : All (IsLane words (length fixed)) moment.lanes
-
--- There are as many components as frames.
-length-Sound : (frames : List Frame) (words : ℕ) (moment : Moment) → Sound frames words moment
-    → length frames ≡ length moment.parts
-length-Sound frames words moment sound =
-    sym (ap length sound.frames) ∙ length-map moment.parts frame_of
-
--- At first it holds of what a network keeps.
-pub Sound-first : (parts : List Part) (lanes : List Lane) (words : ℕ)
-    → All (IsLane words (length parts)) lanes
-    → Sound (map frame_of parts) words (record { parts = parts; lanes = lanes })
-Sound-first parts lanes words all = record {
-  frames = refl;
-  lanes = subst (λ n. All (IsLane words n) lanes) (sym (length-map parts frame_of)) all;
-}
-
--- At last a network keeps it.
-pub IsLane-Sound : (frames : List Frame) (words : ℕ) (moment : Moment)
-    → Sound frames words moment → All (IsLane words (length moment.parts)) moment.lanes
-IsLane-Sound frames words moment sound =
-    subst (λ n. All (IsLane words n) moment.lanes) (length-Sound frames words moment sound)
-    sound.lanes
-
--- What the frames keep of the wires.
-pub IsWired-Sound : (frames : List Frame) (words wires : ℕ) (moment : Moment)
-    → Sound frames words moment → IsWired frames wires → IsWired (map frame_of moment.parts) wires
-IsWired-Sound frames words wires moment sound wired =
-    subst (λ (list : List Frame). IsWired list wires) (sym sound.frames) wired
-
--- Each phase keeps it.
-pub Sound-switched : (frames : List Frame) (words : ℕ) (events : List Event) (moment : Moment)
-    → Sound frames words moment → Sound frames words (switched_from events moment)
-Sound-switched frames words events moment sound =
-    record { frames = frames-switched events moment.parts ∙ sound.frames; lanes = sound.lanes }
-
-pub Sound-refilled : (frames : List Frame) (words : List ℕ) (cycle : ℕ) (moment : Moment)
-    → Sound frames (length words) moment
-    → Sound frames (length words) (in_turn (refilled words cycle) moment)
-Sound-refilled frames words cycle moment sound =
-    let numbers = range_with_len 0 (length moment.lanes) in
+-- The phases of a cycle, one after the other, are a run.
+pub Runs-from : (words : List ℕ) (events : List Event) (cycle : ℕ) (wires : List (Option Flit))
+    (old ready drained : Moment) (switched_parts driven latched : List Part)
+    (new_wires : List (Option Flit))
+    → switched_parts ≡ switched events old.parts
+    → ready ≡ in_turn (refilled words cycle) (record { parts = switched_parts; lanes = old.lanes })
+    → new_wires ≡ wires_driven ready.parts (length wires) cycle
+    → driven ≡ map (λ part. after_of part cycle) ready.parts
+    → drained ≡ in_turn (pulled cycle) (record { parts = driven; lanes = ready.lanes })
+    → latched ≡ map (λ part. absorb_of part new_wires) drained.parts
+    → map frame_of latched ≡ map frame_of old.parts
+    → Runs words events cycle wires new_wires old (record { parts = latched; lanes = drained.lanes })
+Runs-from words events cycle wires old ready drained switched_parts driven latched new_wires
+    switches refills drives drove takes latches frames =
+    let is_ready : ready ≡ ready_of words events cycle old =
+    refills ∙ ap (λ (parts : List Part).
+    in_turn (refilled words cycle) (record { parts = parts; lanes = old.lanes })) switches in
+    let is_driven : record { parts = driven; lanes = ready.lanes } ≡ driven_from cycle ready =
+    ap (λ (parts : List Part). record { parts = parts; lanes = ready.lanes }) drove in
+    let is_latched : record { parts = latched; lanes = drained.lanes }
+    ≡ latched_from new_wires drained =
+    ap (λ (parts : List Part). record { parts = parts; lanes = drained.lanes }) latches in
     record {
-      frames = frames-turns (refilled words cycle) (frames-refilled words cycle) numbers moment
-          ∙ sound.frames;
-      lanes = All-turns (refilled words cycle) (IsLane (length words) (length frames))
-          (IsLane-refilled words cycle (length frames)) numbers moment sound.lanes;
+      wires = drives ∙ ap (λ (moment : Moment). wires_driven moment.parts (length wires) cycle)
+          is_ready;
+      moment = is_latched ∙ ap (latched_from new_wires) (takes ∙ ap (in_turn (pulled cycle))
+          (is_driven ∙ ap (driven_from cycle) is_ready));
+      frames = frames;
+      count = ap (λ (moment : Moment). length moment.lanes) takes
+          ∙ length-turns (pulled cycle) (range_with_len 0 (length ready.lanes))
+          (record { parts = driven; lanes = ready.lanes })
+          ∙ ap (λ (moment : Moment). length moment.lanes) refills
+          ∙ length-turns (refilled words cycle) (range_with_len 0 (length old.lanes))
+          (record { parts = switched_parts; lanes = old.lanes });
     }
-
-pub Sound-driven : (frames : List Frame) (words cycle : ℕ) (moment : Moment)
-    → Sound frames words moment → Sound frames words (driven_from cycle moment)
-Sound-driven frames words cycle moment sound =
-    record { frames = frames-after moment.parts cycle ∙ sound.frames; lanes = sound.lanes }
-
-pub Sound-pulled : (frames : List Frame) (words cycle : ℕ) (moment : Moment)
-    → Sound frames words moment → Sound frames words (in_turn (pulled cycle) moment)
-Sound-pulled frames words cycle moment sound =
-    let numbers = range_with_len 0 (length moment.lanes) in
-    record {
-      frames = frames-turns (pulled cycle) (frames-pulled cycle) numbers moment ∙ sound.frames;
-      lanes = All-turns (pulled cycle) (IsLane words (length frames))
-          (IsLane-pulled words cycle (length frames)) numbers moment sound.lanes;
-    }
-
-pub Sound-latched : (frames : List Frame) (words : ℕ) (wires : List (Option Flit))
-    (moment : Moment) → Sound frames words moment → Sound frames words (latched_from wires moment)
-Sound-latched frames words wires moment sound =
-    record { frames = frames-absorb moment.parts wires ∙ sound.frames; lanes = sound.lanes }
-
--- What holds once the queues are refilled.
-pub Sound-ready : (frames : List Frame) (words : List ℕ) (events : List Event) (cycle : ℕ)
-    (first ready : Moment) → Sound frames (length words) first
-    → ready ≡ ready_of words events cycle first → Sound frames (length words) ready
-Sound-ready frames words events cycle first ready sound is =
-    subst (Sound frames (length words)) (sym is)
-    (Sound-refilled frames words cycle (switched_from events first)
-    (Sound-switched frames (length words) events first sound))
-
--- What holds once all have driven.
-pub Sound-away : (frames : List Frame) (words cycle : ℕ) (ready away : Moment)
-    → Sound frames words ready → away ≡ driven_from cycle ready → Sound frames words away
-Sound-away frames words cycle ready away sound is =
-    subst (Sound frames words) (sym is) (Sound-driven frames words cycle ready sound)
-
--- What holds once all receivers have taken.
-pub Sound-drained : (frames : List Frame) (words cycle : ℕ) (away drained : Moment)
-    → Sound frames words away → drained ≡ in_turn (pulled cycle) away → Sound frames words drained
-Sound-drained frames words cycle away drained sound is =
-    subst (Sound frames words) (sym is) (Sound-pulled frames words cycle away sound)
-
--- What holds once all have latched.
-pub Sound-last : (frames : List Frame) (words : ℕ) (wires : List (Option Flit))
-    (drained last : Moment) → Sound frames words drained → last ≡ latched_from wires drained
-    → Sound frames words last
-Sound-last frames words wires drained last sound is =
-    subst (Sound frames words) (sym is) (Sound-latched frames words wires drained sound)
 
 -- A run and what is counted behind it are a cycle.
 module _ (events : List Event) (cycle : ℕ) (old : ComponentsState) (wires : List (Option Flit))
@@ -220,11 +158,11 @@ IsComponents-replaced number part all at before = record {
 }
 
 -- Components whose lists are the same.
-pub components-same : (wires : List (Option Flit)) (words : List ℕ) (parts parts_too : List Part)
-    (lanes lanes_too : List Lane) (landings landings_too flits flits_too : List ℕ)
-    → parts ≡ parts_too → lanes ≡ lanes_too → landings ≡ landings_too → flits ≡ flits_too
+pub components-same : (wires : List (Option Flit)) (lanes : List Lane) (parts parts_too : List Part)
+    (words words_too landings landings_too flits flits_too : List ℕ)
+    → parts ≡ parts_too → words ≡ words_too → landings ≡ landings_too → flits ≡ flits_too
     → components_of parts wires lanes words landings flits
-    ≡ components_of parts_too wires lanes_too words landings_too flits_too
-components-same wires words parts parts_too lanes lanes_too landings landings_too flits flits_too
-    same_parts same_lanes same_landings same_flits =
-    rw (same_parts, same_lanes, same_landings, same_flits) refl
+    ≡ components_of parts_too wires lanes words_too landings_too flits_too
+components-same wires lanes parts parts_too words words_too landings landings_too flits flits_too
+    same_parts same_words same_landings same_flits =
+    rw (same_parts, same_words, same_landings, same_flits) refl

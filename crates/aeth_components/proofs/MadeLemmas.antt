@@ -23,8 +23,10 @@ use Rattle.aeth_router.specs.Router.{is_among, last_wire}
 use Rattle.aeth_router.specs.declared.part.Part.{Part}
 use Rattle.aeth_components.proofs.FrameLemmas.{from-map}
 use Rattle.aeth_components.proofs.MadeParts.{StageAt, among-first, among-only, at-append, at-range}
-use Rattle.aeth_components.proofs.MadeParts.{item-at, length-made_stages, place_of, place_of-below}
-use Rattle.aeth_components.proofs.MadeParts.{same_node-place, same_node-refl, stage-at}
+use Rattle.aeth_components.proofs.MadeParts.{item-at, length-made_stages, part_number}
+use Rattle.aeth_components.proofs.MadeParts.{part_number-below}
+use Rattle.aeth_chip.proofs.NodeLemmas.{same_node-refl}
+use Rattle.aeth_components.proofs.MadeParts.{same_node-place, stage-at}
 use Rattle.aeth_components.specs.Components.{part_count}
 use Rattle.aeth_components.specs.Frames.{Frame, IsWired, frame_of, receives_by, sends_by}
 use Rattle.aeth_components.specs.Making.{made_interface, made_router, made_stage}
@@ -130,7 +132,7 @@ module _ (links : List Link) (number : ℕ) (part : Part) (stage : StageAt links
 -- On a wire sends the component at the place of its link's node, or the stage of its number.
 abbrev SendsAt : ChipData → ℕ → ℕ → Type 0
 SendsAt chip i wire =
-    ((l : Link) × (slice_get chip.links wire ≡ Some l) × (place_of (length chip.nis) l.from ≡ i))
+    ((l : Link) × (slice_get chip.links wire ≡ Some l) × (part_number (length chip.nis) l.from ≡ i))
     ⊎ ((k : ℕ) × (k < further_wires chip.links) × (wire ≡ length chip.links + k)
     × (i ≡ length chip.nis + length chip.routers + k))
 
@@ -209,7 +211,7 @@ module _ (chip : ChipData) (is_chip : IsChip chip) (rooms : List ℕ) where
   sends-once : (i j wire : ℕ) → SendsAt chip i wire → SendsAt chip j wire → i ≡ j
   sends-once i j wire (inl link) (inl other) =
       let same : link.0 ≡ other.0 = same_Some link.0 other.0 (sym link.1 ∙ other.1) in
-      sym link.2 ∙ ap (λ (l : Link). place_of (length chip.nis) l.from) same ∙ other.2
+      sym link.2 ∙ ap (λ (l : Link). part_number (length chip.nis) l.from) same ∙ other.2
   sends-once i j wire (inl link) (inr further) =
       let within = slice_get_within chip.links wire link.0 link.1 in
       let is = further.2 in
@@ -228,7 +230,7 @@ module _ (chip : ChipData) (is_chip : IsChip chip) (rooms : List ℕ) where
   -- The component at the place of a link's node sends on the link.
   node-sends : (wire : ℕ) (link : Link) → slice_get chip.links wire ≡ Some link
       → (node : Node) → IsNode chip.routers chip.nis node → same_node link.from node ≡ true
-      → (part : Part) → Made chip rooms (place_of (length chip.nis) node) part
+      → (part : Part) → Made chip rooms (part_number (length chip.nis) node) part
       → sends_by (frame_of part) wire ≡ true
   node-sends wire link at (Ni n) known same part (IsInterface within is) =
       let node : Node = Ni n in
@@ -272,8 +274,8 @@ module _ (chip : ChipData) (is_chip : IsChip chip) (rooms : List ℕ) where
         | inl first ↦
             let link = item-at chip.links wire first in
             let known = (is_chip.links wire link.0 link.1).from in
-            let i = place_of (length chip.nis) link.0.from in
-            let below = place_of-below chip.routers chip.nis link.0.from known in
+            let i = part_number (length chip.nis) link.0.from in
+            let below = part_number-below chip.routers chip.nis link.0.from known in
             let part = item-at (new_parts chip rooms) i (omega arith) in (
               i,
               part.0,

@@ -2,7 +2,7 @@
 use Rattle.std.proofs.Common.{ℕ, zero, suc, ◌≡◌, ◌<◌, ◌≤◌, ◌+◌, ◌-◌, refl, sym, ◌∙◌, ap, arith}
 use Rattle.std.proofs.Common.{List, [], ◌∷◌, ◌++◌, length, map, take, Some}
 use Rattle.std.proofs.Common.{slice_get, true, false, inl, inr, eqb-true}
-use Rattle.std.proofs.lemmas.Bool.{cases_Bool, eq-eqb}
+use Rattle.std.proofs.lemmas.Bool.{cases_Bool}
 use Rattle.std.specs.Prelude.{◌==◌, slice_index, ◌⊎◌}
 use Rattle.std.specs.List.{range_with_len}
 use Rattle.std.proofs.lemmas.List.{length-append}
@@ -53,28 +53,23 @@ at-range f start (suc size) (suc i) x at =
     )
 
 -- The number of the component at a node, behind so many interfaces.
-abbrev pub place_of : ℕ → Node → ℕ
-place_of count (Ni n) = n.0
-place_of count (Router r) = count + r.0
+abbrev pub part_number : ℕ → Node → ℕ
+part_number count (Ni n) = n.0
+part_number count (Router r) = count + r.0
 
 -- One node is at one place.
 pub same_node-place : (count : ℕ) (some other : Node) → same_node some other ≡ true
-    → place_of count some ≡ place_of count other
+    → part_number count some ≡ part_number count other
 same_node-place count (Router r) (Router q) same = ap (λ n. count + n) (eqb-true r.0 q.0 same)
 same_node-place count (Router r) (Ni m) same = absurd (cc same)
 same_node-place count (Ni n) (Router q) same = absurd (cc same)
 same_node-place count (Ni n) (Ni m) same = eqb-true n.0 m.0 same
 
--- A node is itself.
-pub same_node-refl : (node : Node) → same_node node node ≡ true
-same_node-refl (Router r) = eq-eqb r.0 r.0 refl
-same_node-refl (Ni n) = eq-eqb n.0 n.0 refl
-
 -- The place of a node of a chip.
-pub place_of-below : (routers nis : List (List ℕ)) (node : Node) → IsNode routers nis node
-    → place_of (length nis) node < length nis + length routers
-place_of-below routers nis (Router r) known = omega arith
-place_of-below routers nis (Ni n) known = omega arith
+pub part_number-below : (routers nis : List (List ℕ)) (node : Node) → IsNode routers nis node
+    → part_number (length nis) node < length nis + length routers
+part_number-below routers nis (Router r) known = omega arith
+part_number-below routers nis (Ni n) known = omega arith
 
 -- A member of a list with one is that one.
 pub among-first : (only wire : ℕ) → is_among (only ∷ []) wire ≡ true → (only == wire) ≡ true

@@ -1,6 +1,7 @@
 -- Laws of a change of one component.
 use Rattle.std.proofs.Common.{ℕ, zero, suc, ◌≡◌, ◌<◌, ◌+◌, take, refl, sym, ◌∙◌, ap, arith}
-use Rattle.std.proofs.Common.{List, [], ◌∷◌, length, map, fold, get_or, set, Option, Some, slice_get, subst}
+use Rattle.std.proofs.Common.{List, [], ◌∷◌, length, map, fold, get_or, set, Option, Some}
+use Rattle.std.proofs.Common.{slice_get, subst}
 use Rattle.std.specs.Prelude.{IfSome}
 use Rattle.std.specs.Option.{option_map, option_map_or}
 use Rattle.std.proofs.lemmas.List.{length-map, length-set, take_more}

@@ -1,6 +1,8 @@
 -- Laws of what is done at one queue.
-use Rattle.std.proofs.Common.{ℕ, zero, suc, ◌≡◌, ◌<◌, ◌≤◌, ◌+◌, ◌-◌, min, refl, sym, ◌∙◌, ap, ap₂, arith}
-use Rattle.std.proofs.Common.{List, [], ◌∷◌, length, drop, set, inl, inr, length-drop, Option, is_some, slice_get, true, false}
+use Rattle.std.proofs.Common.{ℕ, zero, suc, ◌≡◌, ◌<◌, ◌≤◌, ◌+◌, ◌-◌, min, refl, sym, ◌∙◌, ap, ap₂}
+use Rattle.std.proofs.Common.{arith}
+use Rattle.std.proofs.Common.{List, [], ◌∷◌, length, drop, set, inl, inr, length-drop, Option}
+use Rattle.std.proofs.Common.{is_some, slice_get, true, false}
 use Rattle.std.proofs.lemmas.Bool.{cases_eq, eq-eqb, ne_eqb}
 use Rattle.std.proofs.lemmas.List.{set-get_or, set-set, get_or-set_same, drop_all, drop-drop}
 use Rattle.aeth_components.specs.Queues.{drawn}

@@ -1,5 +1,5 @@
 -- Laws of the turns of lanes.
-use Rattle.std.proofs.Common.{ℕ, zero, suc, ◌≡◌, ◌≤◌, ◌+◌, ◌-◌, refl, sym, ◌∙◌, ap, subst}
+use Rattle.std.proofs.Common.{ℕ, zero, suc, ◌≡◌, ◌≤◌, ◌+◌, ◌-◌, refl, ◌∙◌, ap, subst}
 use Rattle.std.proofs.Common.{arith, inl, inr, true, false, map, drop}
 use Rattle.std.specs.Option.{option_map_or}
 use Rattle.std.proofs.lemmas.Bool.{cases_Bool}
@@ -7,12 +7,10 @@ use Rattle.aeth_components.specs.declared.lane.ChannelEnd.{ChannelEnd}
 use Rattle.aeth_router.specs.declared.part.Part.TheVariants.{Interface, Router, Stage}
 use Rattle.std.proofs.Common.{List, [], ◌∷◌, ◌++◌, length, fold, Option, Some, None}
 use Rattle.std.proofs.Common.{slice_get}
-use Rattle.std.specs.List.{All, range_with_len}
+use Rattle.std.specs.List.{All}
 use Rattle.std.proofs.lemmas.List.{length-take}
 use Rattle.std.proofs.lemmas.List.Elements.{All-set}
-use Rattle.std.proofs.lemmas.List.Sums.{fold_push}
 use Rattle.std.proofs.lemmas.Option.{get_or_from_slice_get, slice_get_within}
-use Rattle.aeth_base.proofs.Ranges.{range_with_len-more}
 use Rattle.aeth_router.specs.declared.part.Part.{Part}
 use Rattle.aeth_components.specs.declared.lane.Lane.{Lane}
 use Rattle.std.proofs.lemmas.List.{append-nil, take_all}
@@ -24,29 +22,13 @@ use Rattle.aeth_components.specs.Changes.{at_end, on_interface, told_at, told_by
 use Rattle.aeth_components.specs.Frames.{frame_of}
 use Rattle.aeth_components.specs.Lanes.{IsLane, is_open}
 use Rattle.aeth_components.specs.Phases.{Moment, asked_of, drawn_out, handed_on, left_of, pulled}
-use Rattle.aeth_components.specs.Phases.{refilled, turned, turned_at, turned_by}
+use Rattle.aeth_components.specs.Phases.{refilled, turned, turned_at}
 use Rattle.aeth_components.specs.Queues.{drawn, draws, filled, fits}
 use Rattle.aeth_ni.specs.Interface.{InterfaceState, changed, queue_at}
 use Rattle.aeth_ni.specs.Limits.{waiting_words}
 use Rattle.aeth_ni.specs.Queue.{QueueState}
 
 module _ (turn : List Part → Lane → List Part × Lane) where
-  -- One more lane has had its turn.
-  pub turns-more : (before now : Moment) (number : ℕ) (lane : Lane)
-      (done : List Part × Lane)
-      → now ≡ fold (turned turn) before (range_with_len 0 number)
-      → slice_get now.lanes number ≡ Some lane → done ≡ turn now.parts lane
-      → turned_by now number done ≡ fold (turned turn) before (range_with_len 0 (number + 1))
-  turns-more before now number lane done so_far at did =
-      let next : suc number ≡ number + 1 = omega arith in
-      let here : turned turn now number ≡ turned_by now number (turn now.parts lane) =
-      ap (turned_at turn now number) at in
-      ap (turned_by now number) did ∙ sym here
-      ∙ ap (λ (moment : Moment). turned turn moment number) so_far
-      ∙ sym (fold_push (turned turn) before (range_with_len 0 number) number)
-      ∙ ap (fold (turned turn) before) (sym (range_with_len-more 0 number number (omega arith)))
-      ∙ ap (λ n. fold (turned turn) before (range_with_len 0 n)) next
-
   -- What each turn keeps of its lane, all turns keep of all lanes.
   module _ (P : Lane → Type 0)
       (kept : (parts : List Part) (lane : Lane) → P lane

@@ -3,14 +3,13 @@
 --   bit_of                     the bit of a channel
 --   IsIdle, IsQuiet            a channel with nothing to do, and one with nothing to hand on or take
 --   AreMarked                  masks that mark all others
---   IsKept                     what holds of components and their masks
+--   AreNoted                   what the masks of a network mark
 --
 -- This project's own.
 use Rattle.std.specs.Prelude.{◌≡◌, ◌≤◌, ◌<◌, ◌*◌, ◌/◌, ◌%◌, ℕ, List, Some, length, slice_get}
 use Rattle.std.specs.Prelude.{slice_index}
 use Rattle.std.specs.Int.{bit_at}
 use Rattle.aeth_components.specs.declared.lane.Lane.{Lane}
-use Rattle.aeth_components.specs.Components.{ComponentsState, IsComponents}
 
 -- The bit of a channel.
 abbrev pub bit_of : List ℕ → ℕ → ℕ
@@ -33,8 +32,7 @@ pub record AreMarked (IsStill : Lane → Type 0) (masks : List ℕ) (lanes : Lis
   pub idle : (number : ℕ) (lane : Lane) → slice_get lanes number ≡ Some lane
       → bit_of masks number ≡ 0 → IsStill lane
 
--- What holds of all components and their masks.
-pub record IsKept (all : ComponentsState) (busy_masks active_masks : List ℕ) : Type 0 where
-  pub state : IsComponents all
-  pub marked : AreMarked IsIdle busy_masks all.lanes
-  pub active : AreMarked IsQuiet active_masks all.lanes
+-- What two masks mark: the channels that may not be idle, and those that may not be quiet.
+pub record AreNoted (busy active : List ℕ) (lanes : List Lane) : Type 0 where
+  pub idle : AreMarked IsIdle busy lanes
+  pub quiet : AreMarked IsQuiet active lanes

@@ -3,7 +3,8 @@
 --   ComponentsState, IsComponents, first_components     the state, and what holds of every one
 --   switched_from, ready_of                             before the drive
 --   driven_from, latched_from                           behind it
---   latched_of, wires_driven, Runs, Cycle                 one cycle
+--   latched_of, wires_driven, Runs, Cycle               one cycle
+--   taken_from, IsStepped                               the cycle of simultaneous components
 --
 -- This project's own.
 use Rattle.std.specs.Prelude.{◌≡◌, ◌≤◌, ◌<◌, ◌+◌, ◌^◌, ℕ, List, length, map, fold, replicate, All}
@@ -11,8 +12,9 @@ use Rattle.std.specs.Prelude.{Option, None}
 use Rattle.aeth_chip.specs.Chip.{ChipData}
 use Rattle.aeth_chip.specs.Wires.{further_wires, wires_of}
 use Rattle.aeth_clocked.specs.Driven.{driven_wires}
+use Rattle.aeth_clocked.specs.Stepped.{stepped}
 use Rattle.aeth_clocked.specs.declared.flit.Flit.{Flit}
-use Rattle.aeth_router.specs.Part.{absorb_of, after_of, emit_of, outputs_of}
+use Rattle.aeth_router.specs.Part.{absorb_of, after_of, emit_of, outputs_of, part_meaning}
 use Rattle.aeth_router.specs.declared.part.Part.{Part}
 use Rattle.aeth_components.specs.declared.event.Event.{Event}
 use Rattle.aeth_components.specs.declared.lane.Lane.{Lane}
@@ -121,3 +123,16 @@ pub record Cycle (events : List Event) (cycle : ℕ) (old new : ComponentsState)
   pub frames : frames_of new ≡ frames_of old
   pub size : length new.parts ≡ length old.parts
   pub count : length new.lanes ≡ length old.lanes
+
+-- What the receivers of these channels leave of components in a cycle.
+abbrev pub taken_from : ℕ → List Lane → List Part → List Part
+taken_from cycle lanes parts =
+    (in_turn (pulled cycle) (record { parts = parts; lanes = lanes })).parts
+
+-- From where the source queues are refilled, a cycle does to the components what simultaneous ones
+-- do: all drive, the receivers take, and each latches what all drove.
+abbrev pub IsStepped : List Event → ℕ → ComponentsState → ComponentsState → Type 0
+IsStepped events cycle old new =
+    let ready = ready_of old.words events cycle (moment_of old) in
+    new.parts
+    ≡ stepped part_meaning (taken_from cycle ready.lanes) ready.parts (length old.wires) cycle

@@ -1,6 +1,7 @@
 pub mod Alone
 pub mod Busy
 pub mod Changes
+pub mod Channels
 pub mod Components
 pub mod Counting
 pub mod Events

@@ -4,7 +4,6 @@ ghost use Rattle.std.specs.Prelude.{◌≡◌, ◌≤◌, ◌<◌, ◌*◌, ◌+
 ghost use Rattle.std.specs.Prelude.{replicate, slice_get, slice_set};
 ghost use Rattle.aeth_base.specs.Limits.{max_cycles};
 ghost use Rattle.aeth_ni.specs.Limits.{queues_of_interface};
-ghost use Rattle.aeth_components.specs.Busy.{AreMarked, IsIdle, IsQuiet};
 ghost use Rattle.aeth_components.specs.Changes.{switched};
 ghost use Rattle.aeth_components.specs.Components.{Cycle, first_components};
 ghost use Rattle.aeth_components.specs.Components.{Runs, frames_of, part_count};
@@ -12,13 +11,13 @@ ghost use Rattle.aeth_components.specs.Events.{IsDoable};
 ghost use Rattle.aeth_components.specs.Frames.{IsWired, frame_of};
 ghost use Rattle.aeth_components.specs.Lanes.{IsLane, with_lane};
 
-use crate::busy::{all_marked, mark};
-use crate::counting::{count, tally};
+use crate::channels::Channels;
+use crate::counting::tally;
 use crate::cycle::{drive, latch};
 use crate::event::Event;
 use crate::lane::Lane;
 use crate::making::parts_of;
-use crate::phases::{refill, switch, take};
+use crate::phases::switch;
 use aeth_base::NoMemory;
 use aeth_chip::Chip;
 use aeth_clocked::{Order, Wires};
@@ -32,31 +31,26 @@ mod tests;
 /// The components of a network, its wires, the session of each channel, and what a log is made of:
 /// the cycle in which each word landed, and the flits on each link. It knows nothing of what should
 /// come out.
-#[derive(Debug, Drop)]
+#[derive(Drop)]
 pub struct Components {
     parts: Vec<Part>,
     wires: Wires,
-    lanes: Vec<Lane>,
-    // Masks of the channels that may not be idle, and of those that may not be quiet.
-    busy: Vec<u64>,
-    active: Vec<u64>,
-    words: Vec<u32>,
+    channels: Channels,
     landings: Vec<u32>,
     flits: Vec<u32>,
 }
 
 impl Model for Components {
-    ghost use Rattle.aeth_components.specs.Busy.{IsKept};
-    ghost use Rattle.aeth_components.specs.Components.{ComponentsState, components_of};
+    ghost use Rattle.aeth_components.specs.Components.{ComponentsState, IsComponents};
+    ghost use Rattle.aeth_components.specs.Components.{components_of};
 
     ghost Value = { ComponentsState };
 
-    ghost view = { λ all. components_of all.parts.items all.wires all.lanes.items all.words.items
-        all.landings.items all.flits.items };
+    ghost view = { λ all. components_of all.parts.items all.wires all.channels.lanes
+        all.channels.words all.landings.items all.flits.items };
 
-    ghost invariant = { λ all. IsKept (components_of all.parts.items all.wires
-        all.lanes.items all.words.items all.landings.items all.flits.items) all.busy.items
-        all.active.items };
+    ghost invariant = { λ all. IsComponents (components_of all.parts.items all.wires
+        all.channels.lanes all.channels.words all.landings.items all.flits.items) };
 }
 
 impl Components {
@@ -81,17 +75,13 @@ impl Components {
         let _ = chip.slots();
         let parts = parts_of(alloc, chip, rooms)?;
         let wires = Wires::new(alloc, chip.wires())?;
-        let busy = all_marked(alloc, lanes.len())?;
-        let active = all_marked(alloc, lanes.len())?;
         let landings = vec![in alloc; 0; words.len()]?;
+        let channels = Channels::new(alloc, lanes, words)?;
         let flits = vec![in alloc; 0; chip.links() as usize]?;
         Ok(Components {
             parts,
             wires,
-            lanes,
-            busy,
-            active,
-            words,
+            channels,
             landings,
             flits,
         })
@@ -115,7 +105,7 @@ impl Components {
     pub fn lanes(&self) -> &[Lane]
         ensures { result.now ≡ self.now.lanes }
     {
-        &self.lanes
+        self.channels.lanes()
     }
 
     /// For each word that has landed the cycle in which it did, and 0 for each other.
@@ -138,9 +128,7 @@ impl Components {
         requires lane { IsLane (length self.old.words) (length self.old.parts) lane }
         ensures { self.new ≡ record self.old { lanes = slice_set self.old.lanes channel lane } }
     {
-        self.lanes[channel] = lane;
-        mark(&mut self.busy, channel);
-        mark(&mut self.active, channel);
+        self.channels.load(channel, lane);
     }
 
     /// So many words of a channel's session are accepted.
@@ -152,7 +140,7 @@ impl Components {
           lanes = with_lane channel (λ now. record now { accepted = accepted }) self.old.lanes;
         } }
     {
-        let mut lane = self.lanes[channel];
+        let mut lane = self.channels.lanes()[channel];
         lane.accepted = accepted;
         self.load(channel, lane);
     }
@@ -164,7 +152,7 @@ impl Components {
           lanes = with_lane channel (λ now. record now { pull = pull }) self.old.lanes;
         } }
     {
-        let mut lane = self.lanes[channel];
+        let mut lane = self.channels.lanes()[channel];
         lane.pull = pull;
         self.load(channel, lane);
     }
@@ -187,22 +175,12 @@ impl Components {
         run(
             &mut self.parts,
             &mut self.wires,
-            &mut self.lanes,
-            &mut self.busy,
-            &mut self.active,
-            &self.words,
+            &mut self.channels,
             order,
             cycle,
             events,
         );
-        count(
-            &self.parts,
-            &mut self.lanes,
-            &self.busy,
-            &mut self.active,
-            &mut self.landings,
-            cycle,
-        );
+        self.channels.count(&self.parts, &mut self.landings, cycle);
         tally(&mut self.flits, &self.wires);
     }
 }
@@ -211,30 +189,24 @@ impl Components {
 fn run(
     parts: &mut [Part],
     wires: &mut Wires,
-    lanes: &mut [Lane],
-    busy: &mut [u64],
-    active: &mut [u64],
-    words: &[u32],
+    channels: &mut Channels,
     order: &Order,
     cycle: u32,
     events: &[Event],
 )
     requires wired { IsWired (map frame_of parts.old) (length wires.old) }
-    requires lanes { All (IsLane (length words.now) (length parts.old)) lanes.old }
-    requires marked { AreMarked IsIdle busy.old lanes.old }
-    requires active { AreMarked IsQuiet active.old lanes.old }
+    requires lanes { All (IsLane (length channels.old.words) (length parts.old)) channels.old.lanes }
     requires order { length order.now ≡ length parts.old }
     requires events { All (IsDoable (map frame_of parts.old)) events.now }
-    ensures runs { Runs words.now events.now cycle wires.old wires.new
-        (record { parts = parts.old; lanes = lanes.old })
-        (record { parts = parts.new; lanes = lanes.new }) }
-    ensures lanes { All (IsLane (length words.now) (length parts.new)) lanes.new }
-    ensures marked { AreMarked IsIdle busy.new lanes.new }
-    ensures active { AreMarked IsQuiet active.new lanes.new }
+    ensures runs { Runs channels.old.words events.now cycle wires.old wires.new
+        (record { parts = parts.old; lanes = channels.old.lanes })
+        (record { parts = parts.new; lanes = channels.new.lanes }) }
+    ensures words { channels.new.words ≡ channels.old.words }
+    ensures lanes { All (IsLane (length channels.new.words) (length parts.new)) channels.new.lanes }
 {
     switch(parts, events);
-    refill(parts, lanes, active, words, cycle);
+    channels.refill(parts, cycle);
     drive(parts, order, cycle, wires);
-    take(parts, lanes, busy, active, words, cycle);
+    channels.take(parts, cycle);
     latch(parts, order, wires);
 }

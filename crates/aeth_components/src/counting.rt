@@ -6,42 +6,14 @@ ghost use Rattle.aeth_components.specs.Busy.{AreMarked, IsIdle, IsQuiet};
 ghost use Rattle.aeth_components.specs.Counting.{counted, flits_counted, noted, written_over};
 ghost use Rattle.aeth_components.specs.Lanes.{IsLane};
 
-use crate::busy::{mark, next};
 use crate::lane::Lane;
 use crate::parts::{brought, is_silent};
 use aeth_base::LinkId;
 use aeth_clocked::Wires;
 use aeth_router::Part;
 
-// Counts what has landed, and notes the cycle. A channel of which words have landed is no longer
-// quiet.
-pub(crate) fn count(
-    parts: &[Part],
-    lanes: &mut [Lane],
-    busy: &[u64],
-    active: &mut [u64],
-    landings: &mut [u32],
-    cycle: u32,
-)
-    requires cycle { cycle + 1 < 2 ^ 32 }
-    requires lanes { All (IsLane (length landings.old) (length parts.now)) lanes.old }
-    requires marked { AreMarked IsIdle busy.now lanes.old }
-    requires active { AreMarked IsQuiet active.old lanes.old }
-    ensures lanes { lanes.new ≡ map (counted cycle parts.now) lanes.old }
-    ensures landings { landings.new ≡ fold (noted cycle parts.now) landings.old lanes.old }
-    ensures active { AreMarked IsQuiet active.new lanes.new }
-{
-    let mut number = next(busy, 0, lanes.len());
-    'turns: while number < lanes.len() {
-        if count_one(parts, &mut lanes[number], landings, cycle) {
-            mark(active, number);
-        }
-        number = next(busy, number + 1, lanes.len());
-    }
-}
-
 // Counts what has landed of one channel, and tells whether any has.
-fn count_one(parts: &[Part], lane: &mut Lane, landings: &mut [u32], cycle: u32) -> bool
+pub(crate) fn count_one(parts: &[Part], lane: &mut Lane, landings: &mut [u32], cycle: u32) -> bool
     requires cycle { cycle + 1 < 2 ^ 32 }
     requires lane { IsLane (length landings.old) (length parts.now) lane.old }
     ensures lane { lane.new ≡ counted cycle parts.now lane.old }

@@ -13,7 +13,9 @@ pub(crate) fn drive(parts: &mut [Part], order: &Order, cycle: u32, wires: &mut W
     requires order { length order.now ≡ length parts.old }
     requires wired { IsWired (map frame_of parts.old) (length wires.old) }
     ensures wires { wires.new ≡ wires_driven parts.old (length wires.old) cycle }
+    ensures count { length wires.new ≡ length wires.old }
     ensures parts { parts.new ≡ map (λ part. after_of part cycle) parts.old }
+    ensures frames { map frame_of parts.new ≡ map frame_of parts.old }
 {
     drive_all(parts, order, u64::from(cycle), wires);
 }
@@ -22,7 +24,8 @@ pub(crate) fn drive(parts: &mut [Part], order: &Order, cycle: u32, wires: &mut W
 pub(crate) fn latch(parts: &mut [Part], order: &Order, wires: &Wires)
     requires order { length order.now ≡ length parts.old }
     requires wired { IsWired (map frame_of parts.old) (length wires.now) }
-    ensures { parts.new ≡ map (λ part. absorb_of part wires.now) parts.old }
+    ensures parts { parts.new ≡ map (λ part. absorb_of part wires.now) parts.old }
+    ensures frames { map frame_of parts.new ≡ map frame_of parts.old }
 {
     latch_all(parts, order, wires);
 }

@@ -1,15 +1,23 @@
-// What the phases do to a channel and its queue by itself.
+// What a cycle does to the components, and its phases to a channel and its queue by itself.
 
 ghost use Rattle.std.specs.Prelude.{◌≡◌, ◌≤◌, ◌+◌, ℕ, List, drop, length, min};
 ghost use Rattle.aeth_ni.specs.Limits.{max_count};
 ghost use Rattle.aeth_ni.specs.Queue.{QueueState, capped};
 ghost use Rattle.aeth_router.specs.declared.part.Part.{Part};
+ghost use Rattle.aeth_components.specs.Components.{ComponentsState, Cycle, IsStepped};
 ghost use Rattle.aeth_components.specs.Laws.{NotesAlone, RefillsAlone, TakesAlone};
 ghost use Rattle.aeth_components.specs.Phases.{Moment};
 ghost use Rattle.aeth_components.specs.Queues.{drawn};
 ghost use Rattle.aeth_components.specs.Switching.{SwitchesAlone, WritesAlone};
 ghost use Rattle.aeth_components.specs.declared.event.Event.{Event};
 ghost use Rattle.aeth_components.specs.declared.lane.Lane.{Lane};
+
+/// What `Components::step` leaves of the components is what simultaneous hardware would: each has
+/// driven from its own state, and has latched what all drove.
+pub fn components_are_stepped()
+    ensures { (events : List Event) (cycle : ℕ) (old new : ComponentsState)
+        → Cycle events cycle old new → IsStepped events cycle old new }
+{}
 
 /// In its turn a channel hands words on, and takes them, as it would alone.
 pub fn turns_are_taken_alone()

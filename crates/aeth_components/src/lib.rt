@@ -2,12 +2,13 @@
 #![tactic(auto)]
 
 mod busy;
+mod channels;
 mod components;
 mod counting;
 mod cycle;
 mod event;
 mod lane;
-mod laws;
+pub mod laws;
 mod making;
 mod parts;
 mod phases;
@@ -16,6 +17,3 @@ mod queues;
 pub use components::Components;
 pub use event::Event;
 pub use lane::{ChannelEnd, Lane};
-pub use laws::{
-    events_change_their_own, landings_are_noted_alone, queues_in_numbers, turns_are_taken_alone,
-};

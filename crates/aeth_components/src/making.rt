@@ -4,7 +4,8 @@ ghost use Rattle.std.specs.Prelude.{◌≡◌, ◌*◌, ◌+◌, ◌^◌, ◌++�
 ghost use Rattle.std.specs.List.{range_with_len};
 ghost use Rattle.aeth_chip.specs.Paths.{delay_of};
 ghost use Rattle.aeth_ni.specs.Limits.{queues_of_interface};
-ghost use Rattle.aeth_components.specs.Making.{link_stages, made_interface, made_router, made_stage};
+ghost use Rattle.aeth_components.specs.Making.{link_stages, made_interface, made_router};
+ghost use Rattle.aeth_components.specs.Making.{made_stage};
 ghost use Rattle.aeth_components.specs.Making.{made_stages, new_parts};
 
 use aeth_base::{LinkId, NiId, NoMemory, RouterId};

@@ -1,14 +1,14 @@
-// The phases of a cycle that change single components: switching, refilling, and taking.
+// What is done in a cycle to single components and channels: switching, refilling, and taking.
 
 ghost use Rattle.std.specs.Prelude.{◌≡◌, ◌<◌, ◌^◌, All, length, map};
 ghost use Rattle.aeth_components.specs.Busy.{AreMarked, IsIdle, IsQuiet};
 ghost use Rattle.aeth_components.specs.Changes.{switched};
 ghost use Rattle.aeth_components.specs.Events.{IsDoable};
 ghost use Rattle.aeth_components.specs.Frames.{frame_of};
-ghost use Rattle.aeth_components.specs.Lanes.{IsLane};
-ghost use Rattle.aeth_components.specs.Phases.{in_turn, pulled, refilled};
+ghost use Rattle.aeth_components.specs.Lanes.{IsEnd, IsLane};
+ghost use Rattle.aeth_components.specs.Phases.{pulled, refilled};
 
-use crate::busy::{next, unmark};
+use crate::busy::unmark;
 use crate::event::Event;
 use crate::lane::Lane;
 use crate::parts::{draw, hand, meet};
@@ -17,7 +17,8 @@ use aeth_router::Part;
 // Does the events of a cycle, one after the other.
 pub(crate) fn switch(parts: &mut [Part], events: &[Event])
     requires { All (IsDoable (map frame_of parts.old)) events.now }
-    ensures { parts.new ≡ switched events.now parts.old }
+    ensures parts { parts.new ≡ switched events.now parts.old }
+    ensures frames { map frame_of parts.new ≡ map frame_of parts.old }
 {
     for event in events {
         let part = &mut parts[event.part() as usize];
@@ -25,30 +26,8 @@ pub(crate) fn switch(parts: &mut [Part], events: &[Event])
     }
 }
 
-// Each channel in its turn hands its accepted words to its source queue.
-pub(crate) fn refill(
-    parts: &mut [Part],
-    lanes: &mut [Lane],
-    active: &[u64],
-    words: &[u32],
-    cycle: u32,
-)
-    requires lanes { All (IsLane (length words.now) (length parts.old)) lanes.old }
-    requires marked { AreMarked IsQuiet active.now lanes.old }
-    ensures turns { record { parts = parts.new; lanes = lanes.new }
-        ≡ in_turn (refilled words.now cycle)
-        (record { parts = parts.old; lanes = lanes.old }) }
-    ensures marked { AreMarked IsQuiet active.now lanes.new }
-{
-    let mut number = next(active, 0, lanes.len());
-    'turns: while number < lanes.len() {
-        refill_one(parts, &mut lanes[number], words, cycle);
-        number = next(active, number + 1, lanes.len());
-    }
-}
-
 // One channel hands its accepted words on.
-fn refill_one(parts: &mut [Part], lane: &mut Lane, words: &[u32], cycle: u32)
+pub(crate) fn refill_one(parts: &mut [Part], lane: &mut Lane, words: &[u32], cycle: u32)
     requires { IsLane (length words.now) (length parts.old) lane.old }
     ensures { (parts.new, lane.new) ≡ refilled words.now cycle parts.old lane.old }
 {
@@ -61,35 +40,20 @@ fn refill_one(parts: &mut [Part], lane: &mut Lane, words: &[u32], cycle: u32)
     }
 }
 
-// Each receiver in its turn takes.
-pub(crate) fn take(
-    parts: &mut [Part],
-    lanes: &mut [Lane],
-    busy: &mut [u64],
-    active: &mut [u64],
-    words: &[u32],
-    cycle: u32,
-)
-    requires lanes { All (IsLane (length words.now) (length parts.old)) lanes.old }
-    requires marked { AreMarked IsIdle busy.old lanes.old }
-    requires active { AreMarked IsQuiet active.old lanes.old }
-    ensures turns { record { parts = parts.new; lanes = lanes.new }
-        ≡ in_turn (pulled cycle)
-        (record { parts = parts.old; lanes = lanes.old }) }
-    ensures marked { AreMarked IsIdle busy.new lanes.new }
-    ensures active { AreMarked IsQuiet active.new lanes.new }
+// One receiver takes.
+pub(crate) fn take_one(parts: &mut [Part], lane: &mut Lane, cycle: u32)
+    requires { IsEnd (length parts.old) lane.old.receiver }
+    ensures { (parts.new, lane.new) ≡ pulled cycle parts.old lane.old }
 {
-    let mut number = next(active, 0, lanes.len());
-    'turns: while number < lanes.len() {
-        take_one(parts, &mut lanes[number], words, cycle);
-        settle(busy, lanes, number);
-        hush(active, lanes, number);
-        number = next(active, number + 1, lanes.len());
+    if lane.taken < lane.landed && lane.is_open(cycle) {
+        let pull = lane.pull.min(lane.landed - lane.taken);
+        let part = &mut parts[lane.receiver.ni.0 as usize];
+        lane.taken += draw(part, lane.receiver.queue, pull);
     }
 }
 
 // Marks a channel no more where it is idle.
-fn settle(busy: &mut [u64], lanes: &[Lane], number: usize)
+pub(crate) fn settle(busy: &mut [u64], lanes: &[Lane], number: usize)
     requires number { number < length lanes.now }
     requires marked { AreMarked IsIdle busy.old lanes.now }
     ensures { AreMarked IsIdle busy.new lanes.now }
@@ -101,7 +65,7 @@ fn settle(busy: &mut [u64], lanes: &[Lane], number: usize)
 }
 
 // Marks a channel no more where it is quiet.
-fn hush(active: &mut [u64], lanes: &[Lane], number: usize)
+pub(crate) fn hush(active: &mut [u64], lanes: &[Lane], number: usize)
     requires number { number < length lanes.now }
     requires marked { AreMarked IsQuiet active.old lanes.now }
     ensures { AreMarked IsQuiet active.new lanes.now }
@@ -109,17 +73,5 @@ fn hush(active: &mut [u64], lanes: &[Lane], number: usize)
     let lane = &lanes[number];
     if lane.landed <= lane.taken && lane.accepted <= lane.handed {
         unmark(active, number);
-    }
-}
-
-// One receiver takes.
-fn take_one(parts: &mut [Part], lane: &mut Lane, words: &[u32], cycle: u32)
-    requires { IsLane (length words.now) (length parts.old) lane.old }
-    ensures { (parts.new, lane.new) ≡ pulled cycle parts.old lane.old }
-{
-    if lane.taken < lane.landed && lane.is_open(cycle) {
-        let pull = lane.pull.min(lane.landed - lane.taken);
-        let part = &mut parts[lane.receiver.ni.0 as usize];
-        lane.taken += draw(part, lane.receiver.queue, pull);
     }
 }

@@ -1,6 +1,7 @@
 -- What components have latched, and what is counted of it.
 use Rattle.std.proofs.Common.{◌≡◌, ◌≤◌, ◌<◌, ◌∙◌, ℕ, ◌+◌, refl, sym, ap, arith, inl, inr}
-use Rattle.std.proofs.Common.{Bool, true, false, cond, leb, List, [], ◌∷◌, Option, Some, None, length, map, slice_get}
+use Rattle.std.proofs.Common.{Bool, true, false, cond, leb, List, [], ◌∷◌, Option, Some, None}
+use Rattle.std.proofs.Common.{length, map, slice_get}
 use Rattle.std.specs.Prelude.{◌==◌, Result, Ok, Err, option_map}
 use Rattle.std.specs.Option.{option_map_or}
 use Rattle.std.proofs.lemmas.Bool.{cases_Bool, leb-true}

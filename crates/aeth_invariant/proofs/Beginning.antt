@@ -18,7 +18,8 @@ use Rattle.aeth_refinement.specs.Switches.{HasEvent, Switched, freed_of}
 use Rattle.aeth_invariant.proofs.Holding.{latched-same}
 use Rattle.aeth_invariant.proofs.Kept.{hardware-switched}
 use Rattle.aeth_invariant.proofs.Running.{open-parts}
-use Rattle.aeth_invariant.proofs.Switching.{Becomes, IsFinished, IsFreed, IsHalted, IsSet, Stays, becomes, switches}
+use Rattle.aeth_invariant.proofs.Switching.{Becomes, IsFinished, IsFreed, IsHalted, IsSet, Stays}
+use Rattle.aeth_invariant.proofs.Switching.{becomes, switches}
 use Rattle.aeth_invariant.specs.Beginning.{AreEmpty, loaded_with}
 use Rattle.aeth_invariant.specs.Events.{AreEvents}
 use Rattle.aeth_invariant.specs.Framed.{IsFramed}

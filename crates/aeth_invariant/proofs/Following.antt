@@ -1,6 +1,7 @@
 -- One cycle of components that follow private servers is one of the law, and they follow them
 -- still.
-use Rattle.std.proofs.Common.{◌≡◌, ◌≤◌, ◌<◌, ◌∙◌, ℕ, suc, ◌+◌, ◌-◌, ◌%◌, refl, sym, ap, subst, arith}
+use Rattle.std.proofs.Common.{◌≡◌, ◌≤◌, ◌<◌, ◌∙◌, ℕ, suc, ◌+◌, ◌-◌, ◌%◌, refl, sym, ap, subst}
+use Rattle.std.proofs.Common.{arith}
 use Rattle.std.proofs.Common.{List, Option, length, map}
 use Rattle.std.specs.List.{range_with_len}
 use Rattle.aeth_clocked.specs.Wires.{flit_on}
@@ -42,7 +43,8 @@ use Rattle.aeth_refinement.specs.Switches.{HasEvent, Switched, finish_of}
 use Rattle.aeth_invariant.proofs.Arriving.{counts-served, latches}
 use Rattle.aeth_invariant.proofs.Driving.{wires-driven}
 use Rattle.aeth_invariant.proofs.Holding.{latched-absorb, latched-same}
-use Rattle.aeth_invariant.proofs.Kept.{hardware-switched, hardware_in, hardware_in-changed, kept-refilling}
+use Rattle.aeth_invariant.proofs.Kept.{hardware-switched, hardware_in, hardware_in-changed}
+use Rattle.aeth_invariant.proofs.Kept.{kept-refilling}
 use Rattle.aeth_invariant.proofs.OneQueue.{entries-after, entry_of-same, queue_of-after}
 use Rattle.aeth_invariant.proofs.Refilling.{refills, refills-served}
 use Rattle.aeth_invariant.proofs.Taking.{took, took-served}

@@ -1,5 +1,6 @@
 -- One queue and one entry of all components, once these have driven or latched.
-use Rattle.std.proofs.Common.{◌≡◌, ◌<◌, ◌∙◌, ℕ, ◌%◌, refl, sym, ap, subst, arith, inl, inr, Bool, cond}
+use Rattle.std.proofs.Common.{◌≡◌, ◌<◌, ◌∙◌, ℕ, ◌%◌, refl, sym, ap, subst, arith, inl, inr, Bool}
+use Rattle.std.proofs.Common.{cond}
 use Rattle.std.proofs.Common.{List, [], ◌∷◌, Option, Some, None, length, map, slice_get, ◌⊎◌}
 use Rattle.std.specs.Prelude.{◌==◌, option_map}
 use Rattle.std.specs.List.{slice_index_or}

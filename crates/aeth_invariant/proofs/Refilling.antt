@@ -1,8 +1,10 @@
 -- Refilling, channel by channel, is that of the law.
 use Rattle.std.proofs.Common.{◌≡◌, ◌≤◌, ◌<◌, ◌∙◌, ℕ, ◌+◌, ◌-◌, min, refl, sym, ap, arith, inl, inr}
-use Rattle.std.proofs.Common.{Bool, true, false, cond, ltb, leb, ◌&&◌, List, [], ◌∷◌, ◌++◌, Option, Some, None, fold, get_or, length, map, take, drop, slice_get}
+use Rattle.std.proofs.Common.{Bool, true, false, cond, ltb, leb, ◌&&◌, List, [], ◌∷◌, ◌++◌, Option}
+use Rattle.std.proofs.Common.{Some, None, fold, get_or, length, map, take, drop, slice_get}
 use Rattle.std.specs.List.{range_with_len}
-use Rattle.std.proofs.lemmas.Bool.{and_from, and_parts, both_ways, cases_Bool, cases_lt, le-leb, leb-true, lt-ltb, ltb-true}
+use Rattle.std.proofs.lemmas.Bool.{and_from, and_parts, both_ways, cases_Bool, cases_lt, le-leb}
+use Rattle.std.proofs.lemmas.Bool.{leb-true, lt-ltb, ltb-true}
 use Rattle.std.proofs.lemmas.List.{length-set, length-take, take_min}
 use Rattle.std.proofs.lemmas.Option.{same_Some, slice_get-get_or, slice_get_within}
 use Rattle.aeth_clocked.specs.declared.flit.Flit.{Flit}
@@ -19,7 +21,8 @@ use Rattle.aeth_components.specs.View.{queue_of as queue_in}
 use Rattle.aeth_components.specs.declared.lane.Lane.{Lane}
 use Rattle.aeth_server.specs.PrivateServer.{arrived}
 use Rattle.aeth_refinement.proofs.Counts.{arrived-most}
-use Rattle.aeth_refinement.proofs.Words.{drop-words_from, length-words_from, same_words, take-words_from}
+use Rattle.aeth_refinement.proofs.Words.{drop-words_from, length-words_from, same_words}
+use Rattle.aeth_refinement.proofs.Words.{take-words_from}
 use Rattle.aeth_refinement.specs.Accepted.{IsAccepted}
 use Rattle.aeth_refinement.specs.Carried.{words_from}
 use Rattle.aeth_refinement.specs.Components.{Net, queue_of}
@@ -27,7 +30,8 @@ use Rattle.aeth_refinement.specs.Cycle.{Refilled, handing}
 use Rattle.aeth_refinement.specs.Fabric.{Fabric, IsGoing, IsSameQueue, flow_at, server_at}
 use Rattle.aeth_invariant.proofs.Kept.{entries_in, entries_in-changed, kept-refilling}
 use Rattle.aeth_invariant.proofs.OneQueue.{entry_of-same}
-use Rattle.aeth_invariant.proofs.Serving.{IsNone, alone-none, alone-sender, at-end, found-or-none, has-queue}
+use Rattle.aeth_invariant.proofs.Serving.{IsNone, alone-none, alone-sender, at-end, found-or-none}
+use Rattle.aeth_invariant.proofs.Serving.{has-queue}
 use Rattle.aeth_invariant.proofs.Serving.{opened, user-of, uses}
 use Rattle.aeth_invariant.specs.Framed.{IsFramed}
 use Rattle.aeth_invariant.specs.Served.{AreServed, IsServed, handed_after}

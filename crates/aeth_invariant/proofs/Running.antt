@@ -1,21 +1,18 @@
 -- From cycle to cycle components run on: they are prepared, do a cycle, and are where they were.
-use Rattle.std.proofs.Common.{◌≡◌, ◌≤◌, ◌<◌, ◌∙◌, ◌⊎◌, ℕ, ◌+◌, ◌-◌, refl, sym, ap, subst, arith, inl, inr, true}
-use Rattle.std.proofs.Common.{ltb, leb, List, [], ◌∷◌, Option, Some, None, fold, length, map, get_or, slice_get}
-use Rattle.std.specs.Prelude.{option_map}
-use Rattle.std.specs.List.{range_with_len}
-use Rattle.std.proofs.Math.Seq.{map-set_same}
-use Rattle.std.proofs.lemmas.Bool.{and_from, and_parts, cases_Bool, cases_lt, le-leb, leb-true, lt-ltb, ltb-true}
-use Rattle.std.proofs.lemmas.Option.{get_or_from_slice_get, same_Some, slice_get-get_or, slice_get-map, slice_get_within}
+use Rattle.std.proofs.Common.{◌≡◌, ◌≤◌, ◌<◌, ◌∙◌, ◌⊎◌, ℕ, ◌+◌, ◌-◌, refl, sym, ap, subst, arith}
+use Rattle.std.proofs.Common.{inl, inr, true}
+use Rattle.std.proofs.Common.{ltb, leb, List, Option, Some, length, map, get_or, slice_get}
+use Rattle.std.proofs.lemmas.Bool.{and_from, and_parts, cases_lt, le-leb, leb-true, lt-ltb}
+use Rattle.std.proofs.lemmas.Bool.{ltb-true}
+use Rattle.std.proofs.lemmas.Option.{same_Some, slice_get-get_or, slice_get_within}
 use Rattle.aeth_clocked.specs.declared.flit.Flit.{Flit}
 use Rattle.aeth_router.specs.declared.part.Part.{Part}
-use Rattle.aeth_components.proofs.CountingLemmas.{counted-closed, counted-open}
-use Rattle.aeth_components.proofs.FrameLemmas.{from-map}
-use Rattle.aeth_components.proofs.TurnLemmas.{pulled-closed, pulled-open, refilled-closed, refilled-open}
-use Rattle.aeth_components.specs.Components.{ComponentsState, Cycle, switched_from, driven_from, frames_of, latched_of, moment_of, ready_of}
+use Rattle.aeth_components.proofs.KeptLemmas.{IsUncounted, kept-cycle, kept-latched, lane-kept}
+use Rattle.aeth_components.specs.Components.{ComponentsState, Cycle, frames_of, latched_of}
 use Rattle.aeth_components.specs.Counting.{counted}
 use Rattle.aeth_components.specs.Frames.{Frame, IsWired, frame_of}
 use Rattle.aeth_components.specs.Lanes.{is_open}
-use Rattle.aeth_components.specs.Phases.{Moment, pulled, refilled, turned, turned_at}
+use Rattle.aeth_components.specs.Phases.{Moment}
 use Rattle.aeth_components.specs.declared.event.Event.{Event}
 use Rattle.aeth_components.specs.declared.lane.Lane.{Lane}
 use Rattle.aeth_server.proofs.SessionEnds.{idle-before}
@@ -35,79 +32,25 @@ use Rattle.aeth_invariant.specs.View.{HaveLatched, net_of}
 abbrev pub cycles_in : Lane → ℕ × ℕ × ℕ
 cycles_in lane = (lane.go, lane.fin, lane.first)
 
--- No turn changes them.
-module _ (turn : List Part → Lane → List Part × Lane)
-    (same : (parts : List Part) (lane : Lane) → cycles_in (turn parts lane).1 ≡ cycles_in lane) where
-  cycles-turned : (moment : Moment) (number : ℕ) (found : Option Lane)
-      → slice_get moment.lanes number ≡ found
-      → map cycles_in (turned_at turn moment number found).lanes ≡ map cycles_in moment.lanes
-  cycles-turned moment number None at = refl
-  cycles-turned moment number (Some lane) at =
-      map-set_same cycles_in moment.lanes number (turn moment.parts lane).1 lane
-      (same moment.parts lane
-      ∙ ap cycles_in (sym (get_or_from_slice_get moment.lanes number lane lane at)))
+-- They tell none of its counts.
+uncounted : IsUncounted cycles_in
+uncounted = λ lane handed landed taken. refl
 
-  cycles-turns : (numbers : List ℕ) (moment : Moment)
-      → map cycles_in (fold (turned turn) moment numbers).lanes ≡ map cycles_in moment.lanes
-  cycles-turns [] moment = refl
-  cycles-turns (number ∷ numbers) moment =
-      cycles-turns numbers (turned turn moment number)
-      ∙ cycles-turned moment number (slice_get moment.lanes number) refl
-
-cycles-refilled : (words : List ℕ) (t : ℕ) (parts : List Part) (lane : Lane)
-    → cycles_in (refilled words t parts lane).1 ≡ cycles_in lane
-cycles-refilled words t parts lane = elim (cases_Bool (is_open lane t)) [
-  | inl is ↦ ap (λ (done : List Part × Lane). cycles_in done.1) (refilled-open words t parts lane is)
-  | inr not ↦
-      ap (λ (done : List Part × Lane). cycles_in done.1) (refilled-closed words t parts lane not)
-]
-
-cycles-pulled : (t : ℕ) (parts : List Part) (lane : Lane)
-    → cycles_in (pulled t parts lane).1 ≡ cycles_in lane
-cycles-pulled t parts lane = elim (cases_Bool (is_open lane t)) [
-  | inl is ↦ ap (λ (done : List Part × Lane). cycles_in done.1) (pulled-open t parts lane is)
-  | inr not ↦ ap (λ (done : List Part × Lane). cycles_in done.1) (pulled-closed t parts lane not)
-]
-
-cycles-counted : (t : ℕ) (parts : List Part) (lanes : List Lane)
-    → map cycles_in (map (counted t parts) lanes) ≡ map cycles_in lanes
-cycles-counted t parts [] = refl
-cycles-counted t parts (lane ∷ lanes) =
-    let one : cycles_in (counted t parts lane) ≡ cycles_in lane =
-    elim (cases_Bool (is_open lane t)) [
-      | inl is ↦ ap cycles_in (counted-open t parts lane is)
-      | inr not ↦ ap cycles_in (counted-closed t parts lane not)
-    ] in
-    ap (λ (x : ℕ × ℕ × ℕ). x ∷ map cycles_in (map (counted t parts) lanes)) one
-    ∙ ap (λ (xs : List (ℕ × ℕ × ℕ)). cycles_in lane ∷ xs) (cycles-counted t parts lanes)
-
--- The channels of a cycle, up to the latch.
+-- So the channels of a cycle have them up to the latch, and behind it.
 pub cycles-drained : (words : List ℕ) (events : List Event) (t : ℕ) (wires : List (Option Flit))
     (moment : Moment) → map cycles_in (latched_of words events t wires moment).lanes
     ≡ map cycles_in moment.lanes
-cycles-drained words events t wires moment =
-    let gone = driven_from t (ready_of words events t moment) in
-    cycles-turns (pulled t) (cycles-pulled t) (range_with_len 0 (length gone.lanes)) gone
-    ∙ cycles-turns (refilled words t) (cycles-refilled words t)
-    (range_with_len 0 (length moment.lanes)) (switched_from events moment)
+cycles-drained = kept-latched cycles_in uncounted
 
--- Nor does a cycle.
 cycles-kept : (events : List Event) (t : ℕ) (old new : ComponentsState) → Cycle events t old new
     → map cycles_in new.lanes ≡ map cycles_in old.lanes
-cycles-kept events t old new cycle =
-    ap (λ (lanes : List Lane). map cycles_in lanes) cycle.lanes
-    ∙ cycles-counted t (latched_of old.words events t new.wires (moment_of old)).parts
-    (latched_of old.words events t new.wires (moment_of old)).lanes
-    ∙ cycles-drained old.words events t new.wires (moment_of old)
+cycles-kept = kept-cycle cycles_in uncounted
 
 -- A channel behind a cycle, before it.
 pub lane-before : (old new : List Lane) → map cycles_in new ≡ map cycles_in old → (number : ℕ)
     (lane : Lane) → slice_get new number ≡ Some lane
     → (before : Lane) × (slice_get old number ≡ Some before) × (cycles_in lane ≡ cycles_in before)
-lane-before old new same number lane at =
-    from-map cycles_in old number (cycles_in lane)
-    (ap (λ (xs : List (ℕ × ℕ × ℕ)). slice_get xs number) (sym same)
-    ∙ slice_get-map cycles_in new number ∙ ap (option_map cycles_in) at)
+lane-before old new = lane-kept cycles_in new old
 
 -- A channel that is open, by its cycles.
 open-at : (lane : Lane) (t : ℕ) → lane.go ≤ t → t < lane.fin → is_open lane t ≡ true

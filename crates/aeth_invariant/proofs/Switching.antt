@@ -19,7 +19,8 @@ use Rattle.aeth_components.specs.declared.event.Event.TheVariants.{Change, Finis
 use Rattle.aeth_components.specs.declared.lane.ChannelEnd.{ChannelEnd}
 use Rattle.aeth_refinement.specs.Components.{Net, queue_of}
 use Rattle.aeth_refinement.specs.Fabric.{Fabric, has_slot}
-use Rattle.aeth_refinement.specs.Switches.{HasEvent, IsEntryAt, IsSetNow, Switched, finish_of, freed_of, halt_of}
+use Rattle.aeth_refinement.specs.Switches.{HasEvent, IsEntryAt, IsSetNow, Switched, finish_of}
+use Rattle.aeth_refinement.specs.Switches.{freed_of, halt_of}
 use Rattle.aeth_refinement.specs.Switches.{set_of}
 use Rattle.aeth_invariant.proofs.Serving.{found-or-none}
 use Rattle.aeth_invariant.specs.Events.{AreEvents, IsEventOf, Occurs, OnQueue, ni_of, queue_end}

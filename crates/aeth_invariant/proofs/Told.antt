@@ -1,11 +1,13 @@
 -- What the channel of a session tells, also once this is finished.
-use Rattle.std.proofs.Common.{◌≡◌, ◌≤◌, ◌<◌, ◌∙◌, ℕ, ◌+◌, min, sym, ap, subst, arith, inl, inr, false}
+use Rattle.std.proofs.Common.{◌≡◌, ◌≤◌, ◌<◌, ◌∙◌, ℕ, ◌+◌, min, sym, ap, subst, arith, inl, inr}
+use Rattle.std.proofs.Common.{false}
 use Rattle.std.proofs.Common.{leb, ltb, List, Some, slice_get}
 use Rattle.std.specs.Prelude.{option_map}
 use Rattle.std.proofs.lemmas.Bool.{and_parts, cases_Bool, cases_lt, ltb-true}
 use Rattle.std.proofs.lemmas.Option.{slice_get-map}
 use Rattle.aeth_components.proofs.CountingLemmas.{counted-closed}
-use Rattle.aeth_components.specs.Components.{ComponentsState, Cycle, driven_from, latched_of, moment_of}
+use Rattle.aeth_components.specs.Components.{ComponentsState, Cycle, driven_from, latched_of}
+use Rattle.aeth_components.specs.Components.{moment_of}
 use Rattle.aeth_components.specs.Components.{ready_of, switched_from}
 use Rattle.aeth_components.specs.Counting.{counted}
 use Rattle.aeth_components.specs.Lanes.{is_open}

@@ -39,7 +39,7 @@ pub fn switches_are_made()
         → Switched fabric e (net_of handed parts wires)
         (net_of handed (switched events parts) wires) }
 {
-    aeth_components::events_change_their_own();
+    aeth_components::laws::events_change_their_own();
 }
 
 /// The source queues are refilled as in the law on networks, where each channel in use is that of a
@@ -55,7 +55,7 @@ pub fn queues_are_refilled()
         (net_of (handed_after fabric (net_of handed moment.parts wires) t)
         (in_turn (refilled words t) moment).parts wires) }
 {
-    aeth_components::turns_are_taken_alone();
+    aeth_components::laws::turns_are_taken_alone();
 }
 
 /// The receivers take as in the law on networks, where no queue holds more than has landed of its
@@ -74,7 +74,7 @@ pub fn words_are_taken()
         - taken (server_at fabric (fabric.opposite c)) takes)
         → Took fabric t old (net_of handed (in_turn (pulled t) moment).parts wires) }
 {
-    aeth_components::turns_are_taken_alone();
+    aeth_components::laws::turns_are_taken_alone();
 }
 
 /// The components of a fabric drive on each wire what the law on networks says.
@@ -120,7 +120,7 @@ pub fn cycles_are_cycles()
         → ComponentsCycle events t old new → Exact fabric t (flit_on new.wires) }
 {
     switches_are_made();
-    aeth_components::turns_are_taken_alone();
+    aeth_components::laws::turns_are_taken_alone();
 }
 
 /// Components between two cycles follow the private servers, once they are prepared.
@@ -149,7 +149,7 @@ pub fn runs_begin()
         (all : ComponentsState) → AreEmpty fabric all → AreEvents fabric 0 events
         → Runs fabric channel 0 (λ c. 0) (loaded_with events all) }
 {
-    aeth_components::events_change_their_own();
+    aeth_components::laws::events_change_their_own();
 }
 
 /// A cycle whose wires have the flits of the private servers counts for each link the cycles in which
@@ -174,7 +174,7 @@ pub fn sessions_are_told()
         → ((server_at fabric c).go < t → HasTold fabric channel t c old)
         → HasTold fabric channel (t + 1) c new }
 {
-    aeth_components::turns_are_taken_alone();
+    aeth_components::laws::turns_are_taken_alone();
 }
 
 /// A cycle of components that follow the private servers notes for each word that lands the cycle in
@@ -189,6 +189,6 @@ pub fn landings_are_noted()
         → NotesLandings fabric first t old → NotesLandings fabric first (t + 1) new }
 {
     switches_are_made();
-    aeth_components::turns_are_taken_alone();
-    aeth_components::landings_are_noted_alone();
+    aeth_components::laws::turns_are_taken_alone();
+    aeth_components::laws::landings_are_noted_alone();
 }

@@ -32,30 +32,22 @@ const RECEIVER: ChannelEnd = ChannelEnd {
     queue: 0,
 };
 
-// A session of five words, from cycle 1 on.
-const FORTH: Lane = Lane {
+// A session of five words, from cycle 1 on, of which the receiver takes none.
+const SESSION: Lane = Lane {
     sender: SENDER,
     receiver: RECEIVER,
     go: 1,
     fin: 1_000_000,
     first: 0,
     accepted: 5,
-    pull: 2,
+    pull: 0,
     handed: 0,
     landed: 0,
     taken: 0,
 };
 
-// One of no words, the other way.
-const BACK: Lane = Lane {
-    sender: RECEIVER,
-    receiver: SENDER,
-    accepted: 0,
-    ..FORTH
-};
-
-// The tables of both: slots 0 and 4 forth, slot 0 back.
-const TABLES: [Event; 5] = [
+// The sender's tables: slots 0 and 4, by way of both routers.
+const TABLES: [Event; 3] = [
     Event::Change(Write::SetRoute {
         ni: NiId(0),
         queue: 0,
@@ -73,21 +65,10 @@ const TABLES: [Event; 5] = [
         slot: 4,
         queue: 0,
     }),
-    Event::Change(Write::SetRoute {
-        ni: NiId(1),
-        queue: 0,
-        route: 1,
-        remote: 0,
-        credits: 9,
-    }),
-    Event::Change(Write::SetSlot {
-        ni: NiId(1),
-        slot: 0,
-        queue: 0,
-    }),
 ];
 
-// The pair with both channels, whose tables are written. Router `r0` is its third component.
+// The pair with one channel, whose tables are written. The receiver is the second component, and
+// router `r0` the third.
 fn pair_of(alloc: Global, chip: &Chip) -> Option<Components>
     requires nis { length chip.now.nis ≡ 2 }
     requires routers { length chip.now.routers ≡ 2 }
@@ -95,7 +76,7 @@ fn pair_of(alloc: Global, chip: &Chip) -> Option<Components>
     ensures { IfSome result (λ pair.
         slice_get (frames_of pair) 2 ≡ Some (frame_of (made_router chip.now 0))) }
 {
-    let lanes = [FORTH, BACK].to_vec(alloc).ok()?;
+    let lanes = [SESSION].to_vec(alloc).ok()?;
     let words = [100, 101, 102, 103, 104].to_vec(alloc).ok()?;
     let rooms = [9; 2 * QUEUES_OF_INTERFACE];
     let mut pair = Components::new(alloc, chip, &rooms, lanes, words).ok()?;
@@ -124,56 +105,40 @@ fn replace_router(pair: &mut Components, number: usize, router: Router)
     pair.parts[number] = Part::Router(router);
 }
 
-// The log of the pair after 20 cycles: the cycles in which words landed, and the flits on links.
-// The order is the rotation from a turn on. Before a cycle `r0` is put back to a fresh router.
-fn log_of(alloc: Global, turn: u32, fresh: Option<u32>) -> Option<(Vec<u32>, Vec<u32>)> {
+// The words of the receive queue at the second component, the oldest first.
+fn words_in(pair: Components) -> [Option<u32>; 4] {
+    let Components { mut parts, .. } = pair;
+    match parts.get_mut(1) {
+        Some(Part::Interface(ni)) => [ni.take(0), ni.take(0), ni.take(0), ni.take(0)],
+        _ => [None; 4],
+    }
+}
+
+// The words that were received after 20 cycles. Before cycle 5 the router `r0` is put back to a fresh
+// one, and so loses the flit that it holds.
+fn received(alloc: Global) -> Option<[Option<u32>; 4]> {
     let chip = read_chip(alloc, PAIR.as_bytes()).ok()?;
     if chip.nis() != 2 || chip.routers() != 2 || chip.slots() != 8 {
         return None;
     }
     let mut pair = pair_of(alloc, &chip)?;
-    let Ok(order) = Order::rotation(alloc, 4, turn) else {
+    let Ok(order) = Order::rotation(alloc, 4, 0) else {
         return None;
     };
     if pair.len() != 4 {
         return None;
     }
-    let break_at = fresh.unwrap_or(20).min(20);
-    play(&mut pair, &order, 0, break_at);
-    if fresh.is_some() {
-        let router = Router::new(alloc, &chip, RouterId(0)).ok()?;
-        replace_router(&mut pair, 2, router);
-    }
-    play(&mut pair, &order, break_at, 20);
-    let landings = pair.landings().to_vec(alloc).ok()?;
-    let flits = pair.flits().to_vec(alloc).ok()?;
-    Some((landings, flits))
+    play(&mut pair, &order, 0, 5);
+    let router = Router::new(alloc, &chip, RouterId(0)).ok()?;
+    replace_router(&mut pair, 2, router);
+    play(&mut pair, &order, 5, 20);
+    Some(words_in(pair))
 }
 
-// Whether this is the log.
-fn is_log(log: Option<(Vec<u32>, Vec<u32>)>, landings: &[u32; 5], flits: &[u32; 6]) -> bool {
-    match log {
-        None => false,
-        Some(log) => log.0[..] == landings[..] && log.1[..] == flits[..],
-    }
-}
-
-// Whatever the order, words land as those of one channel by itself.
-#[test]
-fn words_land_in_their_cycles(rt: HostRuntime) {
-    for turn in 0..4 {
-        let log = log_of(rt.alloc(), turn, None);
-        assert!(rt;
-            is_log(log, &[7, 7, 11, 11, 15], &[3, 2, 2, 3, 3, 2]),
-            "turn {turn}"
-        );
-    }
-}
-
-// Where `r0` loses the flit that it holds before cycle 5, the flit's two words don't land: the first
-// words that do are those of the next flit.
+// The two words of the lost flit, which are the first two, don't land: the receive queue has the
+// others alone. A network that told its log from anything but its components would still note them.
 #[test]
 fn parts_carry_the_words(rt: HostRuntime) {
-    let log = log_of(rt.alloc(), 0, Some(5));
-    assert!(rt; is_log(log, &[11, 11, 15, 0, 0], &[3, 1, 1, 2, 2, 1]));
+    let words = [Some(102), Some(103), Some(104), None];
+    assert_eq!(rt; received(rt.alloc()), Some(words));
 }

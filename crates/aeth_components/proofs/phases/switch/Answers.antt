@@ -18,3 +18,9 @@ loop-event-preserved c =
     c.part.result c.index-parts-part.result c.meet.new.part c.loop-event-test.true
     c.loop-event.invariant c.part.ensures
     (c.requires c.loop-event.event-index _ c.loop-event-test.true) c.meet.ensures
+
+-- The frames stay.
+pub returns-clause-frames : goal.returns-clause-frames
+returns-clause-frames c =
+    ap (map frame_of) c.loop-event.invariant
+    ∙ frames-switched (take c.loop-event.event-index c.args.events.now) c.args.parts.now

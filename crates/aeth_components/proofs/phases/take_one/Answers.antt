@@ -16,7 +16,7 @@ returns-then-is_open c =
     let lane = c.args.lane.now in
     let parts = c.args.parts.now in
     let number = lane.receiver.ni.0 in
-    let within = c.requires.receiver.part in
+    let within = c.requires.part in
     let asked : c.min-pull.result ≡ asked_of lane = omega arith in
     ap₂ (λ (list : List Part) (n : ℕ). (list, record lane { taken = lane.taken + n }))
     (ap (set parts number) c.draw.ensures.part

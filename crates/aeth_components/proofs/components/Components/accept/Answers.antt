@@ -1,4 +1,4 @@
-use Rattle.std.proofs.Common.{◌≡◌, ◌∙◌, List, ap, get_or, set}
+use Rattle.std.proofs.Common.{◌∙◌, List, ap, get_or, set}
 use Rattle.aeth_components.proofs.components.Components.accept.Goals as goal
 use Rattle.aeth_components.specs.declared.lane.Lane.{Lane}
 use Rattle.aeth_components.proofs.LaneLemmas.{set-with_lane}
@@ -7,14 +7,11 @@ use Rattle.aeth_components.specs.Components.{ComponentsState}
 -- The channel has changed.
 pub returns : goal.returns
 returns c =
-    let lanes = c.args.self.now.lanes in
     let channel = c.args.channel in
-    let lane = c.index-lane.result.now in
-    let at : lane ≡ get_or lanes channel lane =
-    c.index-lane.ensures
-    ∙ ap (λ (all : ComponentsState). get_or all.lanes channel lane) c.self.view_is in
     c.load.ensures
     ∙ ap (λ (lanes : List Lane). record c.args.self.now { lanes = lanes })
-    (ap (λ (lane : Lane). set lanes channel (record lane { accepted = c.args.accepted })) at
-    ∙ set-with_lane lanes channel (λ now. record now { accepted = c.args.accepted }) lane
+    (ap (λ (lanes : List Lane). set c.args.self.now.lanes channel
+    (record (get_or lanes channel _) { accepted = c.args.accepted }))
+    (c.lanes.ensures ∙ ap (λ (all : ComponentsState). all.lanes) c.self.view_is)
+    ∙ set-with_lane c.args.self.now.lanes channel (λ now. record now { accepted = c.args.accepted }) _
     c.requires.channel)

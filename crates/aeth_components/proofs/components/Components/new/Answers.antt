@@ -5,9 +5,8 @@ use Rattle.std.proofs.lemmas.List.{length-replicate}
 use Rattle.aeth_chip.specs.Wires.{wires_of}
 use Rattle.aeth_router.specs.declared.part.Part.{Part}
 use Rattle.aeth_components.proofs.components.Components.new.Goals as goal
-use Rattle.std.proofs.Common.{arith}
-use Rattle.aeth_components.proofs.MarkLemmas.{AreMarked-all}
 use Rattle.aeth_components.proofs.MadeLemmas.{IsWired-new, length-new_parts}
+use Rattle.aeth_components.specs.Channels.{ChannelsState}
 use Rattle.aeth_components.specs.Components.{IsComponents, components_of}
 use Rattle.aeth_components.specs.Frames.{IsWired, frame_of}
 use Rattle.aeth_components.specs.Lanes.{IsLane}
@@ -23,10 +22,10 @@ invariant_of-result c =
     let wires : length c.in_ok-wires.wires ≡ wires_of chip.links =
     ap length c.in_ok-wires.ensures ∙ length-replicate c.wires.result None ∙ c.wires.ensures.wires
     in
-    let state : IsComponents (components_of c.in_ok-parts.parts.items c.in_ok-wires.wires
-    c.args.lanes.items c.args.words.items c.in_ok-landings.landings.items
-    c.in_ok-flits.flits.items) =
-    record {
+    subst (λ (channels : ChannelsState). IsComponents (components_of c.in_ok-parts.parts.items
+    c.in_ok-wires.wires channels.lanes channels.words c.in_ok-landings.landings.items
+    c.in_ok-flits.flits.items)) (sym c.in_ok-channels.ensures)
+    (record {
       wired = subst (λ (parts : List Part). IsWired (map frame_of parts)
           (length c.in_ok-wires.wires)) (sym made)
           (subst (IsWired (map frame_of (new_parts chip rooms))) (sym wires)
@@ -37,7 +36,7 @@ invariant_of-result c =
           let size = c.in_ok-landings.ensures.len in
           let own = c.in_ok-landings.landings.ok.0 in
           let given = c.args.words.ok.0 in
-          let count = c.len-3.ensures in
+          let count = c.len.ensures in
           omega arith);
       flits = (
           let size = c.in_ok-flits.ensures.len in
@@ -49,19 +48,4 @@ invariant_of-result c =
           let size = c.in_ok-flits.ensures.len in
           let own = c.in_ok-flits.flits.ok.0 in
           omega arith);
-    } in
-    record {
-      state = state;
-      marked = AreMarked-all c.in_ok-busy.busy.items c.args.lanes.items
-          (let size = c.in_ok-busy.ensures.size in
-          let count = c.len.ensures in
-          let given = c.args.lanes.ok.0 in
-          omega arith)
-          c.in_ok-busy.ensures.marked;
-      active = AreMarked-all c.in_ok-active.active.items c.args.lanes.items
-          (let size = c.in_ok-active.ensures.size in
-          let count = c.len-2.ensures in
-          let given = c.args.lanes.ok.0 in
-          omega arith)
-          c.in_ok-active.ensures.marked;
-    }
+    })

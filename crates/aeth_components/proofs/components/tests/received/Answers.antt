@@ -4,9 +4,7 @@ use Rattle.std.specs.Prelude.{IfOk}
 use Rattle.std.specs.Result.{result_ok}
 use Rattle.std.proofs.lemmas.Option.{none-some, same_Some}
 use Rattle.aeth_router.specs.Router.{RouterState}
-use Rattle.aeth_components.proofs.components.tests.log_of.Goals as goal
-use Rattle.aeth_components.proofs.components.tests.log_of.Goals.{then-is_some+in_ok-router, else-is_some}
-use Rattle.aeth_components.specs.Components.{ComponentsState, frames_of}
+use Rattle.aeth_components.proofs.components.tests.received.Goals as goal
 use Rattle.aeth_components.specs.Frames.{Frame, RouterFrame}
 
 -- What is said of a value, where there is one.
@@ -29,12 +27,5 @@ play-requires-2-clause-order c =
     let count = c.len.ensures in
     let four = c.if-len-ne4.false in
     let order : length c.in-Ok.order ≡ 4 = ap length c.in-Ok.ensures in
-    elim c.if-is_some.branch [
-      | then-is_some+in_ok-router w ↦
-          let is = ap (λ (all : ComponentsState). length all.parts) w.pair-is in
-          let replaced = w.replace_router.ensures in
-          omega arith
-      | else-is_some w ↦
-          let is = ap (λ (all : ComponentsState). length all.parts) w.pair-is in
-          omega arith
-    ]
+    let replaced = c.replace_router.ensures in
+    omega arith

@@ -1,0 +1,14 @@
+use Rattle.std.proofs.Common.{◌≡◌, ◌≤◌, ◌-◌, length}
+use Rattle.aeth_components.proofs.channels.Channels.count.Given as goal
+use Rattle.aeth_components.proofs.SkipLemmas.{AreCounted}
+
+-- The channels so far are counted.
+abbrev pub invariant-turns : goal.invariant-turns
+invariant-turns l = record {
+  are : AreCounted l.cycle l.parts l.fn.self.lanes l.fn.landings l.self.lanes l.landings l.number;
+  words : l.self.words ≡ l.fn.self.words;
+  within : l.number ≤ length l.self.lanes;
+}
+
+abbrev pub decreases-turns : goal.decreases-turns
+decreases-turns l = length l.self.lanes - l.number

@@ -1,0 +1,87 @@
+use Rattle.std.proofs.Common.{◌∙◌, ℕ, List, ap, arith, length, set, slice_get, subst, sym}
+use Rattle.std.specs.Prelude.{slice_set}
+use Rattle.std.proofs.lemmas.Option.{same_Some}
+use Rattle.aeth_components.proofs.channels.Channels.count_one.Goals as goal
+use Rattle.aeth_components.proofs.CountingLemmas.{counted-none}
+use Rattle.aeth_base.proofs.Lists.{written_back}
+use Rattle.aeth_components.proofs.LaneLemmas.{set-with_lane}
+use Rattle.aeth_components.proofs.MarkLemmas.{AreMarked-marked, AreMarked-set}
+use Rattle.aeth_components.proofs.SkipLemmas.{lane-there}
+use Rattle.aeth_components.specs.Busy.{AreMarked, IsIdle, IsQuiet}
+use Rattle.aeth_components.specs.Channels.{ChannelsState}
+use Rattle.aeth_components.specs.Counting.{counted, noted}
+use Rattle.aeth_components.specs.Lanes.{with_lane}
+
+-- An idle channel is as it was, and one of which words have landed is marked.
+pub invariant_of-self : goal.invariant_of-self
+invariant_of-self c =
+    let all = c.self.inside in
+    let lanes = all.lanes.items in
+    let lane = c.index_mut.result.now in
+    let new = c.count_one.new.lane in
+    let size = ap (λ (all : ChannelsState). length all.lanes) c.self.view_is in
+    let number = c.requires.number in
+    let at = lane-there lanes c.args.number lane (omega arith) c.index_mut.ensures.value in
+    let quiet : AreMarked IsQuiet c.deref_mut.result.now lanes =
+    subst (λ (masks : List ℕ). AreMarked IsQuiet masks lanes) (sym c.deref_mut.ensures.value)
+    c.self.invariant.quiet in
+    record {
+      idle = AreMarked-set all.busy.items lanes c.args.number lane new at
+          (λ idle. subst IsIdle (sym (c.count_one.ensures.lane
+          ∙ counted-none c.args.cycle c.args.parts.now lane idle.landed)) idle)
+          c.self.invariant.idle;
+      quiet = subst (λ (masks : List ℕ).
+          AreMarked IsQuiet masks (slice_set lanes c.args.number new))
+          (sym (written_back all.active.items c.mark.new.masks all.active.len all.active.ok.0
+          (c.mark.ensures.size ∙ ap length c.deref_mut.ensures.value)))
+          (AreMarked-marked c.deref_mut.result.now c.mark.new.masks lanes c.args.number new
+          c.mark.ensures.size c.mark.ensures.here c.mark.ensures.away quiet);
+    }
+
+-- The channel is counted.
+pub returns-then-count_one-clause-lanes : goal.returns-then-count_one-clause-lanes
+returns-then-count_one-clause-lanes c =
+    let lanes = c.self.inside.lanes.items in
+    let lane = c.index_mut.result.now in
+    let count = counted c.args.cycle c.args.parts.now in
+    let size = ap (λ (all : ChannelsState). length all.lanes) c.self.view_is in
+    let number = c.requires.number in
+    ap (set lanes c.args.number) (c.count_one.ensures.lane ∙ ap count c.index_mut.ensures.value)
+    ∙ set-with_lane lanes c.args.number count lane (omega arith)
+    ∙ ap (λ (all : ChannelsState). with_lane c.args.number count all.lanes) c.self.view_is
+
+pub returns-else-count_one-clause-lanes : goal.returns-else-count_one-clause-lanes
+returns-else-count_one-clause-lanes c =
+    let lanes = c.self.inside.lanes.items in
+    let lane = c.index_mut.result.now in
+    let count = counted c.args.cycle c.args.parts.now in
+    let size = ap (λ (all : ChannelsState). length all.lanes) c.self.view_is in
+    let number = c.requires.number in
+    ap (set lanes c.args.number) (c.count_one.ensures.lane ∙ ap count c.index_mut.ensures.value)
+    ∙ set-with_lane lanes c.args.number count lane (omega arith)
+    ∙ ap (λ (all : ChannelsState). with_lane c.args.number count all.lanes) c.self.view_is
+
+-- And its landings are noted.
+pub returns-then-count_one-clause-landings : goal.returns-then-count_one-clause-landings
+returns-then-count_one-clause-landings c = λ lane at.
+    let lanes = c.self.inside.lanes.items in
+    let read = c.index_mut.result.now in
+    let size = ap (λ (all : ChannelsState). length all.lanes) c.self.view_is in
+    let number = c.requires.number in
+    let there = lane-there lanes c.args.number read (omega arith) c.index_mut.ensures.value in
+    c.count_one.ensures.landings
+    ∙ ap (noted c.args.cycle c.args.parts.now c.args.landings.now)
+    (same_Some read lane (sym there
+    ∙ ap (λ (all : ChannelsState). slice_get all.lanes c.args.number) c.self.view_is ∙ at))
+
+pub returns-else-count_one-clause-landings : goal.returns-else-count_one-clause-landings
+returns-else-count_one-clause-landings c = λ lane at.
+    let lanes = c.self.inside.lanes.items in
+    let read = c.index_mut.result.now in
+    let size = ap (λ (all : ChannelsState). length all.lanes) c.self.view_is in
+    let number = c.requires.number in
+    let there = lane-there lanes c.args.number read (omega arith) c.index_mut.ensures.value in
+    c.count_one.ensures.landings
+    ∙ ap (noted c.args.cycle c.args.parts.now c.args.landings.now)
+    (same_Some read lane (sym there
+    ∙ ap (λ (all : ChannelsState). slice_get all.lanes c.args.number) c.self.view_is ∙ at))

@@ -1,0 +1,100 @@
+use Rattle.std.proofs.Common.{◌≡◌, ◌+◌, ◌∙◌, ℕ, List, ap, arith, length, map, refl, subst, sym}
+use Rattle.std.specs.List.{All, range_with_len}
+use Rattle.aeth_router.specs.declared.part.Part.{Part}
+use Rattle.aeth_components.specs.declared.lane.Lane.{Lane}
+use Rattle.aeth_components.proofs.channels.Channels.refill.Goals as goal
+use Rattle.aeth_components.proofs.SkipLemmas.{turned-more, turns-all, turns-sound, turns-until}
+use Rattle.aeth_components.proofs.TurnLemmas.{IsLane-refilled, frames-refilled, frames-turns}
+use Rattle.aeth_components.proofs.TurnLemmas.{refilled-none}
+use Rattle.aeth_components.specs.Busy.{IsQuiet}
+use Rattle.aeth_components.specs.Frames.{frame_of}
+use Rattle.aeth_components.specs.Lanes.{IsLane}
+use Rattle.aeth_components.specs.Phases.{Moment, refilled, turned}
+
+-- A quiet channel hands nothing on.
+still : (words : List ℕ) (cycle : ℕ) (parts : List Part) (lane : Lane) → IsQuiet lane
+    → refilled words cycle parts lane ≡ (parts, lane)
+still words cycle parts lane quiet = refilled-none words cycle parts lane quiet.handed
+
+-- The channels before the first one that is marked are quiet.
+pub turns-init : goal.turns-init
+turns-init c =
+    let before : Moment = record { parts = c.args.parts.now; lanes = c.args.self.now.lanes } in
+    let next = c.next_active-number.ensures in
+    record {
+      turns = turns-until (refilled c.args.self.now.words c.args.cycle)
+          (still c.args.self.now.words c.args.cycle) before before 0
+          c.next_active-number.result next.from refl next.still;
+      words = refl;
+      within = next.end;
+    }
+
+-- What holds of each channel before the first turn, still holds.
+pub refill_one-requires-clause-lanes : goal.refill_one-requires-clause-lanes
+refill_one-requires-clause-lanes c =
+    let now : Moment = record { parts = c.turns.parts; lanes = c.turns.self.lanes } in
+    let words = c.args.self.now.words in
+    let sound = turns-sound (refilled words c.args.cycle) (length words)
+    (length c.args.parts.now)
+    (IsLane-refilled words c.args.cycle (length c.args.parts.now))
+    (record { parts = c.args.parts.now; lanes = c.args.self.now.lanes }) now c.turns.number
+    c.turns.invariant.turns c.requires in
+    subst (λ (words : List ℕ). All (IsLane (length words) (length c.turns.parts))
+    c.turns.self.lanes) (sym c.turns.invariant.words)
+    (subst (λ n. All (IsLane (length c.args.self.now.words) n) c.turns.self.lanes)
+    (sym c.turns.auto.parts) sound)
+
+-- One channel more has had its turn, and those up to the next one that is marked are quiet.
+pub turns-preserved : goal.turns-preserved
+turns-preserved c =
+    let turn = refilled c.args.self.now.words c.args.cycle in
+    let before : Moment = record { parts = c.args.parts.now; lanes = c.args.self.now.lanes } in
+    let now : Moment = record { parts = c.turns.parts; lanes = c.turns.self.lanes } in
+    let done = c.refill_one.new in
+    let new : Moment = record { parts = done.parts; lanes = done.self.lanes } in
+    let next = c.next_active-number-in-turns.ensures in
+    record {
+      turns = turns-until turn
+          (still c.args.self.now.words c.args.cycle) before new
+          (c.turns.number + 1) c.next_active-number-in-turns.result next.from
+          (turned-more turn before now new c.turns.number c.turns.invariant.turns
+          (c.refill_one.ensures.turn
+          ∙ ap (λ (words : List ℕ). turned (refilled words c.args.cycle) now c.turns.number)
+          c.turns.invariant.words))
+          next.still;
+      words = c.refill_one.ensures.words ∙ c.turns.invariant.words;
+      within = next.end;
+    }
+
+-- All have.
+pub returns-clause-turns : goal.returns-clause-turns
+returns-clause-turns c =
+    let test = c.turns-test.false in
+    let size = c.len.ensures in
+    turns-all (refilled c.args.self.now.words c.args.cycle)
+    (record { parts = c.args.parts.now; lanes = c.args.self.now.lanes })
+    (record { parts = c.turns.parts; lanes = c.turns.self.lanes }) c.turns.number
+    c.turns.invariant.turns c.turns.invariant.within (omega arith)
+
+pub returns-clause-lanes : goal.returns-clause-lanes
+returns-clause-lanes c =
+    let now : Moment = record { parts = c.turns.parts; lanes = c.turns.self.lanes } in
+    let words = c.args.self.now.words in
+    let sound = turns-sound (refilled words c.args.cycle) (length words)
+    (length c.args.parts.now)
+    (IsLane-refilled words c.args.cycle (length c.args.parts.now))
+    (record { parts = c.args.parts.now; lanes = c.args.self.now.lanes }) now c.turns.number
+    c.turns.invariant.turns c.requires in
+    subst (λ (words : List ℕ). All (IsLane (length words) (length c.turns.parts))
+    c.turns.self.lanes) (sym c.turns.invariant.words)
+    (subst (λ n. All (IsLane (length c.args.self.now.words) n) c.turns.self.lanes)
+    (sym c.turns.auto.parts) sound)
+
+-- The frames stay.
+pub returns-clause-frames : goal.returns-clause-frames
+returns-clause-frames c =
+    ap (λ (moment : Moment). map frame_of moment.parts) c.turns.invariant.turns
+    ∙ frames-turns (refilled c.args.self.now.words c.args.cycle)
+    (frames-refilled c.args.self.now.words c.args.cycle)
+    (range_with_len 0 c.turns.number)
+    (record { parts = c.args.parts.now; lanes = c.args.self.now.lanes })

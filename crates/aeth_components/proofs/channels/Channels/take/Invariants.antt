@@ -1,0 +1,17 @@
+use Rattle.std.proofs.Common.{◌≡◌, ◌≤◌, ◌-◌, fold, length}
+use Rattle.std.specs.List.{range_with_len}
+use Rattle.aeth_components.proofs.channels.Channels.take.Given as goal
+use Rattle.aeth_components.specs.Phases.{pulled, turned}
+
+-- The channels so far have had their turns.
+abbrev pub invariant-turns : goal.invariant-turns
+invariant-turns l = record {
+  turns : record { parts = l.parts; lanes = l.self.lanes }
+      ≡ fold (turned (pulled l.cycle))
+      (record { parts = l.fn.parts; lanes = l.fn.self.lanes }) (range_with_len 0 l.number);
+  words : l.self.words ≡ l.fn.self.words;
+  within : l.number ≤ length l.self.lanes;
+}
+
+abbrev pub decreases-turns : goal.decreases-turns
+decreases-turns l = length l.self.lanes - l.number

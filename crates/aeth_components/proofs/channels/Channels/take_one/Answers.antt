@@ -1,0 +1,56 @@
+use Rattle.std.proofs.Common.{◌∙◌, ℕ, List, ap, arith, length, subst, sym}
+use Rattle.aeth_components.proofs.channels.Channels.take_one.Goals as goal
+use Rattle.aeth_components.proofs.MarkLemmas.{AreMarked-turned}
+use Rattle.aeth_components.proofs.SkipLemmas.{lane-there, turned-there}
+use Rattle.aeth_components.proofs.TurnLemmas.{pulled-none}
+use Rattle.aeth_components.specs.Busy.{AreMarked, IsIdle, IsQuiet}
+use Rattle.aeth_components.specs.Channels.{ChannelsState}
+use Rattle.aeth_components.specs.Phases.{Moment, pulled, turned}
+
+-- A channel whose receiver takes nothing is as it was.
+pub settle-requires-clause-marked : goal.settle-requires-clause-marked
+settle-requires-clause-marked c =
+    let all = c.self.inside in
+    let lane = c.index_mut.result.now in
+    let size = ap (λ (all : ChannelsState). length all.lanes) c.self.view_is in
+    let number = c.requires.number in
+    let at = lane-there all.lanes.items c.args.number lane (omega arith) c.index_mut.ensures.value
+    in
+    subst (λ (masks : List ℕ). AreMarked IsIdle masks c.deref.result.now)
+    (sym c.deref_mut.ensures.value)
+    (subst (AreMarked IsIdle all.busy.items) (sym c.deref.ensures.value)
+    (AreMarked-turned (pulled c.args.cycle)
+    (λ parts lane idle. pulled-none c.args.cycle parts lane idle.taken) all.busy.items
+    (record { parts = c.args.parts.now; lanes = all.lanes.items }) c.args.number lane
+    (c.take_one.new.parts, c.take_one.new.lane) at c.take_one.ensures c.self.invariant.idle))
+
+pub hush-requires-clause-marked : goal.hush-requires-clause-marked
+hush-requires-clause-marked c =
+    let all = c.self.inside in
+    let lane = c.index_mut.result.now in
+    let size = ap (λ (all : ChannelsState). length all.lanes) c.self.view_is in
+    let number = c.requires.number in
+    let at = lane-there all.lanes.items c.args.number lane (omega arith) c.index_mut.ensures.value
+    in
+    subst (λ (masks : List ℕ). AreMarked IsQuiet masks c.deref-2.result.now)
+    (sym c.deref_mut-2.ensures.value)
+    (subst (AreMarked IsQuiet all.active.items) (sym c.deref-2.ensures.value)
+    (AreMarked-turned (pulled c.args.cycle)
+    (λ parts lane quiet. pulled-none c.args.cycle parts lane quiet.taken) all.active.items
+    (record { parts = c.args.parts.now; lanes = all.lanes.items }) c.args.number lane
+    (c.take_one.new.parts, c.take_one.new.lane) at c.take_one.ensures c.self.invariant.quiet))
+
+-- The channel has had its turn.
+pub returns-clause-turn : goal.returns-clause-turn
+returns-clause-turn c =
+    let all = c.self.inside in
+    let now : Moment = record { parts = c.args.parts.now; lanes = all.lanes.items } in
+    let lane = c.index_mut.result.now in
+    let size = ap (λ (all : ChannelsState). length all.lanes) c.self.view_is in
+    let number = c.requires.number in
+    let at = lane-there all.lanes.items c.args.number lane (omega arith) c.index_mut.ensures.value
+    in
+    turned-there (pulled c.args.cycle) now c.args.number lane
+    (c.take_one.new.parts, c.take_one.new.lane) at c.take_one.ensures
+    ∙ ap (λ (all : ChannelsState). turned (pulled c.args.cycle)
+    (record { parts = c.args.parts.now; lanes = all.lanes }) c.args.number) c.self.view_is

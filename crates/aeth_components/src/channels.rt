@@ -1,0 +1,195 @@
+// The channels of a network, and which of them have something to do.
+
+ghost use Rattle.std.specs.Prelude.{◌≡◌, ◌<◌, ◌≤◌, ◌+◌, ◌^◌, All, IfOk, fold, length, map};
+ghost use Rattle.std.specs.Prelude.{slice_set};
+ghost use Rattle.aeth_components.specs.Busy.{IsIdle, IsQuiet};
+ghost use Rattle.aeth_components.specs.Channels.{AreStill, OfLane};
+ghost use Rattle.aeth_components.specs.Counting.{counted, noted};
+ghost use Rattle.aeth_components.specs.Frames.{frame_of};
+ghost use Rattle.aeth_components.specs.Lanes.{IsLane, with_lane};
+ghost use Rattle.aeth_components.specs.Phases.{in_turn, pulled, refilled, turned};
+
+use crate::busy::{all_marked, mark, next};
+use crate::counting::count_one;
+use crate::lane::Lane;
+use crate::phases::{hush, refill_one, settle, take_one};
+use aeth_base::NoMemory;
+use aeth_router::Part;
+use std::alloc::Global;
+use std::marker::Model;
+
+/// The channels, each with its session of the time, and the words of all sessions. A phase of a
+/// cycle passes over channels that have nothing to do in it.
+#[derive(Drop)]
+pub(crate) struct Channels {
+    lanes: Vec<Lane>,
+    words: Vec<u32>,
+    // Masks of the channels that may not be idle, and of those that may not be quiet.
+    busy: Vec<u64>,
+    active: Vec<u64>,
+}
+
+impl Model for Channels {
+    ghost use Rattle.aeth_components.specs.Busy.{AreNoted};
+    ghost use Rattle.aeth_components.specs.Channels.{ChannelsState};
+
+    ghost Value = { ChannelsState };
+
+    ghost view = { λ all. record { lanes = all.lanes.items; words = all.words.items } };
+
+    ghost invariant = { λ all. AreNoted all.busy.items all.active.items all.lanes.items };
+}
+
+impl Channels {
+    /// These channels, with the words of all sessions. Later calls take no memory.
+    pub(crate) fn new(
+        alloc: Global,
+        lanes: Vec<Lane>,
+        words: Vec<u32>,
+    ) -> Result<Channels, NoMemory>
+        ensures { IfOk result (λ made. made ≡ record { lanes = lanes.items; words = words.items }) }
+    {
+        let busy = all_marked(alloc, lanes.len())?;
+        let active = all_marked(alloc, lanes.len())?;
+        Ok(Channels {
+            lanes,
+            words,
+            busy,
+            active,
+        })
+    }
+
+    /// The channels.
+    pub(crate) fn lanes(&self) -> &[Lane]
+        ensures { result.now ≡ self.now.lanes }
+    {
+        &self.lanes
+    }
+
+    /// A channel has another session from now on.
+    pub(crate) fn load(&mut self, number: usize, lane: Lane)
+        requires { number < length self.old.lanes }
+        ensures { self.new ≡ record self.old { lanes = slice_set self.old.lanes number lane } }
+    {
+        self.lanes[number] = lane;
+        mark(&mut self.busy, number);
+        mark(&mut self.active, number);
+    }
+
+    /// Each channel in its turn hands its accepted words to its source queue.
+    pub(crate) fn refill(&mut self, parts: &mut [Part], cycle: u32)
+        requires { All (IsLane (length self.old.words) (length parts.old)) self.old.lanes }
+        ensures turns { record { parts = parts.new; lanes = self.new.lanes }
+            ≡ in_turn (refilled self.old.words cycle)
+            (record { parts = parts.old; lanes = self.old.lanes }) }
+        ensures words { self.new.words ≡ self.old.words }
+        ensures lanes { All (IsLane (length self.new.words) (length parts.new)) self.new.lanes }
+        ensures frames { map frame_of parts.new ≡ map frame_of parts.old }
+    {
+        let mut number = self.next_active(0);
+        'turns: while number < self.len() {
+            self.refill_one(parts, number, cycle);
+            number = self.next_active(number + 1);
+        }
+    }
+
+    /// Each receiver in its turn takes.
+    pub(crate) fn take(&mut self, parts: &mut [Part], cycle: u32)
+        requires { All (IsLane (length self.old.words) (length parts.old)) self.old.lanes }
+        ensures turns { record { parts = parts.new; lanes = self.new.lanes }
+            ≡ in_turn (pulled cycle) (record { parts = parts.old; lanes = self.old.lanes }) }
+        ensures words { self.new.words ≡ self.old.words }
+        ensures lanes { All (IsLane (length self.new.words) (length parts.new)) self.new.lanes }
+        ensures frames { map frame_of parts.new ≡ map frame_of parts.old }
+    {
+        let mut number = self.next_active(0);
+        'turns: while number < self.len() {
+            self.take_one(parts, number, cycle);
+            number = self.next_active(number + 1);
+        }
+    }
+
+    /// Counts what has landed of each channel, and notes the cycle.
+    pub(crate) fn count(&mut self, parts: &[Part], landings: &mut [u32], cycle: u32)
+        requires cycle { cycle + 1 < 2 ^ 32 }
+        requires lanes { All (IsLane (length landings.old) (length parts.now)) self.old.lanes }
+        ensures lanes { self.new.lanes ≡ map (counted cycle parts.now) self.old.lanes }
+        ensures words { self.new.words ≡ self.old.words }
+        ensures landings { landings.new ≡ fold (noted cycle parts.now) landings.old self.old.lanes }
+    {
+        let mut number = self.next_busy(0);
+        'turns: while number < self.len() {
+            self.count_one(parts, number, landings, cycle);
+            number = self.next_busy(number + 1);
+        }
+    }
+
+    // How many channels there are.
+    fn len(&self) -> usize
+        ensures { result ≡ length self.now.lanes }
+    {
+        self.lanes.len()
+    }
+
+    // The first channel from a number on that may hand words on or take them.
+    fn next_active(&self, from: usize) -> usize
+        requires { from ≤ length self.now.lanes }
+        ensures from { from ≤ result }
+        ensures end { result ≤ length self.now.lanes }
+        ensures still { AreStill IsQuiet self.now.lanes from result }
+    {
+        next(&self.active, from, self.lanes.len())
+    }
+
+    // The first channel from a number on of which words may land.
+    fn next_busy(&self, from: usize) -> usize
+        requires { from ≤ length self.now.lanes }
+        ensures from { from ≤ result }
+        ensures end { result ≤ length self.now.lanes }
+        ensures still { AreStill IsIdle self.now.lanes from result }
+    {
+        next(&self.busy, from, self.lanes.len())
+    }
+
+    // One channel hands its accepted words on.
+    fn refill_one(&mut self, parts: &mut [Part], number: usize, cycle: u32)
+        requires number { number < length self.old.lanes }
+        requires lanes { All (IsLane (length self.old.words) (length parts.old)) self.old.lanes }
+        ensures turn { record { parts = parts.new; lanes = self.new.lanes }
+            ≡ turned (refilled self.old.words cycle)
+            (record { parts = parts.old; lanes = self.old.lanes }) number }
+        ensures words { self.new.words ≡ self.old.words }
+    {
+        refill_one(parts, &mut self.lanes[number], &self.words, cycle);
+    }
+
+    // One receiver takes.
+    fn take_one(&mut self, parts: &mut [Part], number: usize, cycle: u32)
+        requires number { number < length self.old.lanes }
+        requires lanes { All (IsLane (length self.old.words) (length parts.old)) self.old.lanes }
+        ensures turn { record { parts = parts.new; lanes = self.new.lanes }
+            ≡ turned (pulled cycle) (record { parts = parts.old; lanes = self.old.lanes }) number }
+        ensures words { self.new.words ≡ self.old.words }
+    {
+        take_one(parts, &mut self.lanes[number], cycle);
+        settle(&mut self.busy, &self.lanes, number);
+        hush(&mut self.active, &self.lanes, number);
+    }
+
+    // Counts what has landed of one channel, and notes the cycle. A channel of which words have
+    // landed is no longer quiet.
+    fn count_one(&mut self, parts: &[Part], number: usize, landings: &mut [u32], cycle: u32)
+        requires cycle { cycle + 1 < 2 ^ 32 }
+        requires number { number < length self.old.lanes }
+        requires lane { OfLane self.old.lanes number
+            (IsLane (length landings.old) (length parts.now)) }
+        ensures lanes { self.new.lanes ≡ with_lane number (counted cycle parts.now) self.old.lanes }
+        ensures words { self.new.words ≡ self.old.words }
+        ensures landings { OfLane self.old.lanes number
+            (λ lane. landings.new ≡ noted cycle parts.now landings.old lane) }
+    {
+        if count_one(parts, &mut self.lanes[number], landings, cycle) {
+            mark(&mut self.active, number);
+        }
+    }
+}
