@@ -1,4 +1,5 @@
-//! Tests of numbers, names, readers of files, sinks and shelves, above the libraries that have them.
+//! Tests of numbers, names, readers of files, sinks and shelves, above the libraries that have
+//! them.
 #![tactic(auto)]
 
 #[cfg(test)]

@@ -1,4 +1,5 @@
-// The files that `demo` makes from a number. Their lines were drawn by hand, with another program's generator.
+// The files that `demo` makes from a number. Their lines were drawn by hand, with another program's
+// generator.
 use aeth_cli::demo_texts;
 use std::str;
 use std::test::Fail;

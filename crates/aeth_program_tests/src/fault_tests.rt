@@ -16,8 +16,8 @@ const FILES: [(&str, &str); 7] = [
     ("switches", "cycle,use,drain\n0,main,0\n"),
 ];
 
-/// Words, and the files that they have read, in their order: two calls of the shelf for each, of which either
-/// may fail. Then what they answer where a later call would fail.
+/// Words, and the files that they have read, in their order: two calls of the shelf for each, of
+/// which either may fail. Then what they answer where a later call would fail.
 const READS: [(&str, &[&str], &str); 5] = [
     ("app pair two", &["chip", "app"], "0 out app cores 3 "),
     ("allocate pair one", &["chip", "app"], "0 out plan 1 8;"),
@@ -88,8 +88,8 @@ fn a_file_after_a_failure_is_not_read(rt: HostRuntime) -> Result<(), Fail> {
     Ok(())
 }
 
-/// Words, the most bytes that a call on a sink takes, the failing calls on `out` and on `err`, and what must be
-/// answered.
+/// Words, the most bytes that a call on a sink takes, the failing calls on `out` and on `err`, and
+/// what must be answered.
 const SINKS: [(&str, usize, u64, u64, &str); 4] = [
     ("slots 8 2 4 0,1,2,3,4,5,6,7", 2, 1, 9, "5 out 0,"),
     ("slots 8 2 4 0,1,2,3,4,5,6,7", 64, 0, 9, "5"),

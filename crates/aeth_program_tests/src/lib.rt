@@ -1,4 +1,5 @@
-//! Tests of the program's commands that no row of `aeth_transcripts` can be: faults, and the files of `demo`.
+//! Tests of the program's commands that no row of `aeth_transcripts` can be: faults, and the files
+//! of `demo`.
 #![tactic(auto)]
 
 #[cfg(test)]
