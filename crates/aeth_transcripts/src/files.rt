@@ -18,8 +18,8 @@ pub(crate) fn named_files<H: Shelf>(
     Ok(files)
 }
 
-/// Changes the file that a change `FILE: CHANGE` names. A change that can't be made ends the program, so that no
-/// row says what it doesn't show.
+/// Changes the file that a change `FILE: CHANGE` names. A change that can't be made ends the
+/// program, so that no row says what it doesn't show.
 pub(crate) fn change_file(
     alloc: Global,
     files: &mut Vec<(String, Vec<u8>)>,
@@ -50,8 +50,9 @@ fn changed_bytes(alloc: Global, bytes: &[u8], change: &str) -> io::Result<Vec<u8
     Ok(changed_text(alloc, text, change.as_str())?.into_bytes())
 }
 
-// A text after a change: `OLD => NEW` puts one text in place of another, and `COUNT times ITEM before PLACE` puts
-// an item so many times before a place, with the numbers from 0 on in place of `#`.
+// A text after a change: `OLD => NEW` puts one text in place of another, and
+// `COUNT times ITEM before PLACE` puts an item so many times before a place, with the numbers from
+// 0 on in place of `#`.
 fn changed_text(alloc: Global, text: &str, change: &str) -> io::Result<String> {
     if let Some((old, new)) = change.split_once(" => ") {
         return replaced(alloc, text, old, new);

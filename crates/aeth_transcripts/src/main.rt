@@ -1,5 +1,5 @@
-//! A transcript of the program: for each row of standard input, the command that its words are, what it writes
-//! over the files of this folder, and the status with which it ends.
+//! A transcript of the program: for each row of standard input, the command that its words are,
+//! what it writes over the files of this folder, and the status with which it ends.
 #![tactic(auto)]
 
 mod files;

@@ -11,8 +11,9 @@ const AMPLE: usize = 99_999;
 
 /// The lines of a row over the files of a shelf.
 ///
-/// A row that begins with `#` is a heading, and its line is its own. Else a row is the words of a command, which
-/// stand apart by one space, and then ` | FILE: CHANGE` for each change of a file that the words name.
+/// A row that begins with `#` is a heading, and its line is its own. Else a row is the words of a
+/// command, which stand apart by one space, and then ` | FILE: CHANGE` for each change of a file
+/// that the words name.
 pub(crate) fn transcript<H: Shelf>(alloc: Global, row: &str, shelf: &mut H) -> io::Result<Vec<u8>> {
     if row.starts_with('#') {
         return Ok(format!(in alloc; "{row}\n")?.into_bytes());
@@ -37,8 +38,8 @@ fn words_of(alloc: Global, line: &str) -> io::Result<Vec<String>> {
     Ok(words)
 }
 
-// The row after `$ `, what its words write to `out`, what they write to `err` after a line `err`, and a line with
-// their status.
+// The row after `$ `, what its words write to `out`, what they write to `err` after a line `err`,
+// and a line with their status.
 fn said(alloc: Global, row: &str, words: &[String], mut shelf: MemShelf) -> io::Result<Vec<u8>> {
     let mut out = ample_sink(alloc)?;
     let mut err = ample_sink(alloc)?;
