@@ -5,6 +5,7 @@ import pty
 import shutil
 import subprocess
 import tempfile
+import unittest
 
 TOP = pathlib.Path(__file__).resolve().parent.parent
 PLACES = (TOP / "crates/aeth/out/aeth", TOP / "out/aeth")
@@ -80,7 +81,10 @@ class Home:
 
     def on_terminal(self, *words, **settings):
         """The status of `aeth`, and what it says where its messages go to a terminal."""
-        ours, theirs = pty.openpty()
+        try:
+            ours, theirs = pty.openpty()
+        except OSError as error:
+            raise unittest.SkipTest(f"there is no terminal to try: {error}") from error
         how = {"cwd": self.top, "env": {**self.settings, **settings}, "stdin": subprocess.DEVNULL}
         ran = subprocess.Popen([self.top / "aeth", *words], stdout=subprocess.DEVNULL, stderr=theirs, **how)
         os.close(theirs)

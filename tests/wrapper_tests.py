@@ -139,6 +139,14 @@ class Builds(WithHome):
         os.utime(self.main)
         self.says("main base middle", 1)
 
+    def test_calls_at_once(self):
+        self.says("main base middle", 1)
+        os.utime(self.main)
+        how = {"env": self.home.settings, "stdin": subprocess.DEVNULL, "stdout": subprocess.PIPE}
+        calls = [subprocess.Popen([self.home.top / "aeth"], **how) for _ in range(8)]
+        self.assertEqual({call.communicate()[0] for call in calls}, {b"main base middle : \n"})
+        self.assertEqual(self.home.built(), 1)
+
     def test_a_change_during_the_build_is_built_next(self):
         self.says("main base middle", 1, CHANGES=str(self.main))
         self.says("main changed base middle", 2)
