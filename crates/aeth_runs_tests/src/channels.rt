@@ -51,103 +51,96 @@ fn push_number(alloc: Global, text: &mut String, number: usize) -> Result<(), Fa
     Ok(())
 }
 
-/// The values of a channel's words, in their order.
-fn values_on(alloc: Global, words: &Words, channel: Channel) -> Result<String, Fail> {
-    let mut text = String::new(alloc);
+/// Pushes the values of a channel's words, in their order.
+fn push_values(
+    alloc: Global,
+    text: &mut String,
+    words: &Words,
+    channel: Channel,
+) -> Result<(), Fail> {
     for place in 0..words.count_on(channel) {
         let word = words.nth_word(channel, place);
-        push_number(alloc, &mut text, word.value as usize)?;
-    }
-    Ok(text)
-}
-
-#[test]
-fn words_stand_in_the_order_of_their_channel(rt: HostRuntime) -> Result<(), Fail> {
-    let words = words(rt.alloc())?;
-    for (conn, side, values) in [
-        (0, Side::Fwd, "579"),
-        (0, Side::Back, "8"),
-        (1, Side::Fwd, ""),
-        (1, Side::Back, "6"),
-    ] {
-        let told = values_on(rt.alloc(), &words, channel(conn, side))?;
-        assert_eq!(rt; told.as_str(), values);
+        push_number(alloc, text, word.value as usize)?;
     }
     Ok(())
 }
 
-/// How many words of a channel are offered up to each of the first six cycles.
-fn offered_on(alloc: Global, words: &Words, channel: Channel) -> Result<String, Fail> {
-    let mut text = String::new(alloc);
+/// Pushes how many words of a channel are offered up to each of the first six cycles.
+fn push_offered(
+    alloc: Global,
+    text: &mut String,
+    words: &Words,
+    channel: Channel,
+) -> Result<(), Fail> {
     let mut known = 0;
     for cycle in 0..6 {
         known = words.offered(channel, cycle, known);
-        push_number(alloc, &mut text, known)?;
-    }
-    Ok(text)
-}
-
-#[test]
-fn words_are_offered_from_their_cycle_on(rt: HostRuntime) -> Result<(), Fail> {
-    let words = words(rt.alloc())?;
-    for (conn, side, counts) in [
-        (0, Side::Fwd, "222233"),
-        (0, Side::Back, "000111"),
-        (1, Side::Fwd, "000000"),
-        (1, Side::Back, "111111"),
-    ] {
-        let told = offered_on(rt.alloc(), &words, channel(conn, side))?;
-        assert_eq!(rt; told.as_str(), counts);
+        push_number(alloc, text, known)?;
     }
     Ok(())
 }
 
-/// What a channel's receiver takes in each of the first ten cycles.
-fn pulls_on(alloc: Global, receivers: &Receivers, channel: Channel) -> Result<String, Fail> {
-    let mut text = String::new(alloc);
+/// Pushes what a channel's receiver takes in each of the first ten cycles.
+fn push_pulls(
+    alloc: Global,
+    text: &mut String,
+    receivers: &Receivers,
+    channel: Channel,
+) -> Result<(), Fail> {
     for cycle in 0..10 {
-        let taken = pull(receivers, channel, cycle);
-        push_number(alloc, &mut text, taken as usize)?;
+        push_number(alloc, text, pull(receivers, channel, cycle) as usize)?;
     }
-    Ok(text)
+    Ok(())
 }
 
 /// The same, as a run asks from cycle to cycle.
-fn next_pulls_on(alloc: Global, receivers: &Receivers, channel: Channel) -> Result<String, Fail> {
-    let mut text = String::new(alloc);
+fn push_next_pulls(
+    alloc: Global,
+    text: &mut String,
+    receivers: &Receivers,
+    channel: Channel,
+) -> Result<(), Fail> {
     let mut known = 0;
     for cycle in 0..10 {
         let taken = receivers.next_pull(channel, cycle, &mut known);
-        push_number(alloc, &mut text, taken as usize)?;
+        push_number(alloc, text, taken as usize)?;
     }
-    Ok(text)
-}
-
-/// What each receiver takes in each of the first ten cycles.
-const PULLS: [(u32, Side, &str); 4] = [
-    (0, Side::Fwd, "0000077744"),
-    (0, Side::Back, "2229999999"),
-    (1, Side::Fwd, "2222221111"),
-    (1, Side::Back, "2222222222"),
-];
-
-#[test]
-fn the_last_row_that_is_not_later_counts(rt: HostRuntime) -> Result<(), Fail> {
-    let receivers = receivers(rt.alloc())?;
-    for (conn, side, pulls) in PULLS {
-        let told = pulls_on(rt.alloc(), &receivers, channel(conn, side))?;
-        assert_eq!(rt; told.as_str(), pulls);
-    }
-    assert_eq!(rt; pull(&receivers, channel(0, Side::Fwd), 1_000_000), 4);
     Ok(())
 }
 
+/// All of these, each after a space.
+fn told_of(
+    alloc: Global,
+    words: &Words,
+    receivers: &Receivers,
+    channel: Channel,
+) -> Result<String, Fail> {
+    let mut text = String::new(alloc);
+    push_values(alloc, &mut text, words, channel)?;
+    text.push_str(" ")?;
+    push_offered(alloc, &mut text, words, channel)?;
+    text.push_str(" ")?;
+    push_pulls(alloc, &mut text, receivers, channel)?;
+    text.push_str(" ")?;
+    push_next_pulls(alloc, &mut text, receivers, channel)?;
+    Ok(text)
+}
+
+/// What is told of each channel.
+const CHANNELS: [(u32, Side, &str); 4] = [
+    (0, Side::Fwd, "579 222233 0000077744 0000077744"),
+    (0, Side::Back, "8 000111 2229999999 2229999999"),
+    (1, Side::Fwd, " 000000 2222221111 2222221111"),
+    (1, Side::Back, "6 111111 2222222222 2222222222"),
+];
+
 #[test]
-fn pulls_are_found_from_cycle_to_cycle(rt: HostRuntime) -> Result<(), Fail> {
+fn channels_have_their_words_and_pulls(rt: HostRuntime) -> Result<(), Fail> {
+    let words = words(rt.alloc())?;
     let receivers = receivers(rt.alloc())?;
-    for (conn, side, pulls) in PULLS {
-        let told = next_pulls_on(rt.alloc(), &receivers, channel(conn, side))?;
-        assert_eq!(rt; told.as_str(), pulls);
+    for (conn, side, answer) in CHANNELS {
+        let told = told_of(rt.alloc(), &words, &receivers, channel(conn, side))?;
+        assert_eq!(rt; told.as_str(), answer);
     }
     Ok(())
 }

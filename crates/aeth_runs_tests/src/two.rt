@@ -1,10 +1,7 @@
 // Two connections over a pair of routers, and two use cases: `u0` has `c0`, and `u1` has `c0` and
 // `c1`.
-ghost use Rattle.std.specs.Prelude.{◌≡◌, IfOk};
-
 use aeth_app::{App, read_app};
 use aeth_chip::{Chip, read_chip};
-use aeth_trace::Spans;
 use std::alloc::Global;
 use std::test::Fail;
 
@@ -57,12 +54,4 @@ pub(crate) fn two(alloc: Global) -> Result<App, Fail> {
         Ok(app) => Ok(app),
         Err(_) => Err(Fail::from("an application")),
     }
-}
-
-/// What its switches take: `c1` opens by 4 writes, and closes by 4 writes after 3 links.
-pub(crate) fn spans_of_two(alloc: Global) -> Result<Spans, Fail>
-    ensures { IfOk result (λ spans. spans.uses ≡ 2) }
-{
-    let pairs = vec![in alloc; (0, 0), (0, 4), (3, 4), (0, 0)]?;
-    Ok(Spans::new(2, pairs))
 }

@@ -1,7 +1,7 @@
 use Rattle.std.proofs.Common.{◌+◌, arith}
 use Rattle.aeth_trace.specs.Words.{words_on}
 use Rattle.aeth_trace.proofs.OrderLemmas.{until_later}
-use Rattle.aeth_runs_tests.proofs.channels.offered_on.Goals as goal
+use Rattle.aeth_runs_tests.proofs.channels.push_offered.Goals as goal
 
 -- Up to the next cycle there aren't fewer.
 pub loop-cycle-preserved : goal.loop-cycle-preserved
