@@ -1,28 +1,20 @@
 -- Laws of the answer to an allocation.
-use Rattle.std.proofs.Common.{◌≡◌, List, [], ◌∷◌}
+use Rattle.std.proofs.Common.{◌≡◌, ◌≢◌, ◌<◌, List, [], ◌∷◌, arith}
 use Rattle.aeth_alloc.specs.Allocation.{OutcomeData}
 use Rattle.aeth_alloc.specs.declared.outcome.Refused.{Refused}
 use Rattle.aeth_app.specs.App.{AppData}
 use Rattle.aeth_chip.specs.Chip.{ChipData}
-use Rattle.aeth_plan.specs.PlanText.{plan_text}
-use Rattle.aeth_cli.specs.Commands.Allocate.{allocation_job, outcome_job, refusals_text}
-use Rattle.aeth_cli.specs.Job.{Job}
-use Rattle.aeth_cli.specs.Places.{Files}
-use Rattle.aeth_cli.specs.Task.{IsAnswer, ends}
-use Rattle.aeth_cli.proofs.FileLemmas.{IsAnswer-done, IsAnswer-not_granted}
+use Rattle.aeth_answers.specs.Status.{read_fault_status, usage_status}
+use Rattle.aeth_cli.specs.Commands.Allocate.{outcome_job}
 
--- What an allocation comes to ends a task, whatever units are refused.
-IsAnswer-refused : (now : Files) (chip : ChipData) (app : AppData) (outcome : OutcomeData)
-    (refused : List Refused) (answer : Job) → answer ≡ outcome_job chip app outcome refused
-    → IsAnswer now now (ends (outcome_job chip app outcome refused)) answer
-IsAnswer-refused now chip app outcome [] answer is =
-    IsAnswer-done now (plan_text chip app outcome.plan) answer is
-IsAnswer-refused now chip app outcome (first ∷ others) answer is =
-    IsAnswer-not_granted now (refusals_text app (first ∷ others)) answer is
+module _ (chip : ChipData) (app : AppData) (outcome : OutcomeData) where
+  -- The job of an allocation is below a read fault, and isn't usage.
+  pub outcome_job-below : (refused : List Refused)
+      → (outcome_job chip app outcome refused).status < read_fault_status
+  outcome_job-below [] = omega arith
+  outcome_job-below (first ∷ others) = omega arith
 
--- What an allocation comes to ends a task.
-pub IsAnswer-outcome_job : (now : Files) (chip : ChipData) (app : AppData) (outcome : OutcomeData)
-    (answer : Job) → answer ≡ allocation_job chip app outcome
-    → IsAnswer now now (ends (allocation_job chip app outcome)) answer
-IsAnswer-outcome_job now chip app outcome answer is =
-    IsAnswer-refused now chip app outcome outcome.refused answer is
+  pub outcome_job-command : (refused : List Refused)
+      → (outcome_job chip app outcome refused).status ≢ usage_status
+  outcome_job-command [] = λ usage. omega (arith, usage)
+  outcome_job-command (first ∷ others) = λ usage. omega (arith, usage)

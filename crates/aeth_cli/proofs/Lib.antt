@@ -1,9 +1,8 @@
 mod AllocationLemmas
+mod CommandLemmas
 mod DemoLemmas
-mod FileLemmas
-mod Listing
+mod DesignLemmas
 mod PromiseLemmas
-mod Reading
 mod RunLemmas
-mod TaskLemmas
-mod TotalLemmas
+mod ToldLemmas
+mod TraceLemmas

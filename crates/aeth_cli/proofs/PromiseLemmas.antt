@@ -1,20 +1,22 @@
--- Laws of the promise: what an answer that is written keeps of it.
-use Rattle.std.proofs.Common.{◌≡◌, ◌≢◌, ◌≤◌, ◌<◌, ℕ, List, Option, Some, None, inl, inr}
-use Rattle.std.proofs.Common.{ap, refl, arith}
+-- Laws of the promise: what an answer keeps of it, once its text was written or cut short.
+use Rattle.std.proofs.Common.{◌≡◌, ◌≢◌, ◌∙◌, ◌≤◌, ◌<◌, ℕ, List, Option, Some, None, inl, inr}
+use Rattle.std.proofs.Common.{ap, refl, subst, sym, arith}
 use Rattle.std.proofs.Math.Nat.{eq-or-lt_of_le}
 use Rattle.std.proofs.lemmas.Option.{same_Some}
 use Rattle.aeth_accepted.specs.Inputs.{Inputs}
-use Rattle.aeth_io.specs.Sink.{appended}
 use Rattle.aeth_io.specs.declared.shelf.Shelf as shelf
 use Rattle.aeth_io.specs.declared.sink.Sink as sink
 use Rattle.aeth_report.specs.Log.{LogData}
+use Rattle.aeth_answers.specs.Job.{Job, err_text, usage}
+use Rattle.aeth_answers.specs.Places.{Files, IsAfter, Places, files_of}
+use Rattle.aeth_answers.specs.Status.{done_status, memory_status, read_fault_status, usage_status}
+use Rattle.aeth_answers.specs.Status.{write_fault_status}
+use Rattle.aeth_answers.specs.Task.{IsReadFault}
+use Rattle.aeth_answers.specs.Writing.{EndsWith, IsCutShort, IsWritten}
+use Rattle.aeth_answers.proofs.TaskLemmas.{ComesTo-job}
 use Rattle.aeth_cli.specs.declared.commands.Command.{Command}
-use Rattle.aeth_cli.specs.Commands.{IsAnswerTo, asked_job, command_of, task_of}
-use Rattle.aeth_cli.specs.Job.{Job, err_text, out_text, usage}
-use Rattle.aeth_cli.specs.Places.{Files, Places, files_of}
-use Rattle.aeth_cli.specs.Promise.{Promise}
-use Rattle.aeth_cli.specs.Status.{done_status, read_fault_status, usage_status}
-use Rattle.aeth_cli.specs.Task.{IsReadFault}
+use Rattle.aeth_cli.specs.Commands.{IsAnswerTo, WordsComeTo, asked_job, command_of, task_of}
+use Rattle.aeth_cli.specs.Promise.{Promise, sinks_of}
 
 module _ (outcome : Inputs → LogData) (old new : Files) (answer : Job) where
   -- The status of an answer is at most that of a read fault.
@@ -23,12 +25,11 @@ module _ (outcome : Inputs → LogData) (old new : Files) (answer : Job) where
   answer_within None is = rw is (omega arith)
   answer_within (Some command) is = is.within
 
-  -- Below that, the answer is the job.
-  answer_is_job : (said : Option Command) → IsAnswerTo outcome old new said answer
-      → answer.status < read_fault_status
-      → (asked : Job) → asked_job outcome old.content said ≡ Some asked → answer ≡ asked
-  answer_is_job None is below asked told = rw is (same_Some usage asked told)
-  answer_is_job (Some command) is below asked told = is.job below asked told
+  -- Below that, the words come to the answer.
+  answer_comes : (said : Option Command) → IsAnswerTo outcome old new said answer
+      → answer.status < read_fault_status → WordsComeTo outcome old.content said answer
+  answer_comes None is below = is
+  answer_comes (Some command) is below = is.job below
 
   -- An answer is usage where the words are no command.
   answer_is_usage : (said : Option Command) → IsAnswerTo outcome old new said answer
@@ -44,46 +45,125 @@ module _ (outcome : Inputs → LogData) (old new : Files) (answer : Job) where
   answer_is_fault None is fault = absurd (omega (arith, ap (λ (job : Job). job.status) is, fault))
   answer_is_fault (Some command) is fault = (command, refl, is.fault fault)
 
+-- What words come to is their job, where the contents on which it rests are told.
+words_job : (outcome : Inputs → LogData) (content : List ℕ → Option (List ℕ))
+    (said : Option Command) (answer asked : Job) → WordsComeTo outcome content said answer
+    → asked_job outcome content said ≡ Some asked → answer ≡ asked
+words_job outcome content None answer asked is told = is ∙ same_Some usage asked told
+words_job outcome content (Some command) answer asked is told =
+    ComesTo-job content (task_of outcome command) answer asked is told
+
 -- The text of an answer that isn't done goes to `err`.
 err_text-whole : (answer : Job) → answer.status ≡ read_fault_status → err_text answer ≡ answer.text
 err_text-whole answer fault = rw fault refl
 
--- Once the text of an answer was written, its status keeps the promise.
-pub Promise-written : {H O E : Type 0} (outcome : Inputs → LogData) (h : shelf.Ghosts H)
-    (o : sink.Ghosts O) (e : sink.Ghosts E) (words : List (List ℕ)) (old new : Places H O E)
-    (answer : Job)
-    → IsAnswerTo outcome (files_of h old.shelf) (files_of h new.shelf) (command_of words) answer
-    → o.written new.out ≡ appended (o.written old.out) (out_text answer)
-    → e.written new.err ≡ appended (e.written old.err) (err_text answer)
-    → (answer.status ≢ done_status → new.out ≡ old.out)
-    → Promise outcome h o e words old new answer.status
-Promise-written outcome h o e words old new answer is out err rest =
-    let from = files_of h old.shelf in
-    let to = files_of h new.shelf in
-    let said = command_of words in
-    let within = answer_within outcome from to answer said is in
-    let same = answer_is_job outcome from to answer said is in record {
-      statuses = omega (arith, within);
-      status_is = λ below asked told. ap (λ (job : Job). job.status) (same below asked told);
-      out_is = λ below asked told. rw (← same below asked told) out;
-      err_is = λ below asked told. rw (← same below asked told) err;
-      usage_only = answer_is_usage outcome from to answer said is;
-      read_fault = λ fault. let it = answer_is_fault outcome from to answer said is fault in (
-        it.0,
-        answer,
-        it.1,
-        it.2,
-        rw (← err_text-whole answer fault) err,
-        rest (λ done. omega (arith, fault, done)),
-      );
-      write_fault = λ fault. absurd (omega (arith, within, fault));
-      memory_out = λ memory. absurd (omega (arith, within, memory));
-      memory_err = λ memory. absurd (omega (arith, within, memory));
-      complete = λ out_fine err_fine shelf_fine asked told.
-          elim (eq-or-lt_of_le within) [
-            | inl fault ↦
-                let it = answer_is_fault outcome from to answer said is fault in
-                absurd (shelf_fine it.2.name it.2.rose)
-            | inr below ↦ inl (ap (λ (job : Job). job.status) (same below asked told))
-          ];
+module _ {H O E : Type 0} (outcome : Inputs → LogData) (h : shelf.Ghosts H) (o : sink.Ghosts O)
+    (e : sink.Ghosts E) (words : List (List ℕ)) (old new : Places H O E)
+    (after : IsAfter (files_of h old.shelf) (files_of h new.shelf)) where
+  -- Where memory was wanting, the promise is kept, if the sinks are as before.
+  pub Promise-memory : new.out ≡ old.out → new.err ≡ old.err
+      → Promise outcome h o e words old new memory_status
+  Promise-memory out err =
+      let out_same : o.faults new.out ≡ o.faults old.out = ap o.faults out in
+      let err_same : e.faults new.err ≡ e.faults old.err = ap e.faults err in record {
+        statuses = omega arith;
+        shelf_is = after;
+        out_later = omega (arith, out_same);
+        err_later = omega (arith, err_same);
+        status_is = λ below. absurd (omega (arith, below));
+        out_is = λ below. absurd (omega (arith, below));
+        err_is = λ below. absurd (omega (arith, below));
+        answered = λ below. absurd (omega (arith, below));
+        err_kept = λ _. err;
+        out_kept = λ _ _. out;
+        usage_only = λ usage. absurd (omega (arith, usage));
+        read_fault = λ fault. absurd (omega (arith, fault));
+        write_fault = λ fault. absurd (omega (arith, fault));
+        memory_out = λ _. out;
+        memory_err = λ _. err;
+        complete = λ _ _ _. inr refl;
+      }
+
+  module _ (answer : Job) (is : IsAnswerTo outcome (files_of h old.shelf) (files_of h new.shelf)
+      (command_of words) answer)
+      (out_later : o.faults old.out ≤ o.faults new.out)
+      (err_later : e.faults old.err ≤ e.faults new.err) where
+    -- Once the text of an answer was written, its status keeps the promise.
+    Promise-written : IsWritten o e (sinks_of old) (sinks_of new) answer
+        → Promise outcome h o e words old new answer.status
+    Promise-written written =
+        let from = files_of h old.shelf in
+        let to = files_of h new.shelf in
+        let said = command_of words in
+        let within = answer_within outcome from to answer said is in
+        let comes = answer_comes outcome from to answer said is in
+        let same : answer.status < read_fault_status → (asked : Job)
+        → asked_job outcome from.content said ≡ Some asked → answer ≡ asked =
+        λ below asked told. words_job outcome from.content said answer asked (comes below) told in
+        record {
+          statuses = omega (arith, within);
+          shelf_is = after;
+          out_later = out_later;
+          err_later = err_later;
+          status_is = λ below asked told. ap (λ (job : Job). job.status) (same below asked told);
+          out_is = λ below asked told. rw (← same below asked told) written.out;
+          err_is = λ below asked told. rw (← same below asked told) written.err;
+          answered = λ below. (answer, comes below, refl, written.out, written.err);
+          err_kept = written.err_kept;
+          out_kept = λ _. written.out_kept;
+          usage_only = answer_is_usage outcome from to answer said is;
+          read_fault = λ fault. let it = answer_is_fault outcome from to answer said is fault in (
+            it.0,
+            answer,
+            it.1,
+            it.2,
+            rw (← err_text-whole answer fault) written.err,
+            written.out_kept (λ done. omega (arith, fault, done)),
+          );
+          write_fault = λ fault. absurd (omega (arith, within, fault));
+          memory_out = λ memory. absurd (omega (arith, within, memory));
+          memory_err = λ memory. absurd (omega (arith, within, memory));
+          complete = λ out_fine err_fine shelf_fine.
+              elim (eq-or-lt_of_le within) [
+                | inl fault ↦
+                    let it = answer_is_fault outcome from to answer said is fault in
+                    absurd (shelf_fine it.2.name it.2.rose)
+                | inr below ↦ inl below
+              ];
+        }
+
+    -- A sink that failed gives a write fault.
+    Promise-cut : IsCutShort o e (sinks_of old) (sinks_of new) answer
+        → Promise outcome h o e words old new write_fault_status
+    Promise-cut cut = record {
+      statuses = omega arith;
+      shelf_is = after;
+      out_later = out_later;
+      err_later = err_later;
+      status_is = λ below. absurd (omega (arith, below));
+      out_is = λ below. absurd (omega (arith, below));
+      err_is = λ below. absurd (omega (arith, below));
+      answered = λ below. absurd (omega (arith, below));
+      err_kept = λ done. absurd (omega (arith, done));
+      out_kept = λ below. absurd (omega (arith, below));
+      usage_only = λ usage. absurd (omega (arith, usage));
+      read_fault = λ fault. absurd (omega (arith, fault));
+      write_fault = λ _. (answer, is, cut);
+      memory_out = λ memory. absurd (omega (arith, memory));
+      memory_err = λ memory. absurd (omega (arith, memory));
+      complete = λ out_fine err_fine _. elim cut [
+        | inl out ↦ absurd (out_fine out.0)
+        | inr err ↦ absurd (err_fine err.0)
+      ];
     }
+
+    -- Either way the status keeps the promise.
+    pub Promise-ended : (status : ℕ)
+        → EndsWith o e (sinks_of old) (sinks_of new) answer status
+        → Promise outcome h o e words old new status
+    Promise-ended status ends =
+        let Keeps : ℕ → Type 0 = λ one. Promise outcome h o e words old new one in
+        elim ends.ended [
+          | inl whole ↦ subst Keeps (sym whole.0) (Promise-written whole.1)
+          | inr cut ↦ subst Keeps (sym cut.0) (Promise-cut cut.1)
+        ]

@@ -9,7 +9,7 @@ pub mod Server
 pub mod Simulate
 pub mod Slots
 pub mod Tables
-use Rattle.std.specs.Prelude.{ℕ, ◌≡◌, ◌≤◌, ⊤, List, [], ◌∷◌, Option, Some, None, codes}
+use Rattle.std.specs.Prelude.{ℕ, ◌≡◌, ◌≤◌, ⊤, List, [], ◌∷◌, Option, Some, None, Result, codes}
 use Rattle.std.specs.Prelude.{if◌then◌else◌}
 use Rattle.std.specs.Str.{bytes_eq}
 use Rattle.aeth_accepted.specs.Inputs.{Inputs}
@@ -27,9 +27,11 @@ use Rattle.aeth_cli.specs.Commands.Server.{latency_job, server_command}
 use Rattle.aeth_cli.specs.Commands.Simulate.{simulate_command, simulate_task}
 use Rattle.aeth_cli.specs.Commands.Slots.{chosen_job, slots_command}
 use Rattle.aeth_cli.specs.Commands.Tables.{tables_command, tables_task}
-use Rattle.aeth_cli.specs.Job.{Job, usage}
-use Rattle.aeth_cli.specs.Places.{Files}
-use Rattle.aeth_cli.specs.Task.{IsAnswer, Task, ends, job_with}
+use Rattle.aeth_answers.specs.Job.{Job, usage}
+use Rattle.aeth_answers.specs.Places.{Files, IsAfter}
+use Rattle.aeth_answers.specs.Stop.{IfAnswer}
+use Rattle.aeth_answers.specs.declared.answer.Stop.{Stop}
+use Rattle.aeth_answers.specs.Task.{ComesTo, IsAnswer, Task, ends, job_with}
 
 -- The command that the words are, if they are one: the first is its name.
 abbrev pub command_of : List (List ℕ) → Option Command
@@ -72,6 +74,12 @@ module _ (outcome : Inputs → LogData) where
   task_of (command.Simulate files cycles turn) = simulate_task outcome files cycles
   task_of (command.Demo number) = demo_task outcome number
 
+  -- What words come to: a command to the job of its task, with some bytes for each file that isn't
+  -- told; words that are none to usage.
+  abbrev pub WordsComeTo : (List ℕ → Option (List ℕ)) → Option Command → Job → Type 0
+  WordsComeTo content None answer = answer ≡ usage
+  WordsComeTo content (Some command) answer = ComesTo content (task_of command) answer
+
   -- What is asked for by a command, or by words that are none, where the contents on which it rests
   -- are told.
   abbrev pub asked_job : (List ℕ → Option (List ℕ)) → Option Command → Option Job
@@ -86,3 +94,9 @@ module _ (outcome : Inputs → LogData) where
   abbrev pub IsAnswerTo : Files → Files → Option Command → Job → Type 0
   IsAnswerTo old new None answer = answer ≡ usage
   IsAnswerTo old new (Some command) answer = IsAnswer old new (task_of command) answer
+
+  -- A call answers a command, or words that are none, and whatever it comes to, it only read.
+  pub record AnswersWords (old new : Files) (said : Option Command) (result : Result Job Stop)
+      : Type 0 where
+    pub after : IsAfter old new
+    pub answers : IfAnswer result (IsAnswerTo old new said)

@@ -1,20 +1,17 @@
 -- Files that a command reads and judges, one after the other.
 --
---   text_file             a file that isn't too long
---   judgement             what a file tells, or the end by the rule that it breaks
---   judged_file           a file that is read and judged
 --   chip_file, app_file   a chip file; an application file
+--   design_file           a chip file, and an application file for the chip
 --   plan_file             a plan text
 --   words_file, receivers_file, switches_file      traces
+--   traces_files          the three traces
 -- This project's own.
-use Rattle.std.specs.Prelude.{ℕ, nat_le, List, length, Result, Ok, Err, codes, if◌then◌else◌}
+use Rattle.std.specs.Prelude.{ℕ, List, codes}
 use Rattle.aeth_app.specs.App.{AppData}
 use Rattle.aeth_app.specs.AppFile.{app_of}
-use Rattle.aeth_base.specs.Faults.{BrokenRule}
 use Rattle.aeth_chip.specs.Chip.{ChipData}
 use Rattle.aeth_chip.specs.ChipFile.{chip_of}
 use Rattle.aeth_group.specs.Members.{groups_of}
-use Rattle.aeth_io.specs.Limits.{max_file_bytes}
 use Rattle.aeth_plan.specs.Plan.{PlanData}
 use Rattle.aeth_plan.specs.PlanText.{plan_of}
 use Rattle.aeth_trace.specs.Receivers.{receivers_of}
@@ -24,26 +21,11 @@ use Rattle.aeth_trace.specs.Words.{words_of}
 use Rattle.aeth_trace.specs.declared.receivers.PullRow.{PullRow}
 use Rattle.aeth_trace.specs.declared.switches.SwitchRow.{SwitchRow}
 use Rattle.aeth_trace.specs.declared.words.WordRow.{WordRow}
-use Rattle.aeth_cli.specs.Refusal.{refused_file, too_long}
-use Rattle.aeth_cli.specs.Task.{Judging, ends, reads}
-
--- A file is read, by its word in texts and its name on the shelf, and mustn't be too long.
-abbrev pub text_file : List ℕ → List ℕ → Judging (List ℕ)
-text_file file name next =
-    reads file name
-    (λ bytes. if nat_le (length bytes) max_file_bytes then next bytes
-    else ends (refused_file file too_long))
-
--- What comes of a value, or the end by the rule that the file breaks.
-abbrev pub judgement : {A : Type 0} → List ℕ → Result A BrokenRule → Judging A
-judgement file (Ok value) next = next value
-judgement file (Err broken) next = ends (refused_file file broken)
-
--- A file is read, and judged by what its bytes tell.
-abbrev pub judged_file : {A : Type 0} → List ℕ → (List ℕ → Result A BrokenRule) → List ℕ
-    → Judging A
-judged_file file told_by name next =
-    text_file file name (λ bytes. judgement file (told_by bytes) next)
+use Rattle.aeth_playing.specs.declared.inputs.Design.{Design}
+use Rattle.aeth_playing.specs.declared.inputs.Traces.{Traces}
+use Rattle.aeth_answers.specs.Files.{judged_file}
+use Rattle.aeth_answers.specs.Task.{Judging}
+use Rattle.aeth_cli.specs.declared.traces.RunFiles.{RunFiles}
 
 -- A chip file.
 abbrev pub chip_file : List ℕ → Judging ChipData
@@ -52,6 +34,12 @@ chip_file name next = judged_file (codes "chip") chip_of name next
 -- An application file for a chip.
 abbrev pub app_file : ChipData → List ℕ → Judging AppData
 app_file chip name next = judged_file (codes "app") (app_of chip) name next
+
+-- A chip file, and then an application file for the chip.
+abbrev pub design_file : List ℕ → List ℕ → Judging Design
+design_file chip_name app_name next =
+    chip_file chip_name (λ chip.
+    app_file chip app_name (λ app. next (record { chip = chip; app = app })))
 
 -- A plan text for a chip and an application.
 abbrev pub plan_file : ChipData → AppData → List ℕ → Judging PlanData
@@ -69,3 +57,11 @@ receivers_file app name next = judged_file (codes "receivers") (receivers_of app
 -- A file of switches for an application, whose switches take so long.
 abbrev pub switches_file : AppData → SpanData → List ℕ → Judging (List SwitchRow)
 switches_file app spans name next = judged_file (codes "switches") (switches_of app spans) name next
+
+-- Words, receivers' rows and switches for an application, whose switches take so long.
+abbrev pub traces_files : AppData → SpanData → RunFiles → Judging Traces
+traces_files app spans files next =
+    words_file app files.words (λ words.
+    receivers_file app files.receivers (λ pulls.
+    switches_file app spans files.switches (λ switches.
+    next (record { words = words; receivers = pulls; switches = switches }))))

@@ -1,15 +1,7 @@
 pub mod Commands
 pub mod Files
-pub mod Job
 pub mod Limits
-pub mod Places
 pub mod Plans
 pub mod Promise
-pub mod Refusal
-pub mod Status
-pub mod Stop
-pub mod Task
-pub mod Text
-pub mod Totals
+pub mod Told
 pub mod Uses
-pub mod Words

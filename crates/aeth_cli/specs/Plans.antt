@@ -1,4 +1,4 @@
--- Plans that a command judges once it has read them: a step that reads nothing.
+-- Plans that a command judges once it has read them.
 -- This project's own.
 use Rattle.std.specs.Prelude.{ℕ, ◌++◌, List, [], codes, decimal, slice_get}
 use Rattle.std.specs.Option.{option_map_or}
@@ -13,8 +13,9 @@ use Rattle.aeth_chip.specs.Chip.{ChipData}
 use Rattle.aeth_group.specs.Members.{groups_of}
 use Rattle.aeth_plan.specs.Plan.{PlanData}
 use Rattle.aeth_text.specs.Spelling.{side_word}
-use Rattle.aeth_cli.specs.Job.{not_granted}
-use Rattle.aeth_cli.specs.Task.{Judging, ends}
+use Rattle.aeth_answers.specs.Job.{not_granted}
+use Rattle.aeth_answers.specs.Task.{Judging, ends}
+use Rattle.aeth_cli.specs.Files.{plan_file}
 
 -- The name of a connection; no bytes where there is none of that number.
 abbrev pub connection_name : AppData → ConnId → List ℕ
@@ -47,3 +48,8 @@ on_verdict app (Broken rule line other) next = ends (not_granted (broken_text ru
 abbrev pub accepted_plan : ChipData → AppData → PlanData → Judging (Unit {0})
 accepted_plan chip app plan next =
     on_verdict app (verdict_of chip app (groups_of app) plan) next
+
+-- A plan text for a chip and an application is read, and its plan is accepted.
+abbrev pub accepted_file : ChipData → AppData → List ℕ → Judging PlanData
+accepted_file chip app name next =
+    plan_file chip app name (λ plan. accepted_plan chip app plan (λ _. next plan))

@@ -1,25 +1,29 @@
 -- What a run of the program promises: this file says it whole.
 --
--- The words are those after the program's name. What the clauses say of faults holds of every shelf
--- and every pair of sinks. What they say of texts holds of each sink that tells what was written;
--- what they say of the job, where the shelf tells the contents on which it rests. The job is that of
--- a machine, which says what the log of a run is. Want of memory is the one answer whose cause they
--- leave open.
+-- The words are those after the program's name. Each clause holds of every shelf and every pair of
+-- sinks. Of contents a clause speaks where the shelf tells them, of texts where a sink tells what was
+-- written. The job is that of a machine, which says what the log of a run is. Want of memory is the
+-- one answer whose cause is left open.
 -- This project's own.
-use Rattle.std.specs.Prelude.{ℕ, ◌≡◌, ◌<◌, ◌≤◌, ◌⊎◌, List, Some, None}
+use Rattle.std.specs.Prelude.{ℕ, ◌≡◌, ◌≢◌, ◌<◌, ◌≤◌, ◌⊎◌, List, Some, None}
 use Rattle.aeth_accepted.specs.Inputs.{Inputs}
 use Rattle.aeth_io.specs.Causes.{Rose}
-use Rattle.aeth_io.specs.Sink.{AppendsProperPrefix, appended}
+use Rattle.aeth_io.specs.Sink.{appended}
 use Rattle.aeth_io.specs.declared.shelf.Shelf as shelf
 use Rattle.aeth_io.specs.declared.sink.Sink as sink
 use Rattle.aeth_report.specs.Log.{LogData}
+use Rattle.aeth_answers.specs.Job.{Job, err_text, out_text}
+use Rattle.aeth_answers.specs.Places.{IsAfter, Places, Sinks, files_of}
+use Rattle.aeth_answers.specs.Status.{done_status, memory_status, read_fault_status, usage_status}
+use Rattle.aeth_answers.specs.Status.{write_fault_status}
+use Rattle.aeth_answers.specs.Task.{IsReadFault}
+use Rattle.aeth_answers.specs.Writing.{IsCutShort}
 use Rattle.aeth_cli.specs.declared.commands.Command.{Command}
-use Rattle.aeth_cli.specs.Commands.{IsAnswerTo, command_of, job, task_of}
-use Rattle.aeth_cli.specs.Job.{Job, err_text, out_text}
-use Rattle.aeth_cli.specs.Places.{Places, files_of}
-use Rattle.aeth_cli.specs.Status.{memory_status, read_fault_status, usage_status}
-use Rattle.aeth_cli.specs.Status.{write_fault_status}
-use Rattle.aeth_cli.specs.Task.{IsReadFault}
+use Rattle.aeth_cli.specs.Commands.{IsAnswerTo, WordsComeTo, command_of, job, task_of}
+
+-- The sinks of a run.
+abbrev pub sinks_of : {H O E : Type 0} → Places H O E → Sinks O E
+sinks_of places = record { out = places.out; err = places.err }
 
 -- The program was run with these words and a machine of this outcome over a shelf and two sinks,
 -- which are given by what they tell, and ended with a status.
@@ -28,6 +32,10 @@ pub record Promise {H O E : Type 0} (outcome : Inputs → LogData) (h : shelf.Gh
     (status : ℕ) : Type 0 where
   -- The status is one of 0 to 6.
   pub statuses : status ≤ memory_status
+  -- A run changes no content of the shelf, and no count of faults falls.
+  pub shelf_is : IsAfter (files_of h old.shelf) (files_of h new.shelf)
+  pub out_later : o.faults old.out ≤ o.faults new.out
+  pub err_later : e.faults old.err ≤ e.faults new.err
   -- A status below that of a read fault is the status of the job.
   pub status_is : status < read_fault_status
       → (asked : Job) → job outcome (h.content old.shelf) words ≡ Some asked → status ≡ asked.status
@@ -38,6 +46,16 @@ pub record Promise {H O E : Type 0} (outcome : Inputs → LogData) (h : shelf.Gh
   pub err_is : status < read_fault_status
       → (asked : Job) → job outcome (h.content old.shelf) words ≡ Some asked
       → e.written new.err ≡ appended (e.written old.err) (err_text asked)
+  -- Where the shelf doesn't tell a file, the same holds of the job that comes of some bytes in its
+  -- place.
+  pub answered : status < read_fault_status
+      → (answer : Job) × WordsComeTo outcome (h.content old.shelf) (command_of words) answer
+      × (status ≡ answer.status)
+      × (o.written new.out ≡ appended (o.written old.out) (out_text answer))
+      × (e.written new.err ≡ appended (e.written old.err) (err_text answer))
+  -- `err` is as before where the job is done, and `out` where it isn't.
+  pub err_kept : status ≡ done_status → new.err ≡ old.err
+  pub out_kept : status < read_fault_status → status ≢ done_status → new.out ≡ old.out
   -- The words alone decide whether they are a command.
   pub usage_only : status ≡ usage_status → command_of words ≡ None
   -- A file can't be read: its calls failed in this run, it is named on `err`, and all that is
@@ -51,12 +69,7 @@ pub record Promise {H O E : Type 0} (outcome : Inputs → LogData) (h : shelf.Gh
   pub write_fault : status ≡ write_fault_status
       → (answer : Job)
       × IsAnswerTo outcome (files_of h old.shelf) (files_of h new.shelf) (command_of words) answer
-      × ((Rose (o.faults old.out) (o.faults new.out)
-      × AppendsProperPrefix (o.written old.out) (o.written new.out) (out_text answer)
-      × (new.err ≡ old.err))
-      ⊎ (Rose (e.faults old.err) (e.faults new.err)
-      × AppendsProperPrefix (e.written old.err) (e.written new.err) (err_text answer)
-      × (new.out ≡ old.out)))
+      × IsCutShort o e (sinks_of old) (sinks_of new) answer
   -- Memory was wanting: both sinks are as before.
   pub memory_out : status ≡ memory_status → new.out ≡ old.out
   pub memory_err : status ≡ memory_status → new.err ≡ old.err
@@ -64,5 +77,4 @@ pub record Promise {H O E : Type 0} (outcome : Inputs → LogData) (h : shelf.Gh
   pub complete : (Rose (o.faults old.out) (o.faults new.out) → ⊥)
       → (Rose (e.faults old.err) (e.faults new.err) → ⊥)
       → ((name : List ℕ) → Rose (h.faults old.shelf name) (h.faults new.shelf name) → ⊥)
-      → (asked : Job) → job outcome (h.content old.shelf) words ≡ Some asked
-      → (status ≡ asked.status) ⊎ (status ≡ memory_status)
+      → (status < read_fault_status) ⊎ (status ≡ memory_status)

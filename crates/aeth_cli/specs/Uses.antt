@@ -7,8 +7,8 @@ use Rattle.aeth_app.specs.App.{AppData}
 use Rattle.aeth_base.specs.Faults.{BrokenRule}
 use Rattle.aeth_base.specs.declared.ids.UseId.{UseId}
 use Rattle.aeth_base.specs.declared.shown.Shown.TheVariants.{Word}
-use Rattle.aeth_cli.specs.Refusal.{refused_file}
-use Rattle.aeth_cli.specs.Task.{Judging, ends}
+use Rattle.aeth_answers.specs.Refusal.{refused_file}
+use Rattle.aeth_answers.specs.Task.{Judging, ends}
 
 -- The rule that a name breaks that no use case has.
 abbrev pub unknown_use : List ℕ → BrokenRule

@@ -1,7 +1,6 @@
 // The commands, and what each answers.
-ghost use Rattle.aeth_cli.specs.Commands.{HasRanges, IsAnswerTo, command_of};
-ghost use Rattle.aeth_cli.specs.Places.{files_of};
-ghost use Rattle.aeth_cli.specs.Stop.{IfAnswer};
+ghost use Rattle.aeth_answers.specs.Places.{IsAfter, files_of};
+ghost use Rattle.aeth_cli.specs.Commands.{AnswersWords, HasRanges, IsAnswerTo, command_of};
 ghost use Rattle.std.specs.Prelude.{◌≡◌, IfOk, IfSome, map, string_bytes};
 
 mod allocate;
@@ -14,9 +13,8 @@ mod simulate;
 mod slots;
 mod tables;
 
-use crate::answer::{Answer, Stop};
-use crate::commands::simulate::RunFiles;
-use crate::words::FileName;
+use crate::traces::RunFiles;
+use aeth_answers::{Answer, FileName, Stop};
 use aeth_base::{Name, NoMemory};
 use aeth_io::Shelf;
 use aeth_machine::Machine;
@@ -107,7 +105,8 @@ pub fn answer<M: Machine, H: Shelf>(
     words: &[String],
     shelf: &mut H,
 ) -> Result<Answer, NoMemory>
-    ensures { IfOk result (IsAnswerTo M.outcome (files_of H.Shelf shelf.old)
+    ensures after { IsAfter (files_of H.Shelf shelf.old) (files_of H.Shelf shelf.new) }
+    ensures answers { IfOk result (IsAnswerTo M.outcome (files_of H.Shelf shelf.old)
         (files_of H.Shelf shelf.new) (command_of (map string_bytes words.now))) }
 {
     match command_answer::<M, H>(alloc, words, shelf) {
@@ -123,8 +122,8 @@ fn command_answer<M: Machine, H: Shelf>(
     words: &[String],
     shelf: &mut H,
 ) -> Result<Answer, Stop>
-    ensures { IfAnswer result (IsAnswerTo M.outcome (files_of H.Shelf shelf.old)
-        (files_of H.Shelf shelf.new) (command_of (map string_bytes words.now))) }
+    ensures { AnswersWords M.outcome (files_of H.Shelf shelf.old) (files_of H.Shelf shelf.new)
+        (command_of (map string_bytes words.now)) result }
 {
     let Some(command) = command_of(words) else {
         return Ok(Answer::usage(alloc)?);

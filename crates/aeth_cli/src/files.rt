@@ -2,27 +2,30 @@
 ghost use Rattle.aeth_app.specs.App.{IsAppOf};
 ghost use Rattle.aeth_app.specs.AppFile.{app_of};
 ghost use Rattle.aeth_chip.specs.ChipFile.{chip_of};
-ghost use Rattle.aeth_cli.specs.Files.{app_file, chip_file, judgement, plan_file, receivers_file};
-ghost use Rattle.aeth_cli.specs.Files.{switches_file, text_file, words_file};
-ghost use Rattle.aeth_cli.specs.Places.{Files, files_of};
-ghost use Rattle.aeth_cli.specs.Stop.{HandsOn, Judges};
+ghost use Rattle.aeth_answers.specs.Files.{judgement};
+ghost use Rattle.aeth_answers.specs.Places.{Files, files_of};
+ghost use Rattle.aeth_answers.specs.Stop.{Judges};
+ghost use Rattle.aeth_cli.specs.Files.{app_file, chip_file, plan_file, receivers_file};
+ghost use Rattle.aeth_cli.specs.Files.{switches_file, words_file};
 ghost use Rattle.aeth_group.specs.Members.{groups_of};
 ghost use Rattle.aeth_plan.specs.Plan.{IsPlanOf};
 ghost use Rattle.aeth_plan.specs.PlanText.{plan_of};
+ghost use Rattle.aeth_tables.specs.Reserved.{IsDesign};
+ghost use Rattle.aeth_tables.specs.Switching.{spans_of};
 ghost use Rattle.aeth_trace.specs.Receivers.{AreReceiversOf, receivers_of};
 ghost use Rattle.aeth_trace.specs.Switches.{AreSwitchesOf, switches_of};
 ghost use Rattle.aeth_trace.specs.Words.{AreWordsOf, words_of};
-ghost use Rattle.std.specs.Prelude.{◌≡◌, IfOk, codes, length};
+ghost use Rattle.std.specs.Prelude.{◌≡◌, IfOk, codes};
 
-use crate::answer::{Answer, Stop};
-use crate::words::FileName;
+use aeth_answers::{FileName, Stop, judged, read_file};
 use aeth_app::{App, read_app};
-use aeth_base::Fault;
 use aeth_chip::{Chip, read_chip};
 use aeth_group::Groups;
-use aeth_io::{ReadFail, Shelf, read_all};
+use aeth_io::Shelf;
 use aeth_plan::{Plan, read_plan};
-use aeth_trace::{Receivers, Spans, Switches, Words, read_receivers, read_switches, read_words};
+use aeth_playing::{Design, Planned};
+use aeth_tables::spans;
+use aeth_trace::{Receivers, Switches, Words, read_receivers, read_switches, read_words};
 use std::alloc::Global;
 
 /// How a chip file is called in texts.
@@ -42,37 +45,6 @@ const RECEIVERS: &str = "receivers";
 
 /// How a file of switches is called in texts.
 const SWITCHES: &str = "switches";
-
-/// The bytes of a file, by its word in texts and its name on the shelf.
-fn read_file<H: Shelf>(
-    alloc: Global,
-    file: &str,
-    name: &FileName,
-    shelf: &mut H,
-) -> Result<Vec<u8>, Stop>
-    ensures { Judges (files_of H.Shelf shelf.old) (files_of H.Shelf shelf.new)
-        (text_file file.now name.now) (λ bytes. bytes.items) result }
-{
-    match read_all(alloc, shelf, name.as_str()) {
-        Ok(bytes) => Ok(bytes),
-        Err(ReadFail::Fault) => Err(Stop::Ends(Answer::read_fault(alloc, file)?)),
-        Err(ReadFail::TooLong) => Err(Stop::Ends(Answer::too_long(alloc, file)?)),
-        Err(ReadFail::Memory) => Err(Stop::Memory),
-    }
-}
-
-/// What a reader gave of a file, or the end of the command by the rule that the file breaks.
-fn judged<T, F: Fault + Drop>(alloc: Global, file: &str, read: Result<T, F>) -> Result<T, Stop>
-    ensures { HandsOn F.rule file.now read result }
-{
-    match read {
-        Ok(value) => Ok(value),
-        Err(fault) => match fault.broken_rule() {
-            Some(broken) => Err(Stop::Ends(Answer::refused_file(alloc, file, &broken)?)),
-            None => Err(Stop::Memory),
-        },
-    }
-}
 
 /// The chip of a chip file's bytes.
 pub fn chip_in(alloc: Global, bytes: &[u8]) -> Result<Chip, Stop>
@@ -127,15 +99,25 @@ pub fn receivers_in(alloc: Global, app: &App, bytes: &[u8]) -> Result<Receivers,
     judged(alloc, RECEIVERS, read_receivers(alloc, bytes, app))
 }
 
-/// The switches of a file's bytes, for an application whose switches take so long.
-pub fn switches_in(alloc: Global, app: &App, spans: &Spans, bytes: &[u8]) -> Result<Switches, Stop>
-    requires { spans.now.uses ≡ length app.now.uses }
+/// The switches of a file's bytes, for an accepted plan, which says how long switches take.
+pub fn switches_in(
+    alloc: Global,
+    design: &Design,
+    planned: &Planned,
+    bytes: &[u8],
+) -> Result<Switches, Stop>
+    requires groups { planned.now.groups ≡ groups_of design.now.app }
+    requires design { IsDesign design.now.chip design.now.app planned.now.plan }
     ensures judges { (now : Files) → Judges now now
-        (judgement (codes "switches") (switches_of app.now spans.now bytes.now))
+        (judgement (codes "switches") (switches_of design.now.app (spans_of design.now.chip
+        design.now.app (groups_of design.now.app) planned.now.plan) bytes.now))
         (λ switches. switches) result }
-    ensures switches { IfOk result (AreSwitchesOf app.now spans.now) }
+    ensures switches { IfOk result (AreSwitchesOf design.now.app (spans_of design.now.chip
+        design.now.app (groups_of design.now.app) planned.now.plan)) }
 {
-    judged(alloc, SWITCHES, read_switches(alloc, bytes, app, spans))
+    let Design { chip, app } = design;
+    let spans = spans(alloc, chip, app, &planned.groups, &planned.plan)?;
+    judged(alloc, SWITCHES, read_switches(alloc, bytes, app, &spans))
 }
 
 /// The chip of a file.
@@ -210,19 +192,22 @@ pub fn read_receivers_file<H: Shelf>(
     receivers_in(alloc, app, &bytes)
 }
 
-/// The switches of a file, for an application whose switches take so long.
+/// The switches of a file, for an accepted plan.
 pub fn read_switches_file<H: Shelf>(
     alloc: Global,
-    app: &App,
-    spans: &Spans,
+    design: &Design,
+    planned: &Planned,
     name: &FileName,
     shelf: &mut H,
 ) -> Result<Switches, Stop>
-    requires { spans.now.uses ≡ length app.now.uses }
+    requires groups { planned.now.groups ≡ groups_of design.now.app }
+    requires design { IsDesign design.now.chip design.now.app planned.now.plan }
     ensures judges { Judges (files_of H.Shelf shelf.old) (files_of H.Shelf shelf.new)
-        (switches_file app.now spans.now name.now) (λ switches. switches) result }
-    ensures switches { IfOk result (AreSwitchesOf app.now spans.now) }
+        (switches_file design.now.app (spans_of design.now.chip design.now.app
+        (groups_of design.now.app) planned.now.plan) name.now) (λ switches. switches) result }
+    ensures switches { IfOk result (AreSwitchesOf design.now.app (spans_of design.now.chip
+        design.now.app (groups_of design.now.app) planned.now.plan)) }
 {
     let bytes = read_file(alloc, SWITCHES, name, shelf)?;
-    switches_in(alloc, app, spans, &bytes)
+    switches_in(alloc, design, planned, &bytes)
 }

@@ -1,12 +1,12 @@
 // The program on a host: its arguments, its files, its standard output and standard error.
-ghost use Rattle.aeth_cli.specs.Places.{Places};
+ghost use Rattle.aeth_answers.specs.Places.{Places};
+ghost use Rattle.aeth_answers.specs.Status.{memory_status};
 ghost use Rattle.aeth_cli.specs.Promise.{Promise};
-ghost use Rattle.aeth_cli.specs.Status.{memory_status};
-ghost use Rattle.std.specs.Prelude.{◌≡◌, ◌≤◌, map, string_bytes};
+ghost use Rattle.std.specs.Prelude.{◌≡◌, ◌≤◌, drop, map, string_bytes};
 ghost use Rattle.std.specs.Process.{exit_status};
 
 use crate::program::run;
-use crate::status::Status;
+use aeth_answers::Status;
 use aeth_io::{HostShelf, HostSink, Shelf, Sink};
 use aeth_machine::Machine;
 use std::alloc::Global;
@@ -25,11 +25,11 @@ pub fn start<M: Machine, R: Env + Files + AllocGlobal + Clone + Drop>(
 ) -> ExitCode
     ensures { exit_status result ≤ memory_status }
 {
-    let words = match words_after_name(rt) {
-        Ok(words) => words,
+    let arguments = match arguments(rt) {
+        Ok(arguments) => arguments,
         Err(error) if error.kind() == ErrorKind::OutOfMemory => return out_of_memory(),
 
-        // Words that aren't text are no command, as no words are.
+        // Arguments that aren't text are no command, as none are.
         Err(_) => Vec::new(rt.alloc()),
     };
     let Ok(files) = rt.clone() else {
@@ -38,7 +38,14 @@ pub fn start<M: Machine, R: Env + Files + AllocGlobal + Clone + Drop>(
     let mut shelf = HostShelf::new(files);
     let mut out = HostSink::new(out);
     let mut err = HostSink::new(err);
-    exit_code::<M, _, _, _>(rt.alloc(), &words, &mut shelf, &mut out, &mut err)
+    // The types say which stream is which.
+    exit_code::<M, HostShelf<R>, HostSink<Stdout>, HostSink<Stderr>>(
+        rt.alloc(),
+        words_of(&arguments),
+        &mut shelf,
+        &mut out,
+        &mut err,
+    )
 }
 
 /// Runs a command, and gives the status with which it ends as an exit code.
@@ -63,9 +70,19 @@ fn out_of_memory() -> ExitCode
     ExitCode::from(Status::Memory.number())
 }
 
-fn words_after_name<R: Env + AllocGlobal>(rt: &R) -> io::Result<Vec<String>> {
+/// The words after the program's name, which is the first argument.
+fn words_of(arguments: &[String]) -> &[String]
+    ensures { result.now ≡ drop 1 arguments.now }
+{
+    match arguments.split_first() {
+        Some((_name, words)) => words,
+        None => arguments,
+    }
+}
+
+fn arguments<R: Env + AllocGlobal>(rt: &R) -> io::Result<Vec<String>> {
     let mut words = Vec::new(rt.alloc());
-    for word in env::args(rt)?.skip(1) {
+    for word in env::args(rt)? {
         words.push(word)?;
     }
     Ok(words)

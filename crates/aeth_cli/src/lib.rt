@@ -1,20 +1,16 @@
 //! The commands: from the words of a command line to the bytes that are written, and the status.
 #![tactic(auto)]
 
-mod answer;
 mod commands;
+mod designs;
 mod files;
 mod host;
 mod plans;
-mod playing;
 mod program;
-mod status;
-mod text;
-mod totals;
+mod traces;
 mod uses;
-mod words;
 
+pub use aeth_answers::Status;
 pub use aeth_demo::{DemoTexts, demo_texts};
 pub use host::start;
 pub use program::run;
-pub use status::Status;

@@ -1,41 +1,77 @@
 // Plans that a command judges once it has read them.
-ghost use Rattle.aeth_check.specs.Accepted.{IsAccepted};
-ghost use Rattle.aeth_cli.specs.Job.{not_granted};
-ghost use Rattle.aeth_cli.specs.Places.{Files};
-ghost use Rattle.aeth_cli.specs.Plans.{accepted_plan, broken_text, connection_name, missing_text};
-ghost use Rattle.aeth_cli.specs.Plans.{side_text};
-ghost use Rattle.aeth_cli.specs.Stop.{Judges};
+ghost use Rattle.aeth_answers.specs.Job.{not_granted};
+ghost use Rattle.aeth_answers.specs.Places.{Files, files_of};
+ghost use Rattle.aeth_answers.specs.Stop.{Judges};
+ghost use Rattle.aeth_cli.specs.Plans.{accepted_file, accepted_plan, broken_text, connection_name};
+ghost use Rattle.aeth_cli.specs.Plans.{missing_text, side_text};
 ghost use Rattle.aeth_group.specs.Members.{groups_of};
 ghost use Rattle.aeth_plan.specs.Plan.{IsPlanOf};
+ghost use Rattle.aeth_tables.specs.Reserved.{IsDesign};
 ghost use Rattle.std.specs.Prelude.{◌≡◌, ◌++◌, IfOk, OnOk};
 
-use crate::answer::{Answer, Stop};
-use crate::text::push_count;
+use crate::files::read_plan_file;
+use aeth_answers::{Answer, FileName, Stop, push_count};
 use aeth_app::App;
 use aeth_base::{ConnId, NoMemory, Side, Unit};
 use aeth_check::{Verdict, check};
-use aeth_chip::Chip;
 use aeth_group::Groups;
-use aeth_plan::Plan;
+use aeth_io::Shelf;
+use aeth_playing::{Design, Planned};
 use aeth_text::push_side;
 use std::alloc::Global;
 
-/// Goes on where the plan is accepted, and else ends the command by the first rule that fails.
-pub fn accept_plan(
+/// The groups of an application and the plan of a text, where it is accepted.
+pub fn read_accepted<H: Shelf>(
     alloc: Global,
-    chip: &Chip,
-    app: &App,
-    groups: &Groups,
-    plan: &Plan,
-) -> Result<(), Stop>
-    requires groups { groups.now ≡ groups_of app.now }
-    requires plan { IsPlanOf chip.now app.now groups.now plan.now }
-    ensures judges { (now : Files) → Judges now now (accepted_plan chip.now app.now plan.now)
-        (λ done. done) result }
-    ensures accepted { IfOk result (λ _. IsAccepted chip.now app.now groups.now plan.now) }
+    design: &Design,
+    name: &FileName,
+    shelf: &mut H,
+) -> Result<Planned, Stop>
+    ensures judges { Judges (files_of H.Shelf shelf.old) (files_of H.Shelf shelf.new)
+        (accepted_file design.now.chip design.now.app name.now) (λ planned. planned.plan) result }
+    ensures groups { IfOk result (λ planned. planned.groups ≡ groups_of design.now.app) }
+    ensures design { IfOk result
+        (λ planned. IsDesign design.now.chip design.now.app planned.plan) }
 {
-    let verdict = check(alloc, chip, app, groups, plan)?;
-    match verdict {
+    let groups = Groups::of(alloc, &design.app)?;
+    with_plan(alloc, design, groups, name, shelf)
+}
+
+/// The same with the groups.
+fn with_plan<H: Shelf>(
+    alloc: Global,
+    design: &Design,
+    groups: Groups,
+    name: &FileName,
+    shelf: &mut H,
+) -> Result<Planned, Stop>
+    requires { groups ≡ groups_of design.now.app }
+    ensures judges { Judges (files_of H.Shelf shelf.old) (files_of H.Shelf shelf.new)
+        (accepted_file design.now.chip design.now.app name.now) (λ planned. planned.plan) result }
+    ensures groups { IfOk result (λ planned. planned.groups ≡ groups_of design.now.app) }
+    ensures design { IfOk result
+        (λ planned. IsDesign design.now.chip design.now.app planned.plan) }
+{
+    let plan = read_plan_file(alloc, &design.chip, &design.app, &groups, name, shelf)?;
+    let planned = Planned { groups, plan };
+    accept_plan(alloc, design, &planned)?;
+    Ok(planned)
+}
+
+/// Goes on where the plan is accepted, and else ends the command by the first rule that fails.
+fn accept_plan(alloc: Global, design: &Design, planned: &Planned) -> Result<(), Stop>
+    requires groups { planned.now.groups ≡ groups_of design.now.app }
+    requires plan { IsPlanOf design.now.chip design.now.app planned.now.groups planned.now.plan }
+    ensures judges { (now : Files) → Judges now now
+        (accepted_plan design.now.chip design.now.app planned.now.plan) (λ done. done) result }
+    ensures design { IfOk result
+        (λ _. IsDesign design.now.chip design.now.app planned.now.plan) }
+{
+    // The calls tell what holds of every chip and every application.
+    let _chip_slots = design.chip.slots();
+    let _app_slots = design.app.slots();
+    let app = &design.app;
+    match check(alloc, &design.chip, app, &planned.groups, &planned.plan)? {
         Verdict::Accepted => Ok(()),
         Verdict::Missing { unit, side } => Err(Stop::Ends(missing(alloc, app, &unit, side)?)),
         Verdict::Broken { rule, line, other } => {

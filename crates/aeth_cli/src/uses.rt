@@ -1,11 +1,11 @@
 // Use cases that a command names.
-ghost use Rattle.aeth_cli.specs.Places.{Files};
-ghost use Rattle.aeth_cli.specs.Refusal.{refused_file};
-ghost use Rattle.aeth_cli.specs.Stop.{Judges};
+ghost use Rattle.aeth_answers.specs.Places.{Files};
+ghost use Rattle.aeth_answers.specs.Refusal.{refused_file};
+ghost use Rattle.aeth_answers.specs.Stop.{Judges};
 ghost use Rattle.aeth_cli.specs.Uses.{named_use, unknown_use};
 ghost use Rattle.std.specs.Prelude.{◌≡◌, ◌<◌, IfOk, codes, length};
 
-use crate::answer::{Answer, Stop};
+use aeth_answers::{Answer, Stop};
 use aeth_app::App;
 use aeth_base::{BrokenRule, Name, NoMemory, Shown, UseId};
 use std::alloc::Global;

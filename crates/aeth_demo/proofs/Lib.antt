@@ -1,2 +1,3 @@
+mod Constants
 mod DrawLemmas
 mod Loops

@@ -10,11 +10,11 @@ use Rattle.aeth_group.specs.Members.{groups_of}
 use Rattle.aeth_plan.specs.PlanText.{plan_text}
 use Rattle.aeth_cli.specs.declared.commands.Command.{Command}
 use Rattle.aeth_cli.specs.declared.commands.Command.TheVariants as command
-use Rattle.aeth_cli.specs.Files.{app_file, chip_file}
-use Rattle.aeth_cli.specs.Job.{Job, done, not_granted}
+use Rattle.aeth_cli.specs.Files.{design_file}
+use Rattle.aeth_answers.specs.Job.{Job, done, not_granted}
 use Rattle.aeth_cli.specs.Plans.{side_text}
-use Rattle.aeth_cli.specs.Task.{Task, ends}
-use Rattle.aeth_cli.specs.Words.{◌>>=◌, file_name_of}
+use Rattle.aeth_answers.specs.Task.{Task, ends}
+use Rattle.aeth_answers.specs.Words.{◌>>=◌, file_name_of}
 
 -- CHIP a chip file, APP an application file.
 abbrev pub allocate_command : List (List ℕ) → Option Command
@@ -44,10 +44,12 @@ outcome_job chip app outcome (refused ∷ others) =
 abbrev pub allocation_job : ChipData → AppData → OutcomeData → Job
 allocation_job chip app outcome = outcome_job chip app outcome outcome.refused
 
--- A chip file and an application file are read, and the application's cores are seated and its
--- channels granted.
+-- The job of an application on a chip: its cores are seated and its channels granted.
+abbrev pub allocate_job : ChipData → AppData → Job
+allocate_job chip app =
+    allocation_job chip app (allocation chip app (groups_of app) (prices_of app.price))
+
+-- A chip file and an application file are read, and the application is allocated.
 abbrev pub allocate_task : List ℕ → List ℕ → Task
 allocate_task chip_name app_name =
-    chip_file chip_name (λ chip.
-    app_file chip app_name (λ app.
-    ends (allocation_job chip app (allocation chip app (groups_of app) (prices_of app.price)))))
+    design_file chip_name app_name (λ design. ends (allocate_job design.chip design.app))

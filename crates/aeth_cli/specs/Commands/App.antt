@@ -9,10 +9,10 @@ use Rattle.aeth_base.specs.declared.ids.Side.TheVariants.{Fwd, Back}
 use Rattle.aeth_group.specs.Members.{groups_of, units_of}
 use Rattle.aeth_cli.specs.declared.commands.Command.{Command}
 use Rattle.aeth_cli.specs.declared.commands.Command.TheVariants as command
-use Rattle.aeth_cli.specs.Files.{app_file, chip_file}
-use Rattle.aeth_cli.specs.Job.{done}
-use Rattle.aeth_cli.specs.Task.{Task, ends}
-use Rattle.aeth_cli.specs.Words.{◌>>=◌, file_name_of}
+use Rattle.aeth_cli.specs.Files.{design_file}
+use Rattle.aeth_answers.specs.Job.{done}
+use Rattle.aeth_answers.specs.Task.{Task, ends}
+use Rattle.aeth_answers.specs.Words.{◌>>=◌, file_name_of}
 
 -- CHIP a chip file, APP an application file.
 abbrev pub app_command : List (List ℕ) → Option Command
@@ -43,5 +43,4 @@ app_text app = summary_text app ++ flat_map (need_text app.slots) app.connection
 -- A chip file and an application file are read, and the application is summed up.
 abbrev pub app_task : List ℕ → List ℕ → Task
 app_task chip_name app_name =
-    chip_file chip_name (λ chip.
-    app_file chip app_name (λ app. ends (done (app_text app))))
+    design_file chip_name app_name (λ design. ends (done (app_text design.app)))

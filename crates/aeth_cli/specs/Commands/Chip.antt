@@ -6,9 +6,9 @@ use Rattle.aeth_chip.specs.Summary.{far_of, unreached_of}
 use Rattle.aeth_cli.specs.declared.commands.Command.{Command}
 use Rattle.aeth_cli.specs.declared.commands.Command.TheVariants as command
 use Rattle.aeth_cli.specs.Files.{chip_file}
-use Rattle.aeth_cli.specs.Job.{done}
-use Rattle.aeth_cli.specs.Task.{Task, ends}
-use Rattle.aeth_cli.specs.Words.{◌>>=◌, file_name_of}
+use Rattle.aeth_answers.specs.Job.{done}
+use Rattle.aeth_answers.specs.Task.{Task, ends}
+use Rattle.aeth_answers.specs.Words.{◌>>=◌, file_name_of}
 
 -- CHIP a chip file.
 abbrev pub chip_command : List (List ℕ) → Option Command

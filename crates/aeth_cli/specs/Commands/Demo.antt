@@ -15,20 +15,24 @@ use Rattle.aeth_demo.specs.Limits.{demo_cycles, max_demo_number}
 use Rattle.aeth_demo.specs.Texts.{TextsData, texts_of}
 use Rattle.aeth_group.specs.Members.{groups_of}
 use Rattle.aeth_plan.specs.Plan.{PlanData}
+use Rattle.aeth_playing.specs.RunInputs.{inputs_of}
+use Rattle.aeth_playing.specs.declared.inputs.Design.{Design}
+use Rattle.aeth_playing.specs.declared.inputs.Traces.{Traces}
 use Rattle.aeth_report.specs.Log.{LogData}
 use Rattle.aeth_report.specs.Regular.{landings_in, offered_in}
 use Rattle.aeth_tables.specs.Switching.{spans_of}
 use Rattle.aeth_trace.specs.Receivers.{receivers_of}
+use Rattle.aeth_trace.specs.Spans.{SpanData}
 use Rattle.aeth_trace.specs.Switches.{switches_of}
 use Rattle.aeth_trace.specs.Words.{words_of}
 use Rattle.aeth_cli.specs.declared.commands.Command.{Command}
 use Rattle.aeth_cli.specs.declared.commands.Command.TheVariants as command
 use Rattle.aeth_cli.specs.Commands.Allocate.{refusals_text}
-use Rattle.aeth_cli.specs.Files.{judgement}
-use Rattle.aeth_cli.specs.Job.{done, not_granted}
-use Rattle.aeth_cli.specs.Task.{Judging, Task, ends}
-use Rattle.aeth_cli.specs.Totals.{late_in}
-use Rattle.aeth_cli.specs.Words.{◌>>=◌, number_within}
+use Rattle.aeth_answers.specs.Files.{judgement}
+use Rattle.aeth_answers.specs.Job.{Job, done, not_granted}
+use Rattle.aeth_answers.specs.Task.{Judging, Task, ends}
+use Rattle.aeth_playing.specs.Totals.{late_in}
+use Rattle.aeth_answers.specs.Words.{◌>>=◌, number_within}
 
 -- N a number.
 abbrev pub demo_command : List (List ℕ) → Option Command
@@ -61,33 +65,42 @@ granted_plan chip app next =
     let outcome = allocation chip app (groups_of app) (prices_of app.price) in
     on_refusals app outcome.plan outcome.refused next
 
-module _ (outcome : Inputs → LogData) (n : ℕ) (texts : TextsData) where
-  -- For an accepted plan the traces are judged, and the run is simulated.
-  abbrev pub traced_demo : ChipData → AppData → PlanData → Task
-  traced_demo chip app plan =
+module _ (texts : TextsData) where
+  -- The chip and the application of the texts.
+  abbrev pub design_text : Judging Design
+  design_text next =
+      judgement (codes "chip") (chip_of texts.chip) (λ chip.
+      judgement (codes "app") (app_of chip texts.app) (λ app.
+      next (record { chip = chip; app = app })))
+
+  -- The words, the receivers' rows and the switches of the texts, for an application whose switches
+  -- take so long.
+  abbrev pub traces_texts : AppData → SpanData → Judging Traces
+  traces_texts app spans next =
       judgement (codes "words") (words_of app texts.words) (λ words.
       judgement (codes "receivers") (receivers_of app texts.receivers) (λ pulls.
-      judgement (codes "switches")
-      (switches_of app (spans_of chip app (groups_of app) plan) texts.switches) (λ switches.
-      ends (done (summary_text n plan (outcome (record {
-        chip = chip;
-        app = app;
-        plan = plan;
-        words = words;
-        pulls = pulls;
-        switches = switches;
-        cycles = demo_cycles;
-      })))))))
+      judgement (codes "switches") (switches_of app spans texts.switches) (λ switches.
+      next (record { words = words; receivers = pulls; switches = switches }))))
+
+-- What the run of inputs comes to.
+abbrev pub summary_job : (Inputs → LogData) → ℕ → Inputs → Job
+summary_job outcome n inputs = done (summary_text n inputs.plan (outcome inputs))
+
+module _ (outcome : Inputs → LogData) (n : ℕ) (texts : TextsData) where
+  -- For an accepted plan the traces are judged, and the run is simulated.
+  abbrev pub traced_demo : Design → PlanData → Task
+  traced_demo design plan =
+      traces_texts texts design.app
+      (spans_of design.chip design.app (groups_of design.app) plan) (λ traces.
+      ends (summary_job outcome n (inputs_of design plan traces demo_cycles)))
 
   -- For a chip and an application the units are granted.
-  abbrev pub planned_demo : ChipData → AppData → Task
-  planned_demo chip app = granted_plan chip app (λ plan. traced_demo chip app plan)
+  abbrev pub planned_demo : Design → Task
+  planned_demo design = granted_plan design.chip design.app (λ plan. traced_demo design plan)
 
   -- A chip and an application are judged, then the units are granted, and then the traces are judged.
   abbrev pub texts_task : Task
-  texts_task =
-      judgement (codes "chip") (chip_of texts.chip) (λ chip.
-      judgement (codes "app") (app_of chip texts.app) (λ app. planned_demo chip app))
+  texts_task = design_text texts (λ design. planned_demo design)
 
 -- The texts are those of the number.
 abbrev pub demo_task : (Inputs → LogData) → ℕ → Task

@@ -8,8 +8,8 @@ use Rattle.aeth_server.specs.Latency.{latency_of}
 use Rattle.aeth_slots.specs.SlotSet.{Slots}
 use Rattle.aeth_cli.specs.declared.commands.Command.{Command}
 use Rattle.aeth_cli.specs.declared.commands.Command.TheVariants as command
-use Rattle.aeth_cli.specs.Job.{Job, done, not_granted}
-use Rattle.aeth_cli.specs.Words.{◌>>=◌, number_within, slot_set_of}
+use Rattle.aeth_answers.specs.Job.{Job, done, not_granted}
+use Rattle.aeth_answers.specs.Words.{◌>>=◌, number_within, slot_set_of}
 
 -- SIZE and NEED from 1 to the size of the largest table, LINKS the delay of a path, in cycles,
 -- SLOTS a list of slots.

@@ -3,24 +3,23 @@
 -- This project's own.
 use Rattle.std.specs.Prelude.{ℕ, List, [], ◌∷◌, Option, Some, None}
 use Rattle.aeth_accepted.specs.Inputs.{Inputs}
-use Rattle.aeth_app.specs.App.{AppData}
 use Rattle.aeth_base.specs.Limits.{max_cycles}
-use Rattle.aeth_chip.specs.Chip.{ChipData}
 use Rattle.aeth_group.specs.Members.{groups_of}
 use Rattle.aeth_plan.specs.Plan.{PlanData}
+use Rattle.aeth_playing.specs.RunInputs.{inputs_of}
+use Rattle.aeth_playing.specs.declared.inputs.Design.{Design}
 use Rattle.aeth_report.specs.Log.{LogData}
 use Rattle.aeth_report.specs.LogText.{text_of}
 use Rattle.aeth_tables.specs.Switching.{spans_of}
 use Rattle.aeth_cli.specs.declared.commands.Command.{Command}
 use Rattle.aeth_cli.specs.declared.commands.Command.TheVariants as command
-use Rattle.aeth_cli.specs.declared.commands.simulate.RunFiles.{RunFiles}
-use Rattle.aeth_cli.specs.Files.{app_file, chip_file, plan_file, receivers_file, switches_file}
-use Rattle.aeth_cli.specs.Files.{words_file}
-use Rattle.aeth_cli.specs.Job.{Job, done}
+use Rattle.aeth_cli.specs.declared.traces.RunFiles.{RunFiles}
+use Rattle.aeth_cli.specs.Files.{design_file, traces_files}
+use Rattle.aeth_answers.specs.Job.{Job, done}
 use Rattle.aeth_cli.specs.Limits.{max_turn}
-use Rattle.aeth_cli.specs.Plans.{accepted_plan}
-use Rattle.aeth_cli.specs.Task.{Task, ends}
-use Rattle.aeth_cli.specs.Words.{◌>>=◌, file_name_of, number_within}
+use Rattle.aeth_cli.specs.Plans.{accepted_file}
+use Rattle.aeth_answers.specs.Task.{Task, ends}
+use Rattle.aeth_answers.specs.Words.{◌>>=◌, file_name_of, number_within}
 
 -- TURN; 0 where it is absent.
 abbrev pub turn_of : List (List ℕ) → Option ℕ
@@ -58,29 +57,18 @@ module _ (outcome : Inputs → LogData) where
 
   -- For an accepted plan the traces are read, the switches with the plan's spans, and the run is
   -- simulated.
-  abbrev pub traces_task : ChipData → AppData → PlanData → RunFiles → ℕ → Task
-  traces_task chip app plan files cycles =
-      words_file app files.words (λ words.
-      receivers_file app files.receivers (λ pulls.
-      switches_file app (spans_of chip app (groups_of app) plan) files.switches (λ switches.
-      ends (simulation_job (record {
-        chip = chip;
-        app = app;
-        plan = plan;
-        words = words;
-        pulls = pulls;
-        switches = switches;
-        cycles = cycles;
-      })))))
+  abbrev pub traces_task : Design → PlanData → RunFiles → ℕ → Task
+  traces_task design plan files cycles =
+      traces_files design.app (spans_of design.chip design.app (groups_of design.app) plan) files
+      (λ traces. ends (simulation_job (inputs_of design plan traces cycles)))
 
   -- For a chip and an application a plan text is read, and the plan is accepted.
-  abbrev pub planned_task : ChipData → AppData → RunFiles → ℕ → Task
-  planned_task chip app files cycles =
-      plan_file chip app files.plan (λ plan.
-      accepted_plan chip app plan (λ _. traces_task chip app plan files cycles))
+  abbrev pub planned_task : Design → RunFiles → ℕ → Task
+  planned_task design files cycles =
+      accepted_file design.chip design.app files.plan (λ plan.
+      traces_task design plan files cycles)
 
   -- A chip file and an application file are read, then a plan for these, and then the traces.
   abbrev pub simulate_task : RunFiles → ℕ → Task
   simulate_task files cycles =
-      chip_file files.chip (λ chip.
-      app_file chip files.app (λ app. planned_task chip app files cycles))
+      design_file files.chip files.app (λ design. planned_task design files cycles)

@@ -6,10 +6,10 @@ use Rattle.aeth_slots.specs.SlotSet.{Slots}
 use Rattle.aeth_slots.specs.Choice.{chosen}
 use Rattle.aeth_cli.specs.declared.commands.Command.{Command}
 use Rattle.aeth_cli.specs.declared.commands.Command.TheVariants as command
-use Rattle.aeth_cli.specs.Job.{Job, done, not_granted}
+use Rattle.aeth_answers.specs.Job.{Job, done, not_granted}
 use Rattle.aeth_cli.specs.Limits.{max_gap}
-use Rattle.aeth_cli.specs.Text.{list_text}
-use Rattle.aeth_cli.specs.Words.{◌>>=◌, number_within, slot_set_of}
+use Rattle.aeth_answers.specs.Text.{list_text}
+use Rattle.aeth_answers.specs.Words.{◌>>=◌, number_within, slot_set_of}
 
 -- SIZE and NEED from 1 to the size of the largest table, GAP from 0 to the greatest gap, FREE a
 -- list of slots.

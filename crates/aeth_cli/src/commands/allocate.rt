@@ -1,23 +1,17 @@
 // `allocate CHIP APP`: the plan of the allocation, or the units that are refused.
-ghost use Rattle.aeth_alloc.specs.Allocation.{allocation};
-ghost use Rattle.aeth_alloc.specs.Prices.{prices_of};
+ghost use Rattle.aeth_answers.specs.Places.{files_of};
+ghost use Rattle.aeth_answers.specs.Stop.{Answers};
 ghost use Rattle.aeth_app.specs.App.{IsAppOf};
 ghost use Rattle.aeth_cli.specs.Commands.{HasRanges};
-ghost use Rattle.aeth_cli.specs.Commands.Allocate.{allocate_command, allocate_task};
-ghost use Rattle.aeth_cli.specs.Commands.Allocate.{allocation_job, refusal_text, refusals_text};
-ghost use Rattle.aeth_cli.specs.Places.{files_of};
-ghost use Rattle.aeth_cli.specs.Stop.{IfAnswer};
-ghost use Rattle.aeth_cli.specs.Task.{IsAnswer};
-ghost use Rattle.aeth_group.specs.Members.{groups_of};
+ghost use Rattle.aeth_cli.specs.Commands.Allocate.{allocate_command, allocate_job, allocate_task};
+ghost use Rattle.aeth_cli.specs.Commands.Allocate.{refusal_text, refusals_text};
 ghost use Rattle.std.specs.Prelude.{◌≡◌, ◌++◌, IfOk, IfSome, OnOk, map, string_bytes};
 
-use crate::answer::{Answer, Stop};
 use crate::commands::Command;
-use crate::files::{read_app_file, read_chip_file};
+use crate::designs::read_design;
 use crate::plans::push_side_of;
-use crate::text::push_count;
-use crate::words::FileName;
-use aeth_alloc::{Outcome, Refused, allocate};
+use aeth_alloc::{Refused, allocate};
+use aeth_answers::{Answer, FileName, Stop, ended, push_count};
 use aeth_app::App;
 use aeth_base::NoMemory;
 use aeth_chip::Chip;
@@ -46,19 +40,17 @@ pub fn answer<H: Shelf>(
     app: &FileName,
     shelf: &mut H,
 ) -> Result<Answer, Stop>
-    ensures { IfAnswer result (IsAnswer (files_of H.Shelf shelf.old) (files_of H.Shelf shelf.new)
-        (allocate_task chip.now app.now)) }
+    ensures { Answers (files_of H.Shelf shelf.old) (files_of H.Shelf shelf.new)
+        (allocate_task chip.now app.now) result }
 {
-    let chip = read_chip_file(alloc, chip, shelf)?;
-    let app = read_app_file(alloc, &chip, app, shelf)?;
-    Ok(allocated(alloc, &chip, &app)?)
+    let design = read_design(alloc, chip, app, shelf)?;
+    ended(allocated(alloc, &design.chip, &design.app))
 }
 
 /// The answer for an application on a chip.
 fn allocated(alloc: Global, chip: &Chip, app: &App) -> Result<Answer, NoMemory>
     requires { IsAppOf chip.now app.now }
-    ensures { IfOk result (λ answer. answer ≡ allocation_job chip.now app.now
-        (allocation chip.now app.now (groups_of app.now) (prices_of app.now.price))) }
+    ensures { IfOk result (λ answer. answer ≡ allocate_job chip.now app.now) }
 {
     let groups = Groups::of(alloc, app)?;
     let outcome = allocate(alloc, chip, app, &groups)?;

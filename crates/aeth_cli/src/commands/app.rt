@@ -1,19 +1,17 @@
 // `app CHIP APP`: a summary of an application file, and what its connections need.
+ghost use Rattle.aeth_answers.specs.Job.{done};
+ghost use Rattle.aeth_answers.specs.Places.{files_of};
+ghost use Rattle.aeth_answers.specs.Stop.{Answers};
 ghost use Rattle.aeth_cli.specs.Commands.{HasRanges};
 ghost use Rattle.aeth_cli.specs.Commands.App.{app_command, app_task, app_text, need_text};
 ghost use Rattle.aeth_cli.specs.Commands.App.{summary_text};
-ghost use Rattle.aeth_cli.specs.Places.{files_of};
-ghost use Rattle.aeth_cli.specs.Stop.{IfAnswer};
-ghost use Rattle.aeth_cli.specs.Task.{IsAnswer};
 ghost use Rattle.aeth_group.specs.Members.{groups_of};
-ghost use Rattle.std.specs.Prelude.{◌≡◌, ◌<◌, ◌++◌, IfOk, IfSome, OnOk, IfSome, flat_map, length};
+ghost use Rattle.std.specs.Prelude.{◌≡◌, ◌<◌, ◌++◌, IfOk, IfSome, OnOk, flat_map, length};
 ghost use Rattle.std.specs.Prelude.{map, slice_get, string_bytes};
 
-use crate::answer::{Answer, Stop};
 use crate::commands::Command;
-use crate::files::{read_app_file, read_chip_file};
-use crate::text::push_count;
-use crate::words::FileName;
+use crate::designs::read_design;
+use aeth_answers::{Answer, FileName, Stop, ended, push_count};
 use aeth_app::App;
 use aeth_base::{Channel, ConnId, NoMemory, Side};
 use aeth_group::Groups;
@@ -40,21 +38,21 @@ pub fn answer<H: Shelf>(
     app: &FileName,
     shelf: &mut H,
 ) -> Result<Answer, Stop>
-    ensures { IfAnswer result (IsAnswer (files_of H.Shelf shelf.old) (files_of H.Shelf shelf.new)
-        (app_task chip.now app.now)) }
+    ensures { Answers (files_of H.Shelf shelf.old) (files_of H.Shelf shelf.new)
+        (app_task chip.now app.now) result }
 {
-    let chip = read_chip_file(alloc, chip, shelf)?;
-    let app = read_app_file(alloc, &chip, app, shelf)?;
-    Ok(Answer::done(app_lines(alloc, &app)?))
+    let design = read_design(alloc, chip, app, shelf)?;
+    ended(summed_up(alloc, &design.app))
 }
 
-fn app_lines(alloc: Global, app: &App) -> Result<Vec<u8>, NoMemory>
-    ensures { IfOk result (λ text. text.items ≡ app_text app.now) }
+/// The summary, and then the needs.
+fn summed_up(alloc: Global, app: &App) -> Result<Answer, NoMemory>
+    ensures { IfOk result (λ answer. answer ≡ done (app_text app.now)) }
 {
     let groups = Groups::of(alloc, app)?;
     let mut text = summary_line(alloc, app, &groups)?;
     push_needs(&mut text, app)?;
-    Ok(text)
+    Ok(Answer::done(text))
 }
 
 fn summary_line(alloc: Global, app: &App, groups: &Groups) -> Result<Vec<u8>, NoMemory>

@@ -1,22 +1,18 @@
 // `check CHIP APP PLAN`: whether a plan is accepted, or the first rule that it breaks.
+ghost use Rattle.aeth_answers.specs.Job.{done};
+ghost use Rattle.aeth_answers.specs.Places.{files_of};
+ghost use Rattle.aeth_answers.specs.Stop.{Answers};
 ghost use Rattle.aeth_cli.specs.Commands.{HasRanges};
 ghost use Rattle.aeth_cli.specs.Commands.Check.{check_command, check_task, plan_task};
-ghost use Rattle.aeth_cli.specs.Job.{done};
-ghost use Rattle.aeth_cli.specs.Places.{files_of};
-ghost use Rattle.aeth_cli.specs.Stop.{IfAnswer};
-ghost use Rattle.aeth_cli.specs.Task.{IsAnswer};
 ghost use Rattle.std.specs.Prelude.{◌≡◌, IfOk, IfSome, codes, map, string_bytes};
 
-use crate::answer::{Answer, Stop};
 use crate::commands::Command;
-use crate::files::{read_app_file, read_chip_file, read_plan_file};
-use crate::plans::accept_plan;
-use crate::words::FileName;
-use aeth_app::App;
+use crate::designs::read_design;
+use crate::plans::read_accepted;
+use aeth_answers::{Answer, FileName, Stop, ended};
 use aeth_base::NoMemory;
-use aeth_chip::Chip;
-use aeth_group::Groups;
 use aeth_io::Shelf;
+use aeth_playing::Design;
 use std::alloc::Global;
 
 /// The command of the words CHIP APP PLAN.
@@ -41,29 +37,25 @@ pub fn answer<H: Shelf>(
     plan: &FileName,
     shelf: &mut H,
 ) -> Result<Answer, Stop>
-    ensures { IfAnswer result (IsAnswer (files_of H.Shelf shelf.old) (files_of H.Shelf shelf.new)
-        (check_task chip.now app.now plan.now)) }
+    ensures { Answers (files_of H.Shelf shelf.old) (files_of H.Shelf shelf.new)
+        (check_task chip.now app.now plan.now) result }
 {
-    let chip = read_chip_file(alloc, chip, shelf)?;
-    let app = read_app_file(alloc, &chip, app, shelf)?;
-    plan_answer(alloc, &chip, &app, plan, shelf)
+    let design = read_design(alloc, chip, app, shelf)?;
+    plan_answer(alloc, &design, plan, shelf)
 }
 
 /// Whether the plan is accepted, for a chip and an application.
 fn plan_answer<H: Shelf>(
     alloc: Global,
-    chip: &Chip,
-    app: &App,
+    design: &Design,
     plan: &FileName,
     shelf: &mut H,
 ) -> Result<Answer, Stop>
-    ensures { IfAnswer result (IsAnswer (files_of H.Shelf shelf.old) (files_of H.Shelf shelf.new)
-        (plan_task chip.now app.now plan.now)) }
+    ensures { Answers (files_of H.Shelf shelf.old) (files_of H.Shelf shelf.new)
+        (plan_task design.now plan.now) result }
 {
-    let groups = Groups::of(alloc, app)?;
-    let plan = read_plan_file(alloc, chip, app, &groups, plan, shelf)?;
-    accept_plan(alloc, chip, app, &groups, &plan)?;
-    Ok(accepted(alloc)?)
+    let _planned = read_accepted(alloc, design, plan, shelf)?;
+    ended(accepted(alloc))
 }
 
 /// The answer that a plan is accepted.

@@ -1,16 +1,14 @@
 // `chip CHIP`: a summary of a chip file.
+ghost use Rattle.aeth_answers.specs.Job.{done};
+ghost use Rattle.aeth_answers.specs.Places.{files_of};
+ghost use Rattle.aeth_answers.specs.Stop.{Answers};
 ghost use Rattle.aeth_cli.specs.Commands.{HasRanges};
 ghost use Rattle.aeth_cli.specs.Commands.Chip.{chip_command, chip_task, chip_text};
-ghost use Rattle.aeth_cli.specs.Places.{files_of};
-ghost use Rattle.aeth_cli.specs.Stop.{IfAnswer};
-ghost use Rattle.aeth_cli.specs.Task.{IsAnswer};
 ghost use Rattle.std.specs.Prelude.{◌≡◌, IfOk, IfSome, map, string_bytes};
 
-use crate::answer::{Answer, Stop};
 use crate::commands::Command;
 use crate::files::read_chip_file;
-use crate::text::push_count;
-use crate::words::FileName;
+use aeth_answers::{Answer, FileName, Stop, ended, push_count};
 use aeth_base::NoMemory;
 use aeth_chip::{Chip, Distances, Summary};
 use aeth_io::Shelf;
@@ -30,11 +28,18 @@ pub fn command<'a>(words: &'a [String]) -> Option<Command<'a>>
 
 /// The summary of a chip file.
 pub fn answer<H: Shelf>(alloc: Global, chip: &FileName, shelf: &mut H) -> Result<Answer, Stop>
-    ensures { IfAnswer result (IsAnswer (files_of H.Shelf shelf.old) (files_of H.Shelf shelf.new)
-        (chip_task chip.now)) }
+    ensures { Answers (files_of H.Shelf shelf.old) (files_of H.Shelf shelf.new)
+        (chip_task chip.now) result }
 {
     let chip = read_chip_file(alloc, chip, shelf)?;
-    Ok(Answer::done(chip_line(alloc, &chip)?))
+    ended(summed_up(alloc, &chip))
+}
+
+/// The line of a chip as an answer.
+fn summed_up(alloc: Global, chip: &Chip) -> Result<Answer, NoMemory>
+    ensures { IfOk result (λ answer. answer ≡ done (chip_text chip.now)) }
+{
+    Ok(Answer::done(chip_line(alloc, chip)?))
 }
 
 fn chip_line(alloc: Global, chip: &Chip) -> Result<Vec<u8>, NoMemory>

@@ -1,40 +1,36 @@
 // `demo N`: a large run that is made from a number, summed up.
 ghost use Rattle.aeth_accepted.specs.Inputs.{AreAccepted};
+ghost use Rattle.aeth_alloc.specs.Allocation.{OutcomeData};
+ghost use Rattle.aeth_answers.specs.Places.{Files};
+ghost use Rattle.aeth_answers.specs.Stop.{Answers, Judges};
 ghost use Rattle.aeth_app.specs.App.{IsAppOf};
-ghost use Rattle.aeth_check.specs.Accepted.{IsAccepted};
+ghost use Rattle.aeth_base.specs.Limits.{max_cycles};
 ghost use Rattle.aeth_cli.specs.Commands.{HasRanges};
-ghost use Rattle.aeth_cli.specs.Commands.Demo.{demo_command, demo_task, planned_demo, summary_text};
-ghost use Rattle.aeth_cli.specs.Commands.Demo.{texts_task, traced_demo};
-ghost use Rattle.aeth_cli.specs.Job.{done};
-ghost use Rattle.aeth_cli.specs.Places.{Files};
-ghost use Rattle.aeth_cli.specs.Stop.{IfAnswer};
-ghost use Rattle.aeth_cli.specs.Task.{IsAnswer};
+ghost use Rattle.aeth_cli.specs.Commands.Demo.{demo_command, demo_task, design_text, granted_plan};
+ghost use Rattle.aeth_cli.specs.Commands.Demo.{on_refusals, planned_demo, summary_job, summary_text};
+ghost use Rattle.aeth_cli.specs.Commands.Demo.{texts_task, traced_demo, traces_texts};
 ghost use Rattle.aeth_demo.specs.Limits.{demo_cycles, max_demo_number};
 ghost use Rattle.aeth_group.specs.Members.{groups_of};
-ghost use Rattle.aeth_plan.specs.Plan.{IsPlanOf};
+ghost use Rattle.aeth_playing.specs.RunInputs.{inputs_of};
 ghost use Rattle.aeth_report.specs.Limits.{max_total};
 ghost use Rattle.aeth_report.specs.Regular.{landings_in, offered_in};
-ghost use Rattle.std.specs.Prelude.{◌≡◌, ◌≤◌, IfOk, IfSome, map, string_bytes, sum, sum_by};
+ghost use Rattle.aeth_tables.specs.Reserved.{IsDesign};
+ghost use Rattle.aeth_tables.specs.Switching.{spans_of};
+ghost use Rattle.std.specs.Prelude.{◌≡◌, ◌≤◌, ℕ, [], IfOk, IfSome, map, string_bytes, sum, sum_by};
 
-use crate::answer::{Answer, Stop};
 use crate::commands::Command;
 use crate::commands::allocate::refusals;
 use crate::files::{app_in, chip_in, receivers_in, switches_in, words_in};
-use crate::playing::played;
-use crate::text::push_total;
-use crate::totals::{flits, landings, late, offered, outside};
-use crate::words::number_in;
-use aeth_alloc::allocate;
+use aeth_alloc::{Outcome, allocate};
+use aeth_answers::{Answer, Stop, ended, number_in, push_total};
 use aeth_app::App;
 use aeth_base::NoMemory;
-use aeth_chip::Chip;
 use aeth_demo::{DEMO_CYCLES, DemoTexts, MAX_DEMO_NUMBER, demo_texts};
 use aeth_group::Groups;
 use aeth_machine::Machine;
 use aeth_plan::Plan;
+use aeth_playing::{Design, Planned, Traces, flits, landings, late, offered, outside, played};
 use aeth_report::SimLog;
-use aeth_tables::spans;
-use aeth_trace::{Receivers, Switches, Words};
 use std::alloc::Global;
 
 /// The turn of the run.
@@ -55,7 +51,7 @@ pub fn command<'a>(words: &'a [String]) -> Option<Command<'a>>
 /// What the run of a number comes to.
 pub fn answer<M: Machine>(alloc: Global, n: u32) -> Result<Answer, Stop>
     requires { n ≤ max_demo_number }
-    ensures { (now : Files) → IfAnswer result (IsAnswer now now (demo_task M.outcome n)) }
+    ensures { (now : Files) → Answers now now (demo_task M.outcome n) result }
 {
     let texts = demo_texts(alloc, n)?;
     texts_answer::<M>(alloc, n, &texts)
@@ -63,12 +59,10 @@ pub fn answer<M: Machine>(alloc: Global, n: u32) -> Result<Answer, Stop>
 
 /// The same for the texts.
 fn texts_answer<M: Machine>(alloc: Global, n: u32, texts: &DemoTexts) -> Result<Answer, Stop>
-    ensures { (now : Files) → IfAnswer result (IsAnswer now now
-        (texts_task M.outcome n texts.now)) }
+    ensures { (now : Files) → Answers now now (texts_task M.outcome n texts.now) result }
 {
-    let chip = chip_in(alloc, &texts.chip)?;
-    let app = app_in(alloc, &chip, &texts.app)?;
-    planned_answer::<M>(alloc, n, texts, &chip, &app)
+    let design = design_in(alloc, texts)?;
+    planned_answer::<M>(alloc, n, texts, &design)
 }
 
 /// The same for a chip and an application.
@@ -76,24 +70,13 @@ fn planned_answer<M: Machine>(
     alloc: Global,
     n: u32,
     texts: &DemoTexts,
-    chip: &Chip,
-    app: &App,
+    design: &Design,
 ) -> Result<Answer, Stop>
-    requires { IsAppOf chip.now app.now }
-    ensures { (now : Files) → IfAnswer result (IsAnswer now now
-        (planned_demo M.outcome n texts.now chip.now app.now)) }
+    requires { IsAppOf design.now.chip design.now.app }
+    ensures { (now : Files) → Answers now now (planned_demo M.outcome n texts.now design.now) result }
 {
-    // The calls tell what holds of every chip and every application, and of a plan without refusals.
-    let _chip_slots = chip.slots();
-    let _app_slots = app.slots();
-    aeth_alloc::laws::plans();
-    let groups = Groups::of(alloc, app)?;
-    let outcome = allocate(alloc, chip, app, &groups)?;
-    if outcome.refused.is_empty() {
-        traced_answer::<M>(alloc, n, texts, chip, app, &groups, &outcome.plan)
-    } else {
-        Ok(Answer::not_granted(refusals(alloc, app, &outcome.refused)?))
-    }
+    let planned = granted(alloc, design)?;
+    traced_answer::<M>(alloc, n, texts, design, &planned)
 }
 
 /// The same for an accepted plan.
@@ -101,76 +84,112 @@ fn traced_answer<M: Machine>(
     alloc: Global,
     n: u32,
     texts: &DemoTexts,
-    chip: &Chip,
-    app: &App,
-    groups: &Groups,
-    plan: &Plan,
+    design: &Design,
+    planned: &Planned,
 ) -> Result<Answer, Stop>
-    requires of_chip { IsAppOf chip.now app.now }
-    requires groups { groups.now ≡ groups_of app.now }
-    requires plan { IsPlanOf chip.now app.now groups.now plan.now }
-    requires accepted { IsAccepted chip.now app.now groups.now plan.now }
-    ensures { (now : Files) → IfAnswer result (IsAnswer now now
-        (traced_demo M.outcome n texts.now chip.now app.now plan.now)) }
+    requires of_chip { IsAppOf design.now.chip design.now.app }
+    requires groups { planned.now.groups ≡ groups_of design.now.app }
+    requires design { IsDesign design.now.chip design.now.app planned.now.plan }
+    ensures { (now : Files) → Answers now now
+        (traced_demo M.outcome n texts.now design.now planned.now.plan) result }
 {
-    // The calls tell what holds of every chip and every application.
-    let _chip_slots = chip.slots();
-    let _app_slots = app.slots();
-    let words = words_in(alloc, app, &texts.words)?;
-    let receivers = receivers_in(alloc, app, &texts.receivers)?;
-    let spans = spans(alloc, chip, app, groups, plan)?;
-    let switches = switches_in(alloc, app, &spans, &texts.switches)?;
-    Ok(summed_up::<M>(
-        alloc, n, chip, app, groups, plan, &words, &receivers, &switches,
-    )?)
+    let traces = traces_in(alloc, texts, design, planned)?;
+    ended(summed_up::<M>(alloc, n, design, planned, &traces))
+}
+
+/// The chip and the application of the texts.
+fn design_in(alloc: Global, texts: &DemoTexts) -> Result<Design, Stop>
+    ensures judges { (now : Files) → Judges now now (design_text texts.now)
+        (λ design. design) result }
+    ensures app { IfOk result (λ design. IsAppOf design.chip design.app) }
+{
+    let chip = chip_in(alloc, &texts.chip)?;
+    let app = app_in(alloc, &chip, &texts.app)?;
+    Ok(Design { chip, app })
+}
+
+/// The plan of an allocation, where no unit is refused.
+fn granted(alloc: Global, design: &Design) -> Result<Planned, Stop>
+    requires { IsAppOf design.now.chip design.now.app }
+    ensures judges { (now : Files) → Judges now now
+        (granted_plan design.now.chip design.now.app) (λ planned. planned.plan) result }
+    ensures groups { IfOk result (λ planned. planned.groups ≡ groups_of design.now.app) }
+    ensures design { IfOk result
+        (λ planned. IsDesign design.now.chip design.now.app planned.plan) }
+{
+    // The calls tell what holds of every chip and every application, and of a plan without refusals.
+    let _chip_slots = design.chip.slots();
+    let _app_slots = design.app.slots();
+    aeth_alloc::laws::plans();
+    let groups = Groups::of(alloc, &design.app)?;
+    let outcome = allocate(alloc, &design.chip, &design.app, &groups)?;
+    without_refusals(alloc, &design.app, groups, outcome)
+}
+
+/// The plan of an outcome, where no unit is refused.
+fn without_refusals(
+    alloc: Global,
+    app: &App,
+    groups: Groups,
+    outcome: Outcome,
+) -> Result<Planned, Stop>
+    ensures judges { (now : Files) → Judges now now
+        (on_refusals app.now outcome.plan outcome.refused) (λ planned. planned.plan) result }
+    ensures none { IfOk result (λ _. outcome.refused ≡ []) }
+    ensures groups { IfOk result (λ planned. planned.groups ≡ groups) }
+    ensures plan { IfOk result (λ planned. planned.plan ≡ outcome.plan) }
+{
+    if outcome.refused.is_empty() {
+        let plan = outcome.plan;
+        Ok(Planned { groups, plan })
+    } else {
+        let lines = refusals(alloc, app, &outcome.refused)?;
+        Err(Stop::Ends(Answer::not_granted(lines)))
+    }
+}
+
+/// The traces of the texts, for an accepted plan. With them the inputs of the run are accepted.
+fn traces_in(
+    alloc: Global,
+    texts: &DemoTexts,
+    design: &Design,
+    planned: &Planned,
+) -> Result<Traces, Stop>
+    requires of_chip { IsAppOf design.now.chip design.now.app }
+    requires groups { planned.now.groups ≡ groups_of design.now.app }
+    requires design { IsDesign design.now.chip design.now.app planned.now.plan }
+    ensures judges { (now : Files) → Judges now now (traces_texts texts.now design.now.app
+        (spans_of design.now.chip design.now.app (groups_of design.now.app) planned.now.plan))
+        (λ traces. traces) result }
+    ensures accepted { (cycles : ℕ) → cycles ≤ max_cycles → IfOk result
+        (λ traces. AreAccepted (inputs_of design.now planned.now.plan traces cycles)) }
+{
+    let words = words_in(alloc, &design.app, &texts.words)?;
+    let receivers = receivers_in(alloc, &design.app, &texts.receivers)?;
+    let switches = switches_in(alloc, design, planned, &texts.switches)?;
+    Ok(Traces {
+        words,
+        receivers,
+        switches,
+    })
 }
 
 /// What the run of accepted inputs comes to.
 fn summed_up<M: Machine>(
     alloc: Global,
     n: u32,
-    chip: &Chip,
-    app: &App,
-    groups: &Groups,
-    plan: &Plan,
-    words: &Words,
-    receivers: &Receivers,
-    switches: &Switches,
+    design: &Design,
+    planned: &Planned,
+    traces: &Traces,
 ) -> Result<Answer, NoMemory>
-    requires groups { groups.now ≡ groups_of app.now }
-    requires accepted { AreAccepted (record {
-      chip = chip.now;
-      app = app.now;
-      plan = plan.now;
-      words = words.now;
-      pulls = receivers.now;
-      switches = switches.now;
-      cycles = demo_cycles;
-    }) }
-    ensures { IfOk result (λ answer. answer ≡ done (summary_text n plan.now
-        (M.outcome (record {
-          chip = chip.now;
-          app = app.now;
-          plan = plan.now;
-          words = words.now;
-          pulls = receivers.now;
-          switches = switches.now;
-          cycles = demo_cycles;
-        })))) }
+    requires groups { planned.now.groups ≡ groups_of design.now.app }
+    requires accepted { AreAccepted
+        (inputs_of design.now planned.now.plan traces.now demo_cycles) }
+    ensures { IfOk result (λ answer. answer ≡ summary_job M.outcome n
+        (inputs_of design.now planned.now.plan traces.now demo_cycles)) }
 {
-    let log = played::<M>(
-        alloc,
-        chip,
-        app,
-        groups,
-        plan,
-        words,
-        receivers,
-        switches,
-        DEMO_CYCLES,
-        TURN,
-    )?;
-    Ok(Answer::done(summary_line(alloc, n, plan, &log)?))
+    let log = played::<M>(alloc, design, planned, traces, DEMO_CYCLES, TURN)?;
+    Ok(Answer::done(summary_line(alloc, n, &planned.plan, &log)?))
 }
 
 /// The line of a log whose sums fit 32 bits.

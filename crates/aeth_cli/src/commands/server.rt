@@ -5,9 +5,8 @@ ghost use Rattle.aeth_cli.specs.Commands.{HasRanges};
 ghost use Rattle.aeth_cli.specs.Commands.Server.{latency_job, latency_text, server_command};
 ghost use Rattle.std.specs.Prelude.{◌≡◌, ◌≤◌, IfOk, IfSome, length, map, string_bytes};
 
-use crate::answer::Answer;
 use crate::commands::Command;
-use crate::words::{number_in, slots_in};
+use aeth_answers::{Answer, number_in, slots_in};
 use aeth_base::{MAX_PATH_DELAY, MAX_SLOTS, MIN_PATH_LINKS, NoMemory, WORDS_PER_FLIT};
 use aeth_server::latency;
 use aeth_slots::SlotSet;

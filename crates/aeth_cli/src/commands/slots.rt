@@ -3,10 +3,8 @@ ghost use Rattle.aeth_cli.specs.Commands.{HasRanges};
 ghost use Rattle.aeth_cli.specs.Commands.Slots.{chosen_job, slots_command};
 ghost use Rattle.std.specs.Prelude.{◌≡◌, ◌≤◌, IfOk, IfSome, map, string_bytes};
 
-use crate::answer::Answer;
 use crate::commands::Command;
-use crate::text::push_slots;
-use crate::words::{number_in, slots_in};
+use aeth_answers::{Answer, number_in, push_slots, slots_in};
 use aeth_base::{MAX_SLOTS, NoMemory};
 use aeth_slots::{SlotSet, choose};
 use std::alloc::Global;

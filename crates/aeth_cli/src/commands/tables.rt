@@ -1,26 +1,21 @@
 // `tables CHIP APP PLAN USE`: the tables of the interfaces in a use case.
-ghost use Rattle.aeth_check.specs.Accepted.{IsAccepted};
+ghost use Rattle.aeth_answers.specs.Places.{files_of};
+ghost use Rattle.aeth_answers.specs.Stop.{Answers};
 ghost use Rattle.aeth_cli.specs.Commands.{HasRanges};
-ghost use Rattle.aeth_cli.specs.Commands.Tables.{tables_command, tables_job, tables_task, tables_with};
-ghost use Rattle.aeth_cli.specs.Places.{files_of};
-ghost use Rattle.aeth_cli.specs.Stop.{IfAnswer};
-ghost use Rattle.aeth_cli.specs.Task.{IsAnswer};
+ghost use Rattle.aeth_cli.specs.Commands.Tables.{named_tables, tables_command, tables_job};
+ghost use Rattle.aeth_cli.specs.Commands.Tables.{tables_task, tables_with};
 ghost use Rattle.aeth_group.specs.Members.{groups_of};
-ghost use Rattle.aeth_plan.specs.Plan.{IsPlanOf};
+ghost use Rattle.aeth_tables.specs.Reserved.{IsDesign};
 ghost use Rattle.std.specs.Prelude.{◌≡◌, ◌<◌, IfOk, IfSome, length, map, string_bytes};
 
-use crate::answer::{Answer, Stop};
 use crate::commands::Command;
-use crate::files::{read_app_file, read_chip_file, read_plan_file};
-use crate::plans::accept_plan;
+use crate::designs::read_design;
+use crate::plans::read_accepted;
 use crate::uses::named_use;
-use crate::words::FileName;
-use aeth_app::App;
+use aeth_answers::{Answer, FileName, Stop, ended};
 use aeth_base::{Name, NoMemory, UseId};
-use aeth_chip::Chip;
-use aeth_group::Groups;
 use aeth_io::Shelf;
-use aeth_plan::Plan;
+use aeth_playing::{Design, Planned};
 use aeth_tables::{table_text, tables};
 use std::alloc::Global;
 
@@ -53,49 +48,53 @@ pub fn answer<H: Shelf>(
     name: &Name,
     shelf: &mut H,
 ) -> Result<Answer, Stop>
-    ensures { IfAnswer result (IsAnswer (files_of H.Shelf shelf.old) (files_of H.Shelf shelf.new)
-        (tables_task chip.now app.now plan.now name.now)) }
+    ensures { Answers (files_of H.Shelf shelf.old) (files_of H.Shelf shelf.new)
+        (tables_task chip.now app.now plan.now name.now) result }
 {
-    let chip = read_chip_file(alloc, chip, shelf)?;
-    let app = read_app_file(alloc, &chip, app, shelf)?;
-    let u = named_use(alloc, &app, name)?;
-    plan_answer(alloc, &chip, &app, u, plan, shelf)
+    let design = read_design(alloc, chip, app, shelf)?;
+    named_answer(alloc, &design, plan, name, shelf)
 }
 
-/// The tables of a use case, for a chip and an application.
+/// The same for a chip and an application.
+fn named_answer<H: Shelf>(
+    alloc: Global,
+    design: &Design,
+    plan: &FileName,
+    name: &Name,
+    shelf: &mut H,
+) -> Result<Answer, Stop>
+    ensures { Answers (files_of H.Shelf shelf.old) (files_of H.Shelf shelf.new)
+        (named_tables design.now plan.now name.now) result }
+{
+    let u = named_use(alloc, &design.app, name)?;
+    plan_answer(alloc, design, u, plan, shelf)
+}
+
+/// The same for a use case.
 fn plan_answer<H: Shelf>(
     alloc: Global,
-    chip: &Chip,
-    app: &App,
+    design: &Design,
     u: UseId,
     plan: &FileName,
     shelf: &mut H,
 ) -> Result<Answer, Stop>
-    requires { u.0 < length app.now.uses }
-    ensures { IfAnswer result (IsAnswer (files_of H.Shelf shelf.old) (files_of H.Shelf shelf.new)
-        (tables_with chip.now app.now u plan.now)) }
+    requires { u.0 < length design.now.app.uses }
+    ensures { Answers (files_of H.Shelf shelf.old) (files_of H.Shelf shelf.new)
+        (tables_with design.now u plan.now) result }
 {
-    let groups = Groups::of(alloc, app)?;
-    let plan = read_plan_file(alloc, chip, app, &groups, plan, shelf)?;
-    accept_plan(alloc, chip, app, &groups, &plan)?;
-    Ok(printed(alloc, chip, app, &groups, &plan, u)?)
+    let planned = read_accepted(alloc, design, plan, shelf)?;
+    ended(printed(alloc, design, &planned, u))
 }
 
 /// The text of the tables of a use case by an accepted plan.
-fn printed(
-    alloc: Global,
-    chip: &Chip,
-    app: &App,
-    groups: &Groups,
-    plan: &Plan,
-    u: UseId,
-) -> Result<Answer, NoMemory>
-    requires groups { groups.now ≡ groups_of app.now }
-    requires plan { IsPlanOf chip.now app.now groups.now plan.now }
-    requires accepted { IsAccepted chip.now app.now groups.now plan.now }
-    requires use_case { u.0 < length app.now.uses }
-    ensures { IfOk result (λ answer. answer ≡ tables_job chip.now app.now plan.now u) }
+fn printed(alloc: Global, design: &Design, planned: &Planned, u: UseId) -> Result<Answer, NoMemory>
+    requires groups { planned.now.groups ≡ groups_of design.now.app }
+    requires design { IsDesign design.now.chip design.now.app planned.now.plan }
+    requires use_case { u.0 < length design.now.app.uses }
+    ensures { IfOk result (λ answer. answer
+        ≡ tables_job design.now.chip design.now.app planned.now.plan u) }
 {
-    let tables = tables(alloc, chip, app, groups, plan, u)?;
+    let Design { chip, app } = design;
+    let tables = tables(alloc, chip, app, &planned.groups, &planned.plan, u)?;
     Ok(Answer::done(table_text(alloc, &tables, chip, app)?))
 }

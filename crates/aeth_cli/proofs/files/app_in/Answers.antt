@@ -2,7 +2,7 @@ use Rattle.std.specs.Prelude.{codes}
 use Rattle.aeth_app.specs.App.{IsAppOf}
 use Rattle.aeth_app.specs.AppFile.{app_of}
 use Rattle.aeth_app.specs.Fault.{rule_of}
-use Rattle.aeth_cli.proofs.FileLemmas.{HandsOn-keeps, Judges-told}
+use Rattle.aeth_answers.proofs.FileLemmas.{HandsOn-keeps, Judges-told}
 use Rattle.aeth_cli.proofs.files.app_in.Goals as goal
 
 -- The bytes are judged.

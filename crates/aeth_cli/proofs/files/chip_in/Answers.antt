@@ -1,7 +1,7 @@
 use Rattle.std.specs.Prelude.{codes}
 use Rattle.aeth_chip.specs.ChipFile.{chip_of}
 use Rattle.aeth_chip.specs.Faults.{rule_of}
-use Rattle.aeth_cli.proofs.FileLemmas.{Judges-told}
+use Rattle.aeth_answers.proofs.FileLemmas.{Judges-told}
 use Rattle.aeth_cli.proofs.files.chip_in.Goals as goal
 
 -- The bytes are judged.

@@ -3,7 +3,7 @@ use Rattle.aeth_group.specs.Members.{groups_of}
 use Rattle.aeth_plan.specs.Plan.{IsPlanOf}
 use Rattle.aeth_plan.specs.PlanText.{plan_of}
 use Rattle.aeth_plan.specs.Refusals.{rule_of}
-use Rattle.aeth_cli.proofs.FileLemmas.{HandsOn-keeps, Judges-told}
+use Rattle.aeth_answers.proofs.FileLemmas.{HandsOn-keeps, Judges-told}
 use Rattle.aeth_cli.proofs.files.plan_in.Goals as goal
 
 -- The bytes are judged.

@@ -2,26 +2,29 @@ use Rattle.std.specs.Prelude.{ℕ, Vec, codes}
 use Rattle.std.specs.Global.{Global}
 use Rattle.std.proofs.lemmas.Result.{err_from_is_err_and}
 use Rattle.aeth_chip.specs.ChipFile.{chip_of}
-use Rattle.aeth_cli.specs.Files.{judgement, text_file}
-use Rattle.aeth_cli.specs.Places.{files_of}
-use Rattle.aeth_cli.proofs.FileLemmas.{Judges-read, Judges-stopped}
+use Rattle.aeth_answers.specs.Files.{judgement, text_file}
+use Rattle.aeth_answers.specs.Places.{files_of}
+use Rattle.aeth_answers.proofs.FileLemmas.{Judges-stopped, Judges-then}
 use Rattle.aeth_cli.proofs.files.read_chip_file.Goals as goal
 
 -- The file can't be read, or is too long.
 pub returns-in_err-bytes : goal.returns-in_err-bytes
 returns-in_err-bytes g c =
     let p = err_from_is_err_and c.from_residual.result c.from_residual.ensures.1 in
+    let told_by = chip_of in
     rw (p.1, p.2)
     (Judges-stopped (files_of g.H.Shelf c.args.shelf.now) (files_of g.H.Shelf c.read_file.new.shelf)
     (text_file (codes "chip") c.args.name.now)
-    (λ bytes. judgement (codes "chip") (chip_of bytes))
-    (λ (bytes : Vec ℕ Global). bytes.items) (λ chip. chip) _ c.in_err-bytes.ensures)
+    (λ bytes. judgement (codes "chip") (told_by bytes))
+    (λ (bytes : Vec ℕ Global). bytes.items) (λ value. value) _ c.in_err-bytes.ensures)
 
 -- The file was read, and is judged.
 pub returns : goal.returns
 returns g c =
     let now = files_of g.H.Shelf c.read_file.new.shelf in
-    Judges-read (files_of g.H.Shelf c.args.shelf.now) now (codes "chip") c.args.name.now
-    (λ (bytes : Vec ℕ Global). bytes.items) c.in_ok-bytes.bytes
-    chip_of (λ chip. chip) c.chip_in.result c.in_ok-bytes.ensures
-    ((rw c.deref.ensures.value at c.chip_in.ensures) now)
+    let told_by = chip_of in
+    Judges-then (files_of g.H.Shelf c.args.shelf.now) now now
+    (text_file (codes "chip") c.args.name.now)
+    (λ bytes. judgement (codes "chip") (told_by bytes))
+    (λ (bytes : Vec ℕ Global). bytes.items) c.in_ok-bytes.bytes (λ value. value)
+    c.chip_in.result c.in_ok-bytes.ensures ((rw c.deref.ensures.value at c.chip_in.ensures) now)

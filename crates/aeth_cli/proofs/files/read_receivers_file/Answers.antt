@@ -2,26 +2,29 @@ use Rattle.std.specs.Prelude.{ℕ, Vec, codes}
 use Rattle.std.specs.Global.{Global}
 use Rattle.std.proofs.lemmas.Result.{err_from_is_err_and}
 use Rattle.aeth_trace.specs.Receivers.{receivers_of}
-use Rattle.aeth_cli.specs.Files.{judgement, text_file}
-use Rattle.aeth_cli.specs.Places.{files_of}
-use Rattle.aeth_cli.proofs.FileLemmas.{Judges-read, Judges-stopped}
+use Rattle.aeth_answers.specs.Files.{judgement, text_file}
+use Rattle.aeth_answers.specs.Places.{files_of}
+use Rattle.aeth_answers.proofs.FileLemmas.{Judges-stopped, Judges-then}
 use Rattle.aeth_cli.proofs.files.read_receivers_file.Goals as goal
 
 -- The file can't be read, or is too long.
 pub returns-in_err-bytes-clause-judges : goal.returns-in_err-bytes-clause-judges
 returns-in_err-bytes-clause-judges g c =
     let p = err_from_is_err_and c.from_residual.result c.from_residual.ensures.1 in
+    let told_by = receivers_of c.args.app.now in
     rw (p.1, p.2)
     (Judges-stopped (files_of g.H.Shelf c.args.shelf.now) (files_of g.H.Shelf c.read_file.new.shelf)
     (text_file (codes "receivers") c.args.name.now)
-    (λ bytes. judgement (codes "receivers") (receivers_of c.args.app.now bytes))
-    (λ (bytes : Vec ℕ Global). bytes.items) (λ receivers. receivers) _ c.in_err-bytes.ensures)
+    (λ bytes. judgement (codes "receivers") (told_by bytes))
+    (λ (bytes : Vec ℕ Global). bytes.items) (λ value. value) _ c.in_err-bytes.ensures)
 
 -- The file was read, and is judged.
 pub returns-clause-judges : goal.returns-clause-judges
 returns-clause-judges g c =
     let now = files_of g.H.Shelf c.read_file.new.shelf in
-    Judges-read (files_of g.H.Shelf c.args.shelf.now) now (codes "receivers") c.args.name.now
-    (λ (bytes : Vec ℕ Global). bytes.items) c.in_ok-bytes.bytes
-    (receivers_of c.args.app.now) (λ receivers. receivers) c.receivers_in.result c.in_ok-bytes.ensures
-    ((rw c.deref.ensures.value at c.receivers_in.ensures.judges) now)
+    let told_by = receivers_of c.args.app.now in
+    Judges-then (files_of g.H.Shelf c.args.shelf.now) now now
+    (text_file (codes "receivers") c.args.name.now)
+    (λ bytes. judgement (codes "receivers") (told_by bytes))
+    (λ (bytes : Vec ℕ Global). bytes.items) c.in_ok-bytes.bytes (λ value. value)
+    c.receivers_in.result c.in_ok-bytes.ensures ((rw c.deref.ensures.value at c.receivers_in.ensures.judges) now)

@@ -1,7 +1,7 @@
 use Rattle.std.specs.Prelude.{codes}
 use Rattle.aeth_trace.specs.Fault.{rule_of}
 use Rattle.aeth_trace.specs.Words.{AreWordsOf, words_of}
-use Rattle.aeth_cli.proofs.FileLemmas.{HandsOn-keeps, Judges-told}
+use Rattle.aeth_answers.proofs.FileLemmas.{HandsOn-keeps, Judges-told}
 use Rattle.aeth_cli.proofs.files.words_in.Goals as goal
 
 -- The bytes are judged.

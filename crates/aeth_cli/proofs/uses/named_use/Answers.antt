@@ -4,13 +4,17 @@ use Rattle.std.specs.Str.{bytes_eq}
 use Rattle.std.proofs.lemmas.List.{length-map}
 use Rattle.std.proofs.lemmas.List.Quantifiers.{position-Some}
 use Rattle.aeth_cli.specs.Uses.{unknown_use}
-use Rattle.aeth_cli.proofs.FileLemmas.{IsAnswer-refused}
+use Rattle.aeth_answers.proofs.FileLemmas.{IsAnswer-refused}
+use Rattle.aeth_answers.proofs.TaskLemmas.{IsAfter-same}
 use Rattle.aeth_cli.proofs.uses.named_use.Goals as goal
 
 -- A use case has the name, and what comes next is left.
 pub returns-in-Some-clause-judges : goal.returns-in-Some-clause-judges
 returns-in-Some-clause-judges c =
-    λ now next new answer answers. rw (sym c.in-Some.ensures) answers
+    λ now. record {
+      after = IsAfter-same now;
+      judges = λ next new answer answers. rw (sym c.in-Some.ensures) answers;
+    }
 
 -- Its number is that of a use case.
 pub returns-in-Some-clause-within : goal.returns-in-Some-clause-within
@@ -23,6 +27,9 @@ returns-in-Some-clause-within c =
 -- No use case has the name.
 pub returns-in_ok-unknown-in-None-clause-judges : goal.returns-in_ok-unknown-in-None-clause-judges
 returns-in_ok-unknown-in-None-clause-judges c =
-    λ now next. rw (sym c.in-None.ensures)
-    (IsAnswer-refused now (codes "use") (unknown_use c.args.name.now) _
-    c.in_ok-unknown-in-None.ensures)
+    λ now. record {
+      after = IsAfter-same now;
+      judges = λ next. rw (sym c.in-None.ensures)
+          (IsAnswer-refused now (codes "use") (unknown_use c.args.name.now) _
+          c.in_ok-unknown-in-None.ensures);
+    }

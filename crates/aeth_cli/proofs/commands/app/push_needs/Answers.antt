@@ -1,6 +1,6 @@
 use Rattle.std.proofs.Common.{arith}
 use Rattle.aeth_cli.specs.Commands.App.{need_text}
-use Rattle.aeth_cli.proofs.Listing.{flat_map-take_more}
+use Rattle.aeth_answers.proofs.Listing.{flat_map-take_more}
 use Rattle.aeth_cli.proofs.commands.app.push_needs.Goals as goal
 
 -- The needs of one connection more stand behind those before.

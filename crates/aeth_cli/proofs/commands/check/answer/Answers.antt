@@ -1,24 +1,26 @@
-use Rattle.aeth_app.specs.App.{AppData}
-use Rattle.aeth_chip.specs.Chip.{ChipData}
+use Rattle.std.proofs.lemmas.Result.{err_from_is_err_and}
+use Rattle.aeth_playing.specs.declared.inputs.Design.{Design}
+use Rattle.aeth_answers.specs.Places.{files_of}
+use Rattle.aeth_answers.proofs.FileLemmas.{Answers-stopped, Answers-then}
 use Rattle.aeth_cli.specs.Commands.Check.{plan_task}
-use Rattle.aeth_cli.specs.Files.{app_file, chip_file}
-use Rattle.aeth_cli.specs.Places.{files_of}
-use Rattle.aeth_cli.specs.Task.{Task}
-use Rattle.aeth_cli.proofs.FileLemmas.{IfAnswer-left}
+use Rattle.aeth_cli.specs.Files.{design_file}
 use Rattle.aeth_cli.proofs.commands.check.answer.Goals as goal
 
--- The plan is judged for the chip and the application that were read.
+-- There is no design.
+pub returns-in_err-design : goal.returns-in_err-design
+returns-in_err-design g c =
+    let p = err_from_is_err_and c.from_residual.result c.from_residual.ensures.1 in
+    rw (p.1, p.2)
+    (Answers-stopped (files_of g.H.Shelf c.args.shelf.now)
+    (files_of g.H.Shelf c.read_design.new.shelf) (design_file c.args.chip.now c.args.app.now)
+    (λ (design : Design). design) (λ design. plan_task design c.args.plan.now) _
+    c.in_err-design.ensures.judges)
+
+-- What comes of the design is answered.
 pub returns : goal.returns
 returns g c =
-    let old = files_of g.H.Shelf c.args.shelf.now in
-    let chip_read = files_of g.H.Shelf c.read_chip_file.new.shelf in
-    let app_read = files_of g.H.Shelf c.read_app_file.new.shelf in
-    let now = files_of g.H.Shelf c.plan_answer.new.shelf in
-    let chip = c.in_ok-chip.chip in
-    let app = c.in_ok-app.app in
-    let planned : ChipData → AppData → Task = λ chip app. plan_task chip app c.args.plan.now in
-    let next : ChipData → Task = λ chip. app_file chip c.args.app.now (planned chip) in
-    IfAnswer-left old chip_read now (chip_file c.args.chip.now next) (next chip)
-    c.plan_answer.result (c.in_ok-chip.ensures next)
-    (IfAnswer-left chip_read app_read now (next chip) (planned chip app)
-    c.plan_answer.result (c.in_ok-app.ensures.judges (planned chip)) c.plan_answer.ensures)
+    Answers-then (files_of g.H.Shelf c.args.shelf.now)
+    (files_of g.H.Shelf c.read_design.new.shelf) (files_of g.H.Shelf c.plan_answer.new.shelf)
+    (design_file c.args.chip.now c.args.app.now) (λ (one : Design). one)
+    c.in_ok-design.design (λ design. plan_task design c.args.plan.now)
+    c.plan_answer.result c.in_ok-design.ensures.judges c.plan_answer.ensures

@@ -1,21 +1,25 @@
-use Rattle.std.proofs.Common.{◌≡◌, ◌∙◌, [], sym, arith}
-use Rattle.std.specs.Vec.{vec_len}
-use Rattle.std.proofs.lemmas.Bool.{eqb-true}
-use Rattle.std.proofs.lemmas.List.{nil_from_length}
-use Rattle.aeth_alloc.specs.Prices.{prices_of}
-use Rattle.aeth_cli.proofs.DemoLemmas.{plan_accepted}
+use Rattle.std.proofs.lemmas.Result.{err_from_is_err_and}
+use Rattle.aeth_playing.specs.declared.inputs.Planned.{Planned}
+use Rattle.aeth_answers.proofs.FileLemmas.{Answers-stopped, Answers-then}
+use Rattle.aeth_cli.specs.Commands.Demo.{granted_plan, traced_demo}
 use Rattle.aeth_cli.proofs.commands.demo.planned_answer.Goals as goal
 
--- Without refusals the plan is accepted.
-pub traced_answer-requires-clause-accepted : goal.traced_answer-requires-clause-accepted
-traced_answer-requires-clause-accepted g c =
-    let chip = c.args.chip.now in
-    let app = c.args.app.now in
-    let refused = c.outcome.inside.refused in
-    let long = refused.ok in
-    let zero = eqb-true (vec_len refused) 0 (sym c.is_empty.ensures ∙ c.if-is_empty.true) in
-    let none : refused.items ≡ [] = nil_from_length refused.items (omega (arith, long, zero)) in
-    plan_accepted chip app c.in_ok-groups.groups _ c.in_ok-groups.ensures.groups
-    (c.outcome.view_is ∙ c.in_ok-outcome.ensures.gives)
-    (c.plans.ensures.accepted chip app (prices_of app.price) c.slots-chip_slots.ensures.chip
-    c.slots-app_slots.ensures.app c.requires) none
+-- A unit is refused.
+pub returns-in_err-planned : goal.returns-in_err-planned
+returns-in_err-planned g c =
+    let p = err_from_is_err_and c.from_residual.result c.from_residual.ensures.1 in
+    let design = c.args.design.now in
+    λ now. rw (p.1, p.2)
+    (Answers-stopped now now (granted_plan design.chip design.app)
+    (λ (planned : Planned). planned.plan)
+    (λ plan. traced_demo g.M.Machine.outcome c.args.n c.args.texts.now design plan) _
+    (c.in_err-planned.ensures.judges now))
+
+-- The traces are judged for the plan.
+pub returns : goal.returns
+returns g c =
+    let design = c.args.design.now in
+    λ now. Answers-then now now now (granted_plan design.chip design.app)
+    (λ (planned : Planned). planned.plan) c.in_ok-planned.planned
+    (λ plan. traced_demo g.M.Machine.outcome c.args.n c.args.texts.now design plan)
+    c.traced_answer.result (c.in_ok-planned.ensures.judges now) (c.traced_answer.ensures now)

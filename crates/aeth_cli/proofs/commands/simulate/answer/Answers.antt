@@ -1,26 +1,28 @@
-use Rattle.aeth_app.specs.App.{AppData}
-use Rattle.aeth_chip.specs.Chip.{ChipData}
+use Rattle.std.proofs.lemmas.Result.{err_from_is_err_and}
+use Rattle.aeth_playing.specs.declared.inputs.Design.{Design}
+use Rattle.aeth_answers.specs.Places.{files_of}
+use Rattle.aeth_answers.proofs.FileLemmas.{Answers-stopped, Answers-then}
 use Rattle.aeth_cli.specs.Commands.Simulate.{planned_task}
-use Rattle.aeth_cli.specs.Files.{app_file, chip_file}
-use Rattle.aeth_cli.specs.Places.{files_of}
-use Rattle.aeth_cli.specs.Task.{Task}
-use Rattle.aeth_cli.proofs.FileLemmas.{IfAnswer-left}
+use Rattle.aeth_cli.specs.Files.{design_file}
 use Rattle.aeth_cli.proofs.commands.simulate.answer.Goals as goal
 
--- The plan is judged for the chip and the application that were read.
+-- There is no design.
+pub returns-in_err-design : goal.returns-in_err-design
+returns-in_err-design g c =
+    let p = err_from_is_err_and c.from_residual.result c.from_residual.ensures.1 in
+    rw (p.1, p.2)
+    (Answers-stopped (files_of g.H.Shelf c.args.shelf.now)
+    (files_of g.H.Shelf c.read_design.new.shelf) (design_file c.args.files.now.chip c.args.files.now.app)
+    (λ (design : Design). design) (λ design. planned_task g.M.Machine.outcome design c.args.files.now
+    c.args.cycles) _
+    c.in_err-design.ensures.judges)
+
+-- What comes of the design is answered.
 pub returns : goal.returns
 returns g c =
-    let old = files_of g.H.Shelf c.args.shelf.now in
-    let chip_read = files_of g.H.Shelf c.read_chip_file.new.shelf in
-    let app_read = files_of g.H.Shelf c.read_app_file.new.shelf in
-    let now = files_of g.H.Shelf c.planned_answer.new.shelf in
-    let chip = c.in_ok-chip.chip in
-    let app = c.in_ok-app.app in
-    let files = c.args.files.now in
-    let planned : ChipData → AppData → Task =
-    λ chip app. planned_task g.M.Machine.outcome chip app files c.args.cycles in
-    let next : ChipData → Task = λ chip. app_file chip files.app (planned chip) in
-    IfAnswer-left old chip_read now (chip_file files.chip next) (next chip)
-    c.planned_answer.result (c.in_ok-chip.ensures next)
-    (IfAnswer-left chip_read app_read now (next chip) (planned chip app)
-    c.planned_answer.result (c.in_ok-app.ensures.judges (planned chip)) c.planned_answer.ensures)
+    Answers-then (files_of g.H.Shelf c.args.shelf.now)
+    (files_of g.H.Shelf c.read_design.new.shelf) (files_of g.H.Shelf c.planned_answer.new.shelf)
+    (design_file c.args.files.now.chip c.args.files.now.app) (λ (one : Design). one)
+    c.in_ok-design.design (λ design. planned_task g.M.Machine.outcome design c.args.files.now
+    c.args.cycles)
+    c.planned_answer.result c.in_ok-design.ensures.judges c.planned_answer.ensures

@@ -1,40 +1,33 @@
-use Rattle.std.proofs.Common.{ℕ, Err}
 use Rattle.std.proofs.lemmas.Result.{err_from_is_err_and}
-use Rattle.aeth_accepted.specs.Inputs.{Inputs}
-use Rattle.aeth_app.specs.App.{AppData}
-use Rattle.aeth_chip.specs.Chip.{ChipData}
-use Rattle.aeth_plan.specs.Plan.{PlanData}
-use Rattle.aeth_report.specs.Log.{LogData}
-use Rattle.aeth_cli.specs.declared.commands.simulate.RunFiles.{RunFiles}
-use Rattle.aeth_cli.specs.Commands.Simulate.{planned_task, traces_task}
-use Rattle.aeth_cli.specs.Places.{files_of}
-use Rattle.aeth_cli.specs.Plans.{accepted_plan}
-use Rattle.aeth_cli.specs.Task.{Task}
-use Rattle.aeth_cli.proofs.FileLemmas.{IfAnswer-left, IfAnswer-stopped}
+use Rattle.aeth_playing.specs.declared.inputs.Planned.{Planned}
+use Rattle.aeth_answers.specs.Places.{files_of}
+use Rattle.aeth_answers.proofs.FileLemmas.{Answers-stopped, Answers-then}
+use Rattle.aeth_cli.specs.Commands.Simulate.{traces_task}
+use Rattle.aeth_cli.specs.Plans.{accepted_file}
 use Rattle.aeth_cli.proofs.commands.simulate.planned_answer.Goals as goal
 
--- What comes of a plan.
-abbrev judged : (Inputs → LogData) → ChipData → AppData → RunFiles → ℕ → PlanData → Task
-judged outcome chip app files cycles plan =
-    accepted_plan chip app plan (λ _. traces_task outcome chip app plan files cycles)
-
--- The plan isn't accepted.
-pub returns-in_err-accept_plan : goal.returns-in_err-accept_plan
-returns-in_err-accept_plan g c =
-    let p = err_from_is_err_and c.from_residual-in_err-accept_plan.result
-    c.from_residual-in_err-accept_plan.ensures.1 in
-    let outcome = g.M.Machine.outcome in
-    let now = files_of g.H.Shelf c.read_plan_file.new.shelf in
-    let chip = c.args.chip.now in
-    let app = c.args.app.now in
+-- There is no accepted plan.
+pub returns-in_err-planned : goal.returns-in_err-planned
+returns-in_err-planned g c =
+    let p = err_from_is_err_and c.from_residual.result c.from_residual.ensures.1 in
+    let design = c.args.design.now in
     let files = c.args.files.now in
-    let plan = c.in_ok-plan.plan in
-    let next = judged outcome chip app files c.args.cycles in
-    let stop = c.in_err-accept_plan.field-0.0 in
     rw (p.1, p.2)
-    (IfAnswer-left (files_of g.H.Shelf c.args.shelf.now) now now
-    (planned_task outcome chip app files c.args.cycles) (next plan) (Err stop)
-    (c.in_ok-plan.ensures.judges next)
-    (IfAnswer-stopped now now (accepted_plan chip app plan) (λ (done : Unit {0}). done)
-    (λ _. traces_task outcome chip app plan files c.args.cycles) stop
-    (c.in_err-accept_plan.ensures.judges now)))
+    (Answers-stopped (files_of g.H.Shelf c.args.shelf.now)
+    (files_of g.H.Shelf c.read_accepted.new.shelf)
+    (accepted_file design.chip design.app files.plan) (λ (planned : Planned). planned.plan)
+    (λ plan. traces_task g.M.Machine.outcome design plan files c.args.cycles) _
+    c.in_err-planned.ensures.judges)
+
+-- What comes of the plan is answered.
+pub returns : goal.returns
+returns g c =
+    let design = c.args.design.now in
+    let files = c.args.files.now in
+    Answers-then (files_of g.H.Shelf c.args.shelf.now)
+    (files_of g.H.Shelf c.read_accepted.new.shelf)
+    (files_of g.H.Shelf c.traced_answer.new.shelf)
+    (accepted_file design.chip design.app files.plan) (λ (planned : Planned). planned.plan)
+    c.in_ok-planned.planned
+    (λ plan. traces_task g.M.Machine.outcome design plan files c.args.cycles)
+    c.traced_answer.result c.in_ok-planned.ensures.judges c.traced_answer.ensures

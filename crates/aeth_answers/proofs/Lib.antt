@@ -1,0 +1,4 @@
+pub mod FileLemmas
+pub mod Listing
+pub mod Reading
+pub mod TaskLemmas

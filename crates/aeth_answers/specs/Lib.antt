@@ -1,0 +1,10 @@
+pub mod Files
+pub mod Job
+pub mod Places
+pub mod Refusal
+pub mod Status
+pub mod Stop
+pub mod Task
+pub mod Text
+pub mod Words
+pub mod Writing
