@@ -7,7 +7,8 @@ use Rattle.std.proofs.lemmas.Bool.{cond-false, false_from_ne_true, false≢true,
 use Rattle.std.proofs.lemmas.Option.{get_or_from_slice_get, none-some, same_Some}
 use Rattle.std.proofs.lemmas.Option.{slice_get-get_or}
 use Rattle.std.proofs.lemmas.Option.{slice_get_within}
-use Rattle.aeth_base.proofs.Members.{Contains-cases, Contains-here, Contains-nil, Contains-slice_get}
+use Rattle.aeth_base.proofs.Members.{Contains-cases, Contains-here, Contains-nil}
+use Rattle.aeth_base.proofs.Members.{Contains-slice_get}
 use Rattle.aeth_base.proofs.Members.{Contains-there, slice_get-Contains}
 use Rattle.aeth_text.specs.Order.{line_after}
 use Rattle.aeth_check.specs.Firsts.{NoTwo, first_line, first_pair, pair_or}

@@ -26,8 +26,8 @@ pub fn verdicts()
 {}
 
 /// Each rule that is tested by walking lines, paths and slots decides its fact: that two lines seat
-/// cores on one seat, that a unit has a grant for a side, that a grant's path leads from the sender's
-/// seat to the receiver's, that its slots suffice, and that two grants conflict.
+/// cores on one seat, that a unit has a grant for a side, that a grant's path leads from the
+/// sender's seat to the receiver's, that its slots suffice, and that two grants conflict.
 pub fn tests()
     ensures seats { (a b : SeatLine) → Decides (is_one_seat a b) (IsOneSeat a b) }
     ensures sides { (plan : PlanData) (unit : Unit) (side : Side)

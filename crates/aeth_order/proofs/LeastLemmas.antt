@@ -130,5 +130,6 @@ pub next-none : (units : UnitsData) (places : List (Option Place))
     → (next_unit units places ≡ None) ↔ (units.waiting ≡ [])
 next-none units places = (
   (λ none. none-empty (turn_order places) units.waiting (of-none _ none)),
-  (λ empty. ap (λ us. option_map (λ (a : UnitKeys). a.unit) (first_by (turn_order places) us)) empty),
+  (λ empty. ap (λ us. option_map (λ (a : UnitKeys). a.unit) (first_by (turn_order places) us))
+      empty),
 )

@@ -15,7 +15,8 @@ abbrev pub IsLess : ℕ → ℕ → Type 0 → Type 0
 IsLess a b Rest = (a < b) ⊎ ((a ≡ b) × Rest)
 
 -- A unit comes before another in a turn: one of which a core has a seat, then one with a greater
--- sum of needs, then with a lesser latency, then of an earlier connection, then of an earlier group.
+-- sum of needs, then with a lesser latency, then of an earlier connection, then of an earlier
+-- group.
 abbrev pub ComesBefore : List (Option Place) → UnitKeys → UnitKeys → Type 0
 ComesBefore places a b =
     IsLess (seat_key places a) (seat_key places b)

@@ -5,8 +5,8 @@ ghost use Rattle.aeth_seats.specs.Places.{Place};
 ghost use Rattle.aeth_order.specs.Turn.{IsNext};
 ghost use Rattle.aeth_order.specs.Units.{UnitsData, next_unit};
 
-/// The unit whose turn is next waits, and none that waits comes before it by the five keys. There is
-/// none exactly where none waits.
+/// The unit whose turn is next waits, and none that waits comes before it by the five keys. There
+/// is none exactly where none waits.
 pub fn turns()
     ensures next { (units : UnitsData) (places : List (Option Place)) (unit : Unit)
         → next_unit units places ≡ Some unit → IsNext units places unit }

@@ -101,7 +101,8 @@ all-cost chip book prices ask b most is is_book same costs node link leaves =
 -- The least number of links as a function is the one that was told.
 pub least-told : (chip : ChipData) → IsChip chip → (b : NiId) (node : Node) (told : Option ℕ)
     → IsLeastFrom chip.links b node told → least_from chip b node ≡ told
-least-told chip is_chip b (Router r) told is = sym (distance_is_least_onward chip is_chip r b told is)
+least-told chip is_chip b (Router r) told is =
+    sym (distance_is_least_onward chip is_chip r b told is)
 least-told chip is_chip b (Ni a) told is = sym (distance_is_least_distance chip is_chip a b told is)
 
 -- A live list whose end is near enough is open.

@@ -1,5 +1,6 @@
 -- Lists of interfaces, each once: a further one that stands in the list before adds nothing.
-use Rattle.std.proofs.Common.{◌≡◌, ◌∙◌, ◌+◌, ◌<◌, ◌++◌, ℕ, Bool, true, false, cond, ◌||◌, List, [], ◌∷◌}
+use Rattle.std.proofs.Common.{◌≡◌, ◌∙◌, ◌+◌, ◌<◌, ◌++◌, ℕ, Bool, true, false, cond, ◌||◌, List, []}
+use Rattle.std.proofs.Common.{◌∷◌}
 use Rattle.std.proofs.Common.{Contains, filter, not, eqb, get_or, length, take, sym, ap, subst, inl}
 use Rattle.std.proofs.Common.{inr, arith, refl}
 use Rattle.std.specs.List.{list_any}

@@ -1,5 +1,5 @@
--- The test of open lists decides: links that are joined and end at distinct routers, live unless there
--- are none, and near enough to the goal.
+-- The test of open lists decides: links that are joined and end at distinct routers, live unless
+-- there are none, and near enough to the goal.
 use Rattle.std.proofs.Common.{◌≡◌, ◌∙◌, ◌+◌, ◌++◌, ◌≤◌, ◌&&◌, ◌||◌, ℕ, Bool, true, false, List, []}
 use Rattle.std.proofs.Common.{◌∷◌, Contains, Option, Some, None, length, map, not, refl, sym, ap}
 use Rattle.std.proofs.Common.{slice_get, subst, inl, inr}

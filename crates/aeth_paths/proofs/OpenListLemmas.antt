@@ -1,5 +1,7 @@
--- The bound on steps counts, over all lists of links, the links that leave the ends of the open ones.
-use Rattle.std.proofs.Common.{◌≡◌, ◌∙◌, ◌+◌, ◌++◌, ◌&&◌, ℕ, zero, suc, Bool, true, false, cond, List}
+-- The bound on steps counts, over all lists of links, the links that leave the ends of the open
+-- ones.
+use Rattle.std.proofs.Common.{◌≡◌, ◌∙◌, ◌+◌, ◌++◌, ◌&&◌, ℕ, zero, suc, Bool, true, false, cond}
+use Rattle.std.proofs.Common.{List}
 use Rattle.std.proofs.Common.{[], ◌∷◌, Option, Some, filter, length, map, slice_get, refl, sym, ap}
 use Rattle.std.proofs.Common.{arith, inl, inr, zero-add}
 use Rattle.std.specs.List.{flat_map, range_with_len}

@@ -1,6 +1,7 @@
 -- Steps of the search: one more link of those that leave a node, and how many steps it may take.
 use Rattle.std.proofs.Common.{◌≡◌, ◌∙◌, ◌+◌, ◌-◌, ◌<◌, ◌≤◌, ◌++◌, ℕ, zero, suc, true, cond}
-use Rattle.std.proofs.Common.{List, [], ◌∷◌, Contains, length, take, Option, Some, slice_get, sym, refl, ap}
+use Rattle.std.proofs.Common.{List, [], ◌∷◌, Contains, length, take, Option, Some, slice_get, sym}
+use Rattle.std.proofs.Common.{refl, ap}
 use Rattle.std.proofs.Common.{subst}
 use Rattle.std.proofs.Common.{arith, None, inl, inr}
 use Rattle.std.specs.List.{flat_map}

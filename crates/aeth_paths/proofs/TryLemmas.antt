@@ -191,14 +191,16 @@ module _ (book : BookData) (prices : List ℕ) (ask : Request) (crowded : List N
             first_from-least over best paths path listed.0 listed.1;
       }
 
--- The steps of a pair that isn't one crowded interface, and that paths join, are those of its lists.
+-- The steps of a pair that isn't one crowded interface, and that paths join, are those of its
+-- lists.
 pub steps-allowed : (chip : ChipData) → IsChip chip → (book : BookData) (prices : List ℕ)
     (ask : Request) (crowded : List NiId) (a b : NiId) (distance most : ℕ)
     → IsDistance chip.links a b (Some distance) → most ≡ min (distance + ask.detour) max_path_links
     → is_crowded crowded a b ≡ false → allowed_steps chip book prices ask crowded a b
     ≡ open_steps (field book prices ask b most) (least_from chip b) max_path_links (Ni a) []
 steps-allowed chip is_chip book prices ask crowded a b distance most far limit room =
-    ap (λ c. cond c 0 (pair_steps book prices ask (least_from chip b) a b (least_distance chip a b)))
+    ap (λ c. cond c 0
+    (pair_steps book prices ask (least_from chip b) a b (least_distance chip a b)))
     room
     ∙ ap (pair_steps book prices ask (least_from chip b) a b)
     (sym (distance_is_least_distance chip is_chip a b (Some distance) far))

@@ -25,8 +25,8 @@ use Rattle.aeth_paths.specs.Search.{Field, is_new}
 abbrev pub leaves_from : List Link → Node → LinkId → Bool
 leaves_from links node link = link_passes (begins_at node) (slice_get links link.0)
 
--- Whether links are joined from a node on, at which a list of links ends, and each of them ends at a
--- router at which none before it does.
+-- Whether links are joined from a node on, at which a list of links ends, and each of them ends at
+-- a router at which none before it does.
 abbrev pub goes_on : List Link → Field → Node → List LinkId → List LinkId → Bool
 goes_on links f node path [] = true
 goes_on links f node path (link ∷ rest) =

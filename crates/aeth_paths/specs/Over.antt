@@ -23,8 +23,8 @@ pub record IsLonger (task : Task) (goal : Goal) (prefix : Prefix) (link : LinkId
   pub end : longer.end ≡ to_of task.book.now.links link
   pub node : IsNode task.chip.now.routers task.chip.now.nis longer.end
 
--- What is best after a link: the first of what was best and of the paths that go on over the link; or
--- what was best, and the longer list is to go on from.
+-- What is best after a link: the first of what was best and of the paths that go on over the link;
+-- or what was best, and the longer list is to go on from.
 abbrev pub IsOver : Task → Goal → Prefix → LinkId → Option Priced → Option Priced → Option Prefix
     → Type 0
 IsOver task goal prefix link old new None = (left : ℕ) → new ≡ priced (costs_of task)

@@ -15,8 +15,8 @@ ghost use Rattle.aeth_paths.specs.declared.request.Request.{Request};
 
 /// The bound on the steps of a pair counts, over all lists of at most seven links of the chip, the
 /// links that leave the end of a list that is open for the pair. A list is open where its links are
-/// joined and end at distinct routers, its free starts have suitable slots unless it is empty, and it
-/// is near enough to the goal.
+/// joined and end at distinct routers, its free starts have suitable slots unless it is empty, and
+/// it is near enough to the goal.
 pub fn open_lists()
     ensures open { (book : BookData) (prices : List ℕ) (ask : Request) (b : NiId) (most : ℕ)
         (least : Node → Option ℕ) (a : NiId) (path : List LinkId)

@@ -64,7 +64,7 @@ pub(crate) struct Priced {
     pub cost: u32,
 }
 
-/// What a link is for a search: one to no new router, the last one of a path, or one to a new router.
+/// What a link is for a search: one to no new router, the last of a path, or one to a new router.
 #[derive(Clone, Copy)]
 pub(crate) enum Turn {
     Away,
@@ -168,7 +168,6 @@ fn is_live(task: &Task, prefix: &Prefix) -> bool
     ensures { result ≡ is_live task.now.book.now task.now.ask prefix.now.path }
 {
     let gap = (task.ask.latency as u64 + 1).saturating_sub(prefix.delay as u64);
-
     // No gap is greater than the table.
     if gap >= prefix.free.size() as u64 {
         return prefix.free.count() >= task.ask.need.max(1);
@@ -324,7 +323,7 @@ fn is_hopeless(task: &Task, goal: &Goal, prefix: &Prefix, best: &Option<Priced>)
     !is_live(task, prefix)
 }
 
-/// What comes of a link that leaves a list's end: what is best then, or a longer list to go on from.
+/// What comes of a link that leaves a list's end: what is best then, or a list to go on from.
 fn over_link<L: Ledger>(
     task: &Task,
     goal: &Goal,

@@ -38,7 +38,8 @@ pub returns-in_default-clause-steps : goal.returns-in_default-clause-steps
 returns-in_default-clause-steps g t c =
     let f = field_of c.args.task.now c.args.goal.now in
     steps-end f (least_from c.args.task.now.chip.now c.args.goal.now.ni) c.args.left
-    c.args.prefix.now.end c.args.prefix.now.path c.loop-place.place c.args.steps.now c.loop-place.steps (omega arith)
+    c.args.prefix.now.end c.args.prefix.now.path c.loop-place.place c.args.steps.now
+    c.loop-place.steps (omega arith)
     (c.is_hopeless.ensures.open c.if-is_hopeless.false) c.loop-place.invariant.within
     (all-left c.args.task.now c.args.prefix.now.end c.loop-place.place c.requires.task
     c.in_default.ensures)
@@ -61,7 +62,8 @@ extend-best-requires g t c lives kept =
     let path = c.args.prefix.now.path in
     let longer = c.in-Some-longer.longer in
     let (is, same) = subst (IsOver c.args.task.now c.args.goal.now c.args.prefix.now c.in-Some.link
-    c.loop-place.best c.over_link-met.result.best) c.in-Some-longer.is c.over_link-met.ensures.over in
+    c.loop-place.best c.over_link-met.result.best) c.in-Some-longer.is
+    c.over_link-met.ensures.over in
     let more : length longer.path ≡ length path + 1 =
     ap (λ (p : List LinkId). length p) is.path ∙ length-append path (c.in-Some.link ∷ []) in (
       search (rules, c.decreases),
@@ -149,7 +151,8 @@ pub returns-clause-steps : goal.returns-clause-steps
 returns-clause-steps g t c =
     let f = field_of c.args.task.now c.args.goal.now in
     steps-end f (least_from c.args.task.now.chip.now c.args.goal.now.ni) c.args.left
-    c.args.prefix.now.end c.args.prefix.now.path c.loop-place.place c.args.steps.now c.loop-place.steps (omega arith)
+    c.args.prefix.now.end c.args.prefix.now.path c.loop-place.place c.args.steps.now
+    c.loop-place.steps (omega arith)
     (c.is_hopeless.ensures.open c.if-is_hopeless.false) c.loop-place.invariant.within
     (all-ports c.args.task.now c.args.prefix.now.end c.loop-place.place c.requires.task
     c.requires.node c.loop-place-test.false)
