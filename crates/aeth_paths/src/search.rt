@@ -252,8 +252,7 @@ fn is_behind(path: &Path, other: &Path) -> bool
     false
 }
 
-/// Whether a path that begins with a list of links may come before a path, where it costs at least
-/// so much and has at least so many links.
+/// Whether a path with this beginning, of at least this cost and length, may come before a path.
 fn may_precede(path: &Path, cost: u64, links: u64, best: &Priced) -> bool
     ensures { result ≡ false → (its : ℕ) (rest : List LinkId) → cost ≤ its
         → links ≤ length (path.now ++ rest)
