@@ -3,6 +3,8 @@
 A path is as `toml_lines` has it: keys, and places in arrays from 0 on. Each walk is that of the rule of this name in
 docs/FORMATS.md.
 """
+from collections.abc import Callable
+from dataclasses import dataclass
 import csv
 import io
 
@@ -110,9 +112,19 @@ APP = {
     7: lambda app, place, value: ("connection", place, "to"),
     8: lambda app, place, value: ("core", place),
     9: lambda app, place, value: ("core",),
-    10: lambda app, place, value: None,
+    10: lambda app, place, value: ("core",),
 }
-WALKS = {"chip": CHIP, "app": APP}
+
+
+@dataclass(frozen=True)
+class Walks:
+    """By number of a rule the path of a place, and the walk over the names of a file."""
+
+    rules: dict
+    names: Callable
+
+
+WALKS = {"chip": Walks(CHIP, chip_names), "app": Walks(APP, app_names)}
 
 
 def row_line(data, row):

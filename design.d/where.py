@@ -1,10 +1,11 @@
 """What a refusal of `aeth` means, in words: file, line, key, what stands there, and the rule that it breaks."""
 from pathlib import Path
-import re
+import math
 
-from aeth import HOME, run_aeth
+from aeth import run_aeth
 from files import toml_lines
 from places import WALKS, row_line
+from rules import broken_at, columns_of, rules_of_plans
 
 # The file words of each command, in the order of its words.
 FILES = {
@@ -20,15 +21,7 @@ SECTIONS = {
     "words": "Trace files", "receivers": "Trace files", "switches": "Trace files",
 }
 MOST_BYTES = 33_554_432
-
-
-def rules_of(section):
-    """The rows of the table of rules in a section of docs/FORMATS.md: by number the name and where it is broken."""
-    text = (HOME / "docs" / "FORMATS.md").read_text(encoding="utf-8")
-    part = re.split(r"(?m)^## ", text)
-    body = next(piece for piece in part if piece.startswith(section + "\n"))
-    rows = re.findall(r"(?m)^\| (\d+) (\w+)[^|]*\| ([^|]+) \|", body)
-    return {int(number): (name, broken.strip()) for number, name, broken in rows}
+MOST_DEPTH = 80  # of arrays and inline tables, one within another
 
 
 def named(path, root):
@@ -56,16 +49,6 @@ def stands(path, root):
     return value
 
 
-def clause_of(broken, key):
-    """The part of a rule's sentence that speaks of a key, and else the whole of it."""
-    range_ = re.search(rf"`{key}` isn't [^`;]*", broken)
-    if range_:
-        return range_.group().strip(" ,")
-    parts = [part.strip() for part in broken.split(";")]
-    told = [part for part in parts if f"`{key}`" in part]
-    return "; ".join(told) if told else broken
-
-
 def line_of(lines, path):
     """The line of a path, or of the nearest table around it that stands in the file."""
     while path not in lines and path:
@@ -73,35 +56,91 @@ def line_of(lines, path):
     return lines.get(path)
 
 
-def in_toml(file, path, data, rule, place, value):
-    """Where a refusal of a chip or an application points, in words."""
-    root, lines = toml_lines.read(data)
-    at = WALKS[file][rule](root, place, value)
-    if at is None:
-        return f"{path}", None
-    line = line_of(lines, at)
-    where = f"{path}, line {line}" if line else f"{path}"
-    tells = named(at, root)
+def earlier(file, root, path):
+    """The earlier place of a list where the same text stands."""
+    for other in WALKS[file].names(root):
+        if other == path:
+            return None
+        one_list = file == "chip" or (other[0], len(other)) == (path[0], len(path)) and (len(path) == 3 or other[:3] == path[:3])
+        if one_list and stands(other, root) == stands(path, root):
+            return other
+    return None
+
+
+def fixed_on(root, chip, place):
+    """The cores that are fixed to an interface of the chip, in words."""
+    name = toml_lines.read(Path(chip).read_bytes())[0]["nis"][place]
+    return f"{name} has " + ", ".join(core["name"] for core in root["core"] if core.get("ni") == name)
+
+
+def too_far(value, path=()):
+    """A path, and what no file may have there: a number past 64 bits, or arrays and tables too deep."""
+    if len(path) > MOST_DEPTH and isinstance(value, (list, dict)):
+        return path[:1], "arrays or inline tables stand too deep"
+    if isinstance(value, float) and math.isinf(value) or isinstance(value, int) and not -(1 << 63) <= value < 1 << 63:
+        return path, f"{value} is past 64 bits"
+    items = value.items() if isinstance(value, dict) else enumerate(value) if isinstance(value, list) else ()
+    return next(filter(None, (too_far(inner, path + (key,)) for key, inner in items)), None)
+
+
+def why_no_toml(path, data):
+    """Why a file is no TOML, with its line."""
+    try:
+        root, lines = toml_lines.read(data)
+        found = too_far(root)
+        return f"{path}, line {line_of(lines, found[0])}: {found[1]}" if found else f"{path}"
+    except toml_lines.TomlError as error:
+        return f"{path}: {error}"
+    except RecursionError:
+        return f"{path}: arrays or inline tables stand too deep"
+
+
+def in_toml(file, paths, rule, place, value):
+    """Where a refusal of a chip or an application points, in words, and the path."""
+    path = paths[file]
+    root, lines = toml_lines.read(Path(path).read_bytes())
+    at = WALKS[file].rules[rule](root, place, value)
+    line = line_of(lines, at + (value,) if rule == 2 else at)
+    where = f"{path}, line {line}: {named(at, root)}" if line else f"{path}: {named(at, root)}"
     found = stands(at, root)
     if rule == 2:
-        tells += f", key `{value}`"
-        found = found.get(value) if isinstance(found, dict) else None
-        if found is None:
-            return f"{where}: {tells} is missing", value
+        where += f", key `{value}`"
+        found = stands(at + (value,), root)
     if found is None:
-        return f"{where}: {tells} is missing", at[-1] if at else None
+        return f"{where} is missing", at
+    if rule == 2 and isinstance(found, (list, dict)):
+        return f"{where} has another type", at
     if isinstance(found, (list, dict)):
-        return f"{where}: {tells}", at[-1] if at else None
-    return f"{where}: {tells} is {found!r}", at[-1] if at else None
+        more = f", which are fixed: {fixed_on(root, paths['chip'], place)}" if (file, rule) == ("app", 10) else ""
+        return f"{where} has {value}{' of them' if isinstance(found, list) else ' connections'}{more}", at
+    before = earlier(file, root, at) if rule == 4 else None
+    again = f", as in line {line_of(lines, before)}" if before else ""
+    count = f", with {value} links one way" if (file, rule) == ("chip", 6) else ""
+    return f"{where} is {found!r}{again}{count}", at
 
 
-def in_rows(file, path, data, place):
-    """Where a refusal of a plan or a trace points, in words."""
+def in_rows(file, path, name, place, value):
+    """Where a refusal of a plan or a trace points, in words: of rows out of order also the one before."""
+    data = Path(path).read_bytes()
     lines = data.decode("utf-8", "replace").splitlines()
-    line = place if file == "plan" else row_line(data, place)
-    if not line or line > len(lines):
-        return f"{path}, at its end"
-    return f"{path}, line {line}: {lines[line - 1]}"
+    if name == "TooMany":
+        return [f"{path}: it has {int(value):,} rows"]
+    if name == "FirstNotZero" and not place:
+        return [f"{path}: it has no row"]
+    shown = []
+    places = [place - 1, place] if name in ("OutOfOrder", "Overlap", "WrongOrder") else [place]
+    for row in places:
+        line = row if file == "plan" else row_line(data, row)
+        if not line or line > len(lines):
+            return shown + [f"{path}, at its end"]
+        shown.append(f"{path}, line {line}: {lines[line - 1]}")
+    if name == "Unknown":
+        shown[-1] += f"   (field {value})"
+    if name == "Overlap":
+        shown[-1] += f"   (the switch before is over in cycle {value})"
+    if name == "BadLine" and place == len(lines) and not data.endswith(b"\n"):
+        shown[-1] += "   (without a line feed)"
+    return shown
 
 
 def refusal(file, rule, name, place, value, paths):
@@ -111,22 +150,17 @@ def refusal(file, rule, name, place, value, paths):
         return [f"{path}: it has more than {MOST_BYTES:,} bytes, the most that a file may have."]
     if file == "use":
         return [f"No use case of {paths.get('app')} has the name `{value}`."]
-    section = SECTIONS[file]
-    broken = rules_of(section)[rule][1]
-    data = Path(path).read_bytes()
-    if file in WALKS and name != "BadToml":
-        where, key = in_toml(file, path, data, rule, place, value)
+    title, at = SECTIONS[file], None
+    if name == "BadToml":
+        shown = [why_no_toml(path, Path(path).read_bytes())]
     elif file in WALKS:
-        try:
-            toml_lines.read(data)
-            where, key = f"{path}", None
-        except toml_lines.TomlError as error:
-            where, key = f"{path}: {error}", None
+        where_, at = in_toml(file, paths, rule, place, value)
+        shown = [where_]
     else:
-        where, key = in_rows(file, path, data, place), None
-        if name == "Unknown":
-            where += f"   (field {value})"
-    return [where, f"Rule {rule} of {section.lower()}, {name}, is broken where {clause_of(broken, key)}."]
+        shown = in_rows(file, path, name, place, value)
+    broken = broken_at(file, title, rule, at)
+    more = [columns_of(file)] if name == "BadRow" else []
+    return shown + [f"Rule {rule} of {title.lower()}, {name}, is broken where {broken}."] + more
 
 
 def refused_unit(connection, group, side, turn):
@@ -137,11 +171,16 @@ def refused_unit(connection, group, side, turn):
     )
 
 
-def broken_plan(rule, line, other, plan):
-    broken = dict(re.findall(r"(?m)^\| (\d) \| ([^|]+) \|", (HOME / "docs" / "FORMATS.md").read_text(encoding="utf-8")))
+def broken_plan(rule, line, other, paths):
+    plan = paths["plan"]
     lines = Path(plan).read_text(encoding="ascii").splitlines()
     shown = [f"{plan}, line {number}: {lines[int(number) - 1]}" for number in (line, other) if number != "0"]
-    return shown + [f"Rule {rule} of an accepted plan is broken where {broken[rule].strip()}."]
+    if not shown:
+        seated = {row.split(" ")[1] for row in lines if row.startswith("seat ")}
+        cores = toml_lines.read(Path(paths["app"]).read_bytes())[0]["core"]
+        core = next(core for core in cores if "ni" in core and core["name"] not in seated)
+        shown = [f"{plan}: it has no line `seat {core['name']} {core['ni']} ..`"]
+    return shown + [f"Rule {rule} of an accepted plan is broken where {rules_of_plans()[rule].strip()}."]
 
 
 def told(line, paths):
@@ -153,7 +192,7 @@ def told(line, paths):
         file, rule, name, place, value = rest
         return refusal(file, int(rule), name, int(place), value, paths)
     if word == "broken":
-        return broken_plan(*rest, paths["plan"])
+        return broken_plan(*rest, paths)
     if word == "missing":
         return [f"The plan has no grant for channel {rest[2]} of connection `{rest[0]}` in group {rest[1]}."]
     if word == "read":

@@ -201,6 +201,46 @@ class Refusals(Designs):
                 self.assertIn(f"FILE, line {line}: {tells}", said)
                 self.assertIn("is broken where", said)
 
+    def test_what_is_allowed(self):
+        """The sentence on the place, and the part of the rule that speaks of it."""
+        one, pair = ("app", "pair.toml", "one.toml"), ("chip", "pair.toml")
+        many = ", ".join(f'"k{count}"' for count in range(65))
+        slots = "`slots` isn't 1 to 128 where `version` is 2, and 1 to 64 elsewhere.\n"
+        for words, old, new, tells, allowed in (
+            (pair, "slots = 8", f"slots = {10**20}", f"{10**20} is past 64 bits", "64 bits"),
+            (pair, "slots = 8", "a = " + 81 * "[" + 81 * "]", "arrays or inline tables stand too deep", "80 arrays"),
+            (one, "detour = 0", "detour = 1e309", "inf is past 64 bits", "aren't TOML"),
+            (pair, "slots = 8", "slot = 8", "the root, key `slot` is 8", "are `version` (integer), `slots` (integer),"),
+            (pair, "slots = 8", "slots = [8]", "the root, key `slots` has another type", "`slots` (integer)"),
+            (pair, "slots = 8", "slots = 65", "`slots` is 65", slots),
+            (pair, '"r0", "r1"', f'"r0", "r1", {many}', "`routers` has 67 of them", "where the routers aren't 1 to 64.\n"),
+            (pair, '"n0", "n1"', '"n0", "N1"', "`nis` 1 is 'N1'", "an interface's text is no name. A name has 1 to 32 bytes"),
+            (pair, '"n0", "n1"', '"n0", "n0"', "`nis` 1 is 'n0', as in line 5", "equals an earlier one"),
+            (one, 'ni = "n1"', 'ni = "n7"', "`core` 1 (mem) `ni` is 'n7'", "where each `ni` that stands names no interface.\n"),
+        ):
+            example, place = words[-1], len(words) - 1
+            with self.subTest(new=new):
+                said, line = self.where(old, new, example, place, *words)
+                self.assertIn(f"FILE, line {line}: {tells}", said)
+                self.assertIn(allowed, said)
+
+    def test_places_of_rows(self):
+        pair, two = EXAMPLES / "pair.toml", EXAMPLES / "two.toml"
+        text = self.run_script("aeth", "allocate", pair, two)[1]
+        plan = self.file("two.plan", text)
+        traces = [EXAMPLES / f"two.{kind}.csv" for kind in ("words", "receivers", "switches")]
+        for rows_, tells in (
+            ("0,u0,0\n6,u1,0\n7,u0,0", "line 3: 6,u1,0\n  FILE, line 4: 7,u0,0   (the switch before is over in cycle 10)"),
+            ("\n".join(f"{100 * row},u{row % 2},0" for row in range(1025)), "FILE: it has 1,025 rows"),
+            ("0,u0,-1", "The columns `cycle,use,drain` have 0 to 1,000,000; a name; 0 to 1,000,000."),
+        ):
+            traces[2] = self.file("switches", f"cycle,use,drain\n{rows_}\n")
+            errors = self.run_script("design", "where", "simulate", pair, two, plan, *traces, "24")[2]
+            self.assertIn(tells, errors.replace(str(traces[2]), "FILE"))
+        broken = self.file("broken.plan", text.replace("seat dsp n0 1\n", ""))
+        errors = self.run_script("design", "where", "check", pair, two, broken)[2]
+        self.assertIn("it has no line `seat dsp n0 ..`", errors)
+
     def test_rows_of_traces(self):
         words = ("simulate", "pair.toml", "two.toml", "two.plan", "two.words.csv", "two.receivers.csv", "two.switches.csv", "24")
         plan = self.file("two.plan", self.run_script("aeth", "allocate", EXAMPLES / "pair.toml", EXAMPLES / "two.toml")[1])

@@ -1,0 +1,92 @@
+"""What docs/FORMATS.md says of files: their rules, the keys of their tables, and the columns of traces."""
+import re
+
+from aeth import HOME
+
+NAMES = "A name has 1 to 32 bytes of `a-z`, `0-9` and `_`."
+
+# The parts of the sentence on ranges that speak of a path, by what stands in the path in place of numbers.
+RANGES = {
+    "chip": ["version", "slots", "routers", "nis", "link", "routers #", "nis #", "link # delay"],
+    "app": ["version", "detour", "cost", "core", "connection", "use", "name"],
+}
+
+
+def section(title):
+    """The text of a section."""
+    parts = re.split(r"(?m)^## ", (HOME / "docs" / "FORMATS.md").read_text(encoding="utf-8"))
+    return next(part for part in parts if part.startswith(title + "\n"))
+
+
+def rules_of(title):
+    """By number where a rule of a section is broken."""
+    rows = re.findall(r"(?m)^\| (\d+) \w+[^|]*\| ([^|]+) \|", section(title))
+    return {int(number): broken.strip() for number, broken in rows}
+
+
+def rules_of_plans():
+    """By number where a rule of an accepted plan is broken."""
+    return dict(re.findall(r"(?m)^\| (\d) \| ([^|]+) \|", section("`check`")))
+
+
+def keys_of(title, table):
+    """The keys of a table of a chip or an application, with what each must be."""
+    rows = re.findall(r"(?m)^\| ([^|]+) \| (`[^|]+) \| ([^|]+) \|$", section(title))
+    return {
+        key: re.sub(r"^(integer|string|table|array)s", r"\1", type_.strip())
+        for name, keys, type_ in rows
+        if table in name.replace("`", "").split(", ")
+        for key in re.findall(r"`(\w+)`", keys)
+    }
+
+
+def columns_of(file):
+    """The header of a trace file, and what its columns have."""
+    header, columns = re.search(rf"(?m)^\| {file} \| (`[^|]+`) \| ([^|]+) \|$", section("Trace files")).groups()
+    return f"The columns {header} have {columns}."
+
+
+def shape_of(path):
+    """A path with one word for all its numbers."""
+    return " ".join("#" if isinstance(key, int) else key for key in path)
+
+
+def range_at(file, broken, path):
+    """The part of the sentence on ranges that speaks of a path."""
+    parts = [part.strip() for part in broken.split(": ", 1)[1].split("; ")]
+    shape = shape_of(path)
+    if file == "app" and path[-1] in ("words", "per", "latency", "delay"):
+        return re.search(rf"`{path[-1]}` isn't [^`;]*", parts[-1]).group().strip(" ,")
+    if file == "app" and path[-1] == "name":
+        shape = "name"
+    part = re.sub(r"^(then |where `version` is 2, )|, an absent one being .*", "", parts[RANGES[file].index(shape)])
+    return f"{part}. {NAMES.rstrip('.')}" if "no name" in part else part
+
+
+def known_at(broken, path):
+    """The part of the sentence on unknown names that speaks of a path."""
+    parts = [part.strip().removeprefix("then ") for part in broken.split(": ", 1)[-1].split("; ")]
+    key = next(key for key in reversed(path) if not isinstance(key, int))
+    return next((part for part in parts if f"`{key}`" in part), broken)
+
+
+def kinds_at(title, path):
+    """Which keys the table of a path has."""
+    table = next((key for key in reversed(path) if not isinstance(key, int)), "root")
+    kinds = ", ".join(f"`{key}` ({type_})" for key, type_ in keys_of(title, table).items())
+    more = ", which version 2 alone has" if table == "link" else ""
+    return f"The keys of {'the root' if table == 'root' else f'`{table}`'} are {kinds}{more}"
+
+
+def broken_at(file, title, rule, path):
+    """Where a rule is broken: the part of its sentence that speaks of a path."""
+    broken = rules_of(title)[rule]
+    if broken == "as for chip files":
+        broken = rules_of("Chip files")[rule]
+    if file not in RANGES or path is None:
+        return broken
+    if rule == 2:
+        return f"a key is missing, unknown or of another type. {kinds_at(title, path)}"
+    if rule == 3:
+        return range_at(file, broken, path)
+    return known_at(broken, path) if rule == 5 else broken
