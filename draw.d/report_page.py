@@ -33,10 +33,11 @@ body{font:15px/1.5 system-ui,sans-serif;color:var(--ink);background:var(--ground
 h1{font-size:1.4rem;margin:.2rem 0}h2{font-size:1.1rem;margin:2rem 0 .5rem}
 .verdict{font-size:1.15rem;font-weight:600;margin:.5rem 0 1rem}.good{color:var(--good)}.bad{color:var(--bad)}
 .less{color:var(--less)}
-.wide{overflow-x:auto;border:1px solid var(--line);border-radius:6px}
+.wide{overflow:auto;max-height:85vh;border:1px solid var(--line);border-radius:6px}
 table{border-collapse:collapse;width:100%;font-size:.85rem;font-variant-numeric:tabular-nums}
 th,td{padding:.25rem .6rem;text-align:left;white-space:nowrap;border-bottom:1px solid var(--line)}
 th{position:sticky;top:0;background:var(--box)}
+td:first-child,th:first-child{position:sticky;left:0}td:first-child{background:var(--ground)}th:first-child{z-index:1}
 th button{all:unset;cursor:pointer;font-weight:600}th button:focus-visible{outline:2px solid var(--bar)}
 th[aria-sort=ascending] button::after{content:" \\2191"}th[aria-sort=descending] button::after{content:" \\2193"}
 .number{text-align:right}tr:last-child td{border-bottom:0}
@@ -46,8 +47,8 @@ th[aria-sort=ascending] button::after{content:" \\2191"}th[aria-sort=descending]
 .tools input[type=search]{font:inherit;padding:.2rem .5rem;min-width:14rem;color:inherit;background:var(--box);
 border:1px solid var(--line);border-radius:4px}
 figure{margin:1rem 0;overflow-x:auto}object{max-width:none;display:block}
-@media print{body{max-width:none;padding:0;font-size:10px}.tools{display:none}.wide,figure{overflow:visible;border:0}
-th{position:static}table{font-size:8px}th,td{padding:.1rem .25rem;white-space:normal}
+@media print{body{max-width:none;padding:0;font-size:10px}.tools{display:none}.wide,figure{overflow:visible;max-height:none;border:0}
+th,td:first-child,th:first-child{position:static}table{font-size:8px}th,td{padding:.1rem .25rem;white-space:normal}
 tr,figure{break-inside:avoid}h2{break-after:avoid}object{max-width:100%;height:auto}.share{width:4rem;print-color-adjust:exact}
 .share i{print-color-adjust:exact}}
 """
