@@ -19,10 +19,10 @@ pub struct HostShelf<R: Files + AllocGlobal + Drop> {
 }
 
 /// The file that was read last, and the place up to which it was read: what follows is read without
-/// opening it anew, so a pipe serves too.
+/// opening it anew, so a pipe serves too. Where there was no memory for its name it is opened anew.
 #[derive(Drop)]
 struct OpenedFile<F> {
-    name: String,
+    name: Option<String>,
     file: F,
     at: u64,
 }
@@ -83,7 +83,7 @@ fn read_on<R: Files + AllocGlobal>(
 ) -> io::Result<(usize, OpenedFile<R::File>)>
     ensures { IfOk result (λ read. read.0 ≤ length into.new) }
 {
-    let mut opened = match last.filter(|last| last.at == at && last.name.as_str() == name) {
+    let mut opened = match last.filter(|last| last.at == at && is_named(&last.name, name)) {
         Some(last) => last,
         None => open_at(files, name, at)?,
     };
@@ -101,6 +101,13 @@ fn open_at<R: Files + AllocGlobal>(
     if at > 0 {
         file.seek(SeekFrom::Start(at))?;
     }
-    let name = String::from_str(files.alloc(), name)?;
+    let name = String::from_str(files.alloc(), name).ok();
     Ok(OpenedFile { name, file, at })
+}
+
+fn is_named(kept: &Option<String>, name: &str) -> bool {
+    match kept {
+        Some(kept) => kept.as_str() == name,
+        None => false,
+    }
 }
