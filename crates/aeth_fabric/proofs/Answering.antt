@@ -1,26 +1,42 @@
 -- Each session has the opposite channel's beside it.
-use Rattle.std.proofs.Common.{◌≡◌, ◌<◌, ◌∙◌, ℕ, length, filter, sym, ap}
+use Rattle.std.proofs.Common.{◌≡◌, ◌<◌, ◌∙◌, ℕ, length, filter, refl, sym, ap}
 use Rattle.std.proofs.lemmas.List.{length-map}
+use Rattle.aeth_app.specs.Connections.{receiver, sender}
+use Rattle.aeth_app.specs.declared.connection.Connection.{Connection}
+use Rattle.aeth_base.specs.Sides.{other_side}
+use Rattle.aeth_base.specs.declared.ids.CoreId.{CoreId}
+use Rattle.aeth_base.specs.declared.ids.Side.{Side}
+use Rattle.aeth_base.specs.declared.ids.Side.TheVariants.{Back, Fwd}
 use Rattle.aeth_server.specs.PrivateServer.{accepted}
 use Rattle.aeth_trace.specs.Words.{words_on}
 use Rattle.aeth_trace.specs.declared.words.WordRow.{WordRow}
+use Rattle.aeth_report.specs.Design.{connection_at, queue_at}
 use Rattle.aeth_report.specs.Flows.{Run, is_within}
 use Rattle.aeth_report.proofs.AlikeLemmas.{filter-map}
 use Rattle.aeth_refinement.specs.Accepted.{IsAnswered}
 use Rattle.aeth_fabric.specs.Fabric.{Placed, fabric_over, flow_in, passage_of}
-use Rattle.aeth_fabric.specs.Fabric.{placed_of, row_in}
+use Rattle.aeth_fabric.specs.Fabric.{placed_at, placed_of, row_in}
 use Rattle.aeth_fabric.proofs.Numbers.{opposite-back, opposite-is}
 use Rattle.std.specs.Prelude.{◌&&◌, nat_le, nat_lt}
+
+-- A channel lands at the core from which the opposite one is sent.
+sends_back : (connection : Connection) (side : Side)
+    → receiver connection side ≡ sender connection (other_side side)
+sends_back connection Fwd = refl
+sends_back connection Back = refl
 
 module _ (run : Run) where
   pub answered : (c : ℕ) → c < length (placed_of run) → IsAnswered (fabric_over run) c
   answered c within =
       let other = opposite-is run c within in
       let is = other.is in
+      let channel = (placed_at run c).channel in
       record {
         known = other.known;
         back = opposite-back run c within;
-        remote = sym (ap (λ (p : Placed). (row_in run p).queue) is);
+        remote = ap (λ (core : CoreId). queue_at run.design core channel.conn)
+            (sends_back (connection_at run.design channel.conn) channel.side)
+            ∙ sym (ap (λ (p : Placed). (row_in run p).queue) is);
         server = sym (ap (λ (p : Placed). (flow_in run p).server) is);
         slots = sym (ap (λ (p : Placed). (flow_in run p).server.shape.slots) is);
         delay = sym (ap (λ (p : Placed). (flow_in run p).server.shape.path_delay) is);
