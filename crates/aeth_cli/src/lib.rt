@@ -5,6 +5,7 @@ mod commands;
 mod designs;
 mod files;
 mod host;
+pub mod laws;
 mod plans;
 mod program;
 mod traces;
