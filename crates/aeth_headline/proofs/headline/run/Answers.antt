@@ -1,0 +1,25 @@
+use Rattle.aeth_accepted.specs.Inputs.{run_of}
+use Rattle.aeth_headline.specs.Headline.{network_outcome}
+use Rattle.aeth_headline.proofs.HeadlineLemmas.{headline}
+use Rattle.aeth_headline.proofs.headline.run.Goals as goal
+
+-- The promise of the run, and the laws.
+pub returns : goal.returns
+returns g c =
+    headline (record {
+      ends = c.simulations_end.ensures;
+      simulated = c.simulated_runs.ensures network_outcome;
+      allocated = c.allocated_designs.ensures;
+      holds = λ inputs accepted. record {
+        one_flit = c.links_carry_one.ensures.one inputs accepted;
+        wires = c.networks_carry.ensures.first inputs accepted;
+        landings = c.rows_are_landings.ensures (run_of inputs)
+            (c.runs_are_sound.ensures.sound inputs accepted);
+        independent = λ other. c.channels_are_independent.ensures (run_of inputs) (run_of other);
+        deadline = c.words_land_in_time.ensures.lands inputs accepted;
+        in_time = c.words_land_in_time.ensures.in_time inputs accepted;
+        single_word = c.words_land_in_time.ensures.wished inputs accepted;
+      };
+      accepted = c.plans.ensures.accepted;
+      refused = c.refusals.ensures.rightly;
+    }) g.H.Shelf g.O.Sink g.E.Sink _ _ _ _ c.run.ensures
