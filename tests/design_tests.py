@@ -1,5 +1,6 @@
 """Tests of `./design`: each shape through `aeth`, each kind of trace by what it may hold, each refusal with its words."""
 from collections import Counter
+from html.parser import HTMLParser
 import csv
 import io
 import sys
@@ -258,6 +259,23 @@ class Refusals(Designs):
         self.assertIn("These words are no command", self.run_script("design", "where", "slots", "8")[2])
 
 
+class Page(HTMLParser):
+    """Which elements of a page are open, and what it asks of other places."""
+
+    EMPTY = {"meta", "input"}
+
+    def __init__(self):
+        super().__init__()
+        self.open, self.asked = [], []
+
+    def handle_starttag(self, tag, attrs):
+        self.open += [] if tag in self.EMPTY else [tag]
+        self.asked += [value for key, value in attrs if key in ("src", "href", "data") and not value.startswith("data:")]
+
+    def handle_endtag(self, tag):
+        assert self.open and self.open.pop() == tag, tag
+
+
 class Reports(Designs):
     """The page of a design and of a run."""
 
@@ -266,7 +284,9 @@ class Reports(Designs):
     def report(self, *words):
         status, text, errors = self.run_script("draw", "report", *words)
         self.assertEqual(status, 0, errors)
-        self.assertTrue(text.startswith("<!DOCTYPE html>") and text.endswith("</html>\n"))
+        page = Page()
+        page.feed(text)
+        self.assertEqual((page.open, page.asked), ([], []))
         return text
 
     def test_a_plan(self):
