@@ -9,4 +9,4 @@ mod text;
 
 pub use log::{ChannelLog, Landing, SessionLog, SimLog};
 pub use session::{Close, Session};
-pub use text::sim_text;
+pub use text::{push_landings, sim_text};

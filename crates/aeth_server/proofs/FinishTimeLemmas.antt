@@ -1,5 +1,5 @@
 -- Finish times leave room for each word and for those before it.
-use Rattle.std.proofs.Common.{ℕ, ◌+◌, ◌-◌, ◌*◌, ◌<◌, ◌≤◌, ◌≡◌, zero, suc, List, [], ◌∷◌}
+use Rattle.std.proofs.Common.{ℕ, ◌+◌, ◌-◌, ◌*◌, ◌<◌, ◌≤◌, ◌≡◌, ◌∙◌, zero, suc, List, [], ◌∷◌}
 use Rattle.std.proofs.Common.{length, get_or, refl, ap, inl, inr, arith}
 use Rattle.std.specs.List.Sorted.{IsNonDecreasing}
 use Rattle.std.proofs.Math.Nat.{mul-le-mul_left}
@@ -43,6 +43,27 @@ arrivals_before-more (x ∷ xs) s t up =
         | inl between ↦ omega (arith, rest, late-arrival x xs s late, early-arrival x xs t between)
         | inr after ↦ omega (arith, rest, late-arrival x xs s late, late-arrival x xs t after)
       ]
+    ]
+
+-- None has arrived by the cycle of the first.
+none-yet : (x : ℕ) (xs : List ℕ) (s : ℕ) → IsNonDecreasing (x ∷ xs) → s ≤ x
+    → arrivals_before (x ∷ xs) s ≡ 0
+none-yet x [] s order early = late-arrival x [] s early
+none-yet x (y ∷ xs) s order early =
+    let up = first-least x (y ∷ xs) order 0 (omega arith) in
+    let rest = none-yet y xs s (rest-order x (y ∷ xs) order) (omega (arith, up)) in
+    late-arrival x (y ∷ xs) s early ∙ rest
+
+-- Up to the cycle of a word no more than those before it have arrived.
+pub arrived-before : (xs : List ℕ) (s i : ℕ) → IsNonDecreasing xs → i < length xs
+    → s ≤ get_or xs i 0 → arrivals_before xs s ≤ i
+arrived-before [] s i order within early = absurd (omega arith)
+arrived-before (x ∷ xs) s zero order within early = omega (arith, none-yet x xs s order early)
+arrived-before (x ∷ xs) s (suc i) order within early =
+    let rest = arrived-before xs s i (rest-order x xs order) (omega arith) early in
+    elim (cases_lt x s) [
+      | inl come ↦ omega (arith, rest, early-arrival x xs s come)
+      | inr late ↦ omega (arith, rest, late-arrival x xs s late)
     ]
 
 -- A word that hasn't arrived before s arrives at s or later.

@@ -7,10 +7,13 @@ pub mod ShapeLemmas
 pub mod PrivateServerLemmas
 pub mod PrivateServerParts
 pub mod SessionEnds
+pub mod ReachedCycles
+pub mod WordCycles
 pub mod CreditLoop
 pub mod SingleWord
 pub mod AloneStates
 pub mod LandingLemmas
 mod LastCounts
 mod StartSlots
+mod NextCycles
 mod LatencyWalk

@@ -8,5 +8,6 @@ pub mod ChannelShape
 pub mod PrivateServer
 pub mod CountLaws
 pub mod Landing
+pub mod WordCycles
 pub mod Progress
 pub mod AloneState

@@ -1,12 +1,20 @@
 -- The cycles of a slot set: cycle t has slot t modulo the table size.
 -- Slot table: after Æthereal (2005).
-use Rattle.std.specs.Prelude.{ℕ, ◌+◌, ◌*◌, ◌%◌, ◌==◌, nat_le, Bool, if◌then◌else◌, List, zero, suc}
+use Rattle.std.specs.Prelude.{ℕ, ◌+◌, ◌*◌, ◌%◌, ◌==◌, ◌≡◌, ◌≤◌, ◌<◌, nat_le, Bool, true, false}
+use Rattle.std.specs.Prelude.{if◌then◌else◌, List, zero, suc}
 use Rattle.std.specs.List.{list_any}
 use Rattle.aeth_base.specs.Extremes.{least_below}
 
 -- The slot of this cycle is in the list.
 abbrev pub is_slot : ℕ → List ℕ → ℕ → Bool
 is_slot size slots t = list_any (λ x. t % size == x) slots
+
+-- Cycle u is the first from t on whose slot is in the list; it comes within a turn of the table.
+pub record IsNextCycle (size : ℕ) (slots : List ℕ) (t u : ℕ) : Type 0 where
+  pub late : t ≤ u
+  pub near : u < t + size
+  pub none : (v : ℕ) → t ≤ v → v < u → is_slot size slots v ≡ false
+  pub here : is_slot size slots u ≡ true
 
 -- How many of the n cycles from s on have their slot in the list.
 abbrev pub slots_within : ℕ → List ℕ → ℕ → ℕ → ℕ

@@ -1,6 +1,6 @@
 // What holds of every server, over the definitions alone.
-ghost use Rattle.std.specs.Prelude.{◌≡◌, ℕ, ◌+◌, ◌-◌, ◌*◌, ◌≤◌, ◌↔◌, Bool, List, length};
-ghost use Rattle.std.specs.Prelude.{slice_index};
+ghost use Rattle.std.specs.Prelude.{◌≡◌, ℕ, ◌+◌, ◌-◌, ◌*◌, ◌<◌, ◌≤◌, ◌↔◌, Bool, List, length};
+ghost use Rattle.std.specs.Prelude.{min, slice_index};
 ghost use Rattle.std.specs.List.Sorted.{IsNonDecreasing};
 ghost use Rattle.aeth_slots.specs.SlotSet.{Ascends};
 ghost use Rattle.aeth_server.specs.CountLaws.{FitsFlit, HasGrown, HasRoom, IsAlike, IsClosed};
@@ -9,13 +9,16 @@ ghost use Rattle.aeth_server.specs.FinishTimes.{due_cycle};
 ghost use Rattle.aeth_server.specs.Landing.{IsDue, LandsAt, LandsBy, WaitsAlone, due_time};
 ghost use Rattle.aeth_server.specs.Landing.{landing_cycle};
 ghost use Rattle.aeth_server.specs.Latency.{BoundsService, latency_of};
-ghost use Rattle.aeth_server.specs.PrivateServer.{PrivateServer, counts, landed};
+ghost use Rattle.aeth_server.specs.PrivateServer.{PrivateServer, counts, landed, pull_at};
 ghost use Rattle.aeth_server.specs.Progress.{after_word, progress_of};
 ghost use Rattle.aeth_server.specs.Shape.{HasPaths, IsGranted, Shape, buffer_of, round_trip};
+ghost use Rattle.aeth_server.specs.SlotCycles.{IsNextCycle};
 ghost use Rattle.aeth_server.specs.SlotServer.{IsBusyPeriod, IsSentBy, KeepsRate, SendsInTurn};
 ghost use Rattle.aeth_server.specs.SlotServer.{ServesAtRate, ServesInFull, SlotServer, own_finish};
 ghost use Rattle.aeth_server.specs.AloneState.{FitsMemory, IsGivenAt, AloneState, IsStateAt};
 ghost use Rattle.aeth_server.specs.AloneState.{after_cycle, first_state};
+ghost use Rattle.aeth_server.specs.WordCycles.{IsCreditReady, IsOpenFor, IsReadyToGo, IsTakingFrom};
+ghost use Rattle.aeth_server.specs.WordCycles.{crediting_cycle, sending_cycle, taking_cycle};
 
 /// The latency of a slot set is the least that bounds its service.
 pub fn least_latency()
@@ -129,4 +132,30 @@ pub fn due_cycles()
     ensures next { (size rate latency : ℕ) (arrivals : List ℕ) (i : ℕ)
         → progress_of size rate latency arrivals (i + 1)
         ≡ after_word (progress_of size rate latency arrivals i) (slice_index arrivals i) }
+{}
+
+/// When a private server sends each word, lands it, takes it and sends its credit, from the words
+/// before it alone, with no step from cycle to cycle. What isn't done in the first `cycles` cycles has
+/// these for its cycle.
+pub fn word_cycles()
+    ensures sent { (server : PrivateServer) (cycles : ℕ) → IsOpenFor server cycles
+        → (i m u : ℕ) → IsReadyToGo server cycles i m
+        → IsNextCycle server.shape.size server.shape.slots m u
+        → sending_cycle server cycles (i + 1) ≡ min u cycles }
+    ensures lands { (server : PrivateServer) (cycles : ℕ) → IsOpenFor server cycles
+        → (i : ℕ) → 1 ≤ i → landing_cycle server cycles i
+        ≡ min (sending_cycle server cycles i + server.shape.path_delay) cycles }
+    ensures waits { (server : PrivateServer) (cycles : ℕ) → IsOpenFor server cycles
+        → (i t : ℕ) → landing_cycle server cycles (i + 1) ≡ t → t < cycles
+        → (1 ≤ i → taking_cycle server cycles i < t) → IsTakingFrom server i t i }
+    ensures taken { (server : PrivateServer) (cycles : ℕ) → IsOpenFor server cycles
+        → (i t had : ℕ) → IsTakingFrom server i t had → t < cycles → i < had + pull_at server t
+        → taking_cycle server cycles (i + 1) ≡ t }
+    ensures later { (server : PrivateServer) (cycles : ℕ) → IsOpenFor server cycles
+        → (i t had : ℕ) → IsTakingFrom server i t had → had + pull_at server t ≤ i
+        → IsTakingFrom server i (t + 1) (had + pull_at server t) }
+    ensures credited { (server : PrivateServer) (cycles : ℕ) → IsOpenFor server cycles
+        → (i m u : ℕ) → IsCreditReady server cycles i m
+        → IsNextCycle server.shape.size server.shape.back_slots m u
+        → crediting_cycle server cycles (i + 1) ≡ min u cycles }
 {}

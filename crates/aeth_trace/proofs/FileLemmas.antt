@@ -23,7 +23,7 @@ use Rattle.aeth_trace.proofs.OrderLemmas.{in_order-rises}
 use Rattle.aeth_trace.proofs.ToldLemmas.{pull_in-within, switch_in-within, table-All, word_in-within}
 
 -- Where the rule on their number is kept, rows are few.
-few : (most rows : ℕ) (kept : Unit {0}) → are_few most rows ≡ Ok kept → rows ≤ most
+pub few : (most rows : ℕ) (kept : Unit {0}) → are_few most rows ≡ Ok kept → rows ≤ most
 few most rows kept is = grind (arith, nat_tests)
 
 -- The words of a file that keeps the rules.

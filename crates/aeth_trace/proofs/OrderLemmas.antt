@@ -1,10 +1,10 @@
 -- Rows whose cycles don't fall, and of these the ones up to a cycle: the first ones.
-use Rattle.std.proofs.Common.{◌≡◌, ◌<◌, ◌≤◌, ◌+◌, ℕ, zero, suc, Bool, List, [], ◌∷◌}
-use Rattle.std.proofs.Common.{length, take, filter, map, slice_get, Some, refl, ap, arith}
+use Rattle.std.proofs.Common.{◌≡◌, ◌∙◌, ◌<◌, ◌≤◌, ◌+◌, ℕ, zero, suc, Bool, List, [], ◌∷◌}
+use Rattle.std.proofs.Common.{length, take, filter, map, slice_get, Some, refl, sym, ap, arith}
 use Rattle.std.proofs.Common.{inl, inr, nat_le}
-use Rattle.std.specs.Prelude.{All}
+use Rattle.std.specs.Prelude.{All, IfSome}
 use Rattle.std.specs.List.Sorted.{IsNonDecreasingBy}
-use Rattle.std.proofs.lemmas.Bool.{cases_Bool}
+use Rattle.std.proofs.lemmas.Bool.{cases_Bool, cases_lt, le-leb}
 use Rattle.std.proofs.lemmas.Bool.Decides.{nat_tests}
 use Rattle.std.proofs.lemmas.List.Elements.{All-cons, All-nil, All-filter, All-head, All-tail}
 use Rattle.std.proofs.lemmas.List.Elements.{All-weaker}
@@ -95,6 +95,38 @@ until_take n most (x ∷ xs) rises =
           (λ z le. omega arith) xs (first_least n x xs rises)) in
           rw (high, none) refl
     ]
+
+-- The element behind those up to a number is above it.
+pub until_next : {X : Type 0} (n : X → ℕ) (most : ℕ) (xs : List X) (x : X) → IsNonDecreasingBy n xs
+    → slice_get xs (length (rows_until n most xs)) ≡ Some x → most < n x
+until_next n most xs x rises at = elim (cases_lt most (n x)) [
+  | inl above ↦ above
+  | inr low ↦
+      let within = (until_at n most xs (length (rows_until n most xs)) x rises at).0 low in
+      absurd (omega arith)
+]
+
+-- Up to a greater number there are no more, where the next element is above that too, or none is
+-- there.
+pub until_steady : {X : Type 0} (n : X → ℕ) (low high : ℕ) (xs : List X) → IsNonDecreasingBy n xs
+    → low ≤ high → IfSome (slice_get xs (length (rows_until n low xs))) (λ x. high < n x)
+    → rows_until n high xs ≡ rows_until n low xs
+until_steady n low high [] rises le next = refl
+until_steady n low high (x ∷ xs) rises le next = elim (cases_lt low (n x)) [
+  | inl past ↦
+      let least = first_least n x xs rises in
+      let above : (most : ℕ) → most < n x → rows_until n most (x ∷ xs) ≡ [] = λ most less.
+      none_up_to n most (x ∷ xs) (All-cons (λ z. most < n z) x xs less
+      (All-weaker (λ z. n x ≤ n z) (λ z. most < n z) (λ z le. omega arith) xs least)) in
+      let none = above low past in
+      let beyond : high < n x = rw none at next in
+      above high beyond ∙ sym none
+  | inr early ↦
+      let kept = le-leb (n x) low early in
+      let later = le-leb (n x) high (omega arith) in
+      let rest = until_steady n low high xs (later_rise n x xs rises) le (rw kept at next) in
+      rw (kept, later) (ap (λ ys. x ∷ ys) rest)
+]
 
 -- As many as there are at most.
 pub until_few : {X : Type 0} (n : X → ℕ) (most : ℕ) (xs : List X)

@@ -1,17 +1,17 @@
--- What the last of a channel's rows says.
-use Rattle.std.proofs.Common.{◌≡◌, ◌∙◌, ◌+◌, ◌++◌, ℕ, List, [], ◌∷◌, Option, Some, None, length, map}
-use Rattle.std.proofs.Common.{take, slice_get, refl, sym, ap}
+-- What the last of a channel's rows says, and how long.
+use Rattle.std.proofs.Common.{◌≡◌, ◌∙◌, ◌≤◌, ◌<◌, ◌+◌, ◌++◌, ℕ, List, [], ◌∷◌, Option, Some, None}
+use Rattle.std.proofs.Common.{length, map, take, slice_get, refl, sym, ap, arith}
 use Rattle.std.specs.Prelude.{unwrap_or}
 use Rattle.std.specs.List.{last_or}
 use Rattle.std.specs.List.Sorted.{IsNonDecreasingBy}
 use Rattle.std.proofs.lemmas.List.{map-append, take_more}
-use Rattle.std.proofs.lemmas.Option.{get_or_from_slice_get, slice_get_within}
+use Rattle.std.proofs.lemmas.Option.{get_or_from_slice_get, slice_get_past, slice_get_within}
 use Rattle.aeth_base.specs.declared.ids.Channel.{Channel}
 use Rattle.aeth_trace.specs.Channels.{is_channel}
 use Rattle.aeth_trace.specs.Limits.{usual_pull}
-use Rattle.aeth_trace.specs.Receivers.{pull_at, pull_of, pulls_on, pulls_until}
+use Rattle.aeth_trace.specs.Receivers.{IsSteady, pull_at, pull_of, pulls_on, pulls_until}
 use Rattle.aeth_trace.specs.declared.receivers.PullRow.{PullRow}
-use Rattle.aeth_trace.proofs.OrderLemmas.{rise-filter, until_take}
+use Rattle.aeth_trace.proofs.OrderLemmas.{rise-filter, until_next, until_steady, until_take}
 
 -- What was put last is last.
 last-push : {A : Type 0} (before : Option A) (xs : List A) (x : A)
@@ -39,3 +39,31 @@ pull_of-first rows channel cycle rises =
     let kept = rise-filter (λ (row : PullRow). row.cycle)
     (λ row. is_channel channel row.channel) rows rises in
     ap pull_of (sym (until_take (λ (row : PullRow). row.cycle) cycle (pulls_on rows channel) kept))
+
+-- ---- the next row, behind those that aren't later
+module _ (rows : List PullRow) (channel : Channel) (from known : ℕ)
+    (rises : IsNonDecreasingBy (λ row. row.cycle) rows)
+    (count : known ≡ length (pulls_until rows channel from)) where
+  kept : IsNonDecreasingBy (λ row. row.cycle) (pulls_on rows channel)
+  kept = rise-filter (λ (row : PullRow). row.cycle) (λ row. is_channel channel row.channel) rows
+      rises
+
+  -- its cycle is later
+  pub change-later : (row : PullRow) → slice_get (pulls_on rows channel) known ≡ Some row
+      → from < row.cycle
+  change-later row at =
+      until_next (λ (row : PullRow). row.cycle) from (pulls_on rows channel) row kept (rw count at at)
+
+  -- before it the receiver takes the same
+  pub change-steady : (row : PullRow) → slice_get (pulls_on rows channel) known ≡ Some row
+      → IsSteady rows channel from row.cycle
+  change-steady row at t late early =
+      ap pull_of (until_steady (λ (row : PullRow). row.cycle) from t (pulls_on rows channel) kept late
+      (rw (rw count at at) early))
+
+  -- and for ever where there is none
+  pub change-last : length (pulls_on rows channel) ≤ known → (end : ℕ) → IsSteady rows channel from end
+  change-last past end t late early =
+      ap pull_of (until_steady (λ (row : PullRow). row.cycle) from t (pulls_on rows channel) kept late
+      (rw (slice_get_past (pulls_on rows channel) (length (pulls_until rows channel from))
+      (omega arith)) tt))

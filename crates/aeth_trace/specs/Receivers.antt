@@ -4,9 +4,10 @@
 --   receivers_of, AreReceiversOf      the rows of a file, and what holds of them
 --   pulls_on, pulls_until      the rows of a channel; those that aren't later than a cycle
 --   pull_of, pull_at      what the last of some rows says; what a receiver takes in a cycle
+--   change_after, IsSteady      the next row of a channel, and what is taken before
 -- This project's own.
-use Rattle.std.specs.Prelude.{◌≤◌, ◌<◌, ℕ, All, Bool, codes, List, length, map, Option, None}
-use Rattle.std.specs.Prelude.{option_map, Result, Ok, unwrap_or}
+use Rattle.std.specs.Prelude.{◌≡◌, ◌≤◌, ◌<◌, ℕ, All, Bool, codes, List, length, map, Option}
+use Rattle.std.specs.Prelude.{None, option_map, Result, Ok, slice_get, unwrap_or}
 use Rattle.std.specs.List.{last_or}
 use Rattle.std.specs.List.Sorted.{IsNonDecreasingBy}
 use Rattle.aeth_app.specs.App.{AppData}
@@ -69,3 +70,14 @@ pull_of rows = unwrap_or (last_or None (map (λ row. row.pull) rows)) usual_pull
 -- whose cycle isn't later, and 2 where there is none.
 abbrev pub pull_at : List PullRow → Channel → ℕ → ℕ
 pull_at rows channel cycle = pull_of (pulls_until rows channel cycle)
+
+-- The cycle of the first row of a channel that is later than a cycle.
+abbrev pub change_after : List PullRow → Channel → ℕ → Option ℕ
+change_after rows channel cycle =
+    option_map (λ row. row.cycle)
+    (slice_get (pulls_on rows channel) (length (pulls_until rows channel cycle)))
+
+-- From a cycle on and before another the receiver of a channel takes the same at most.
+abbrev pub IsSteady : List PullRow → Channel → ℕ → ℕ → Type 0
+IsSteady rows channel from end = (t : ℕ) → from ≤ t → t < end
+    → pull_at rows channel t ≡ pull_at rows channel from

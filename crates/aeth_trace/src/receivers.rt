@@ -1,9 +1,9 @@
 // What receivers take.
-ghost use Rattle.std.specs.Prelude.{◌≡◌, ◌≤◌, ◌<◌, IfOk, length, take};
+ghost use Rattle.std.specs.Prelude.{◌≡◌, ◌≤◌, ◌<◌, ℕ, IfNone, IfOk, IfSome, length, take};
 ghost use Rattle.aeth_base.specs.Faults.{Reads};
 ghost use Rattle.aeth_trace.specs.Fault.{rule_of};
-ghost use Rattle.aeth_trace.specs.Receivers.{AreReceiversOf, pull_at, pull_of, pulls_on};
-ghost use Rattle.aeth_trace.specs.Receivers.{pulls_until, receivers_of};
+ghost use Rattle.aeth_trace.specs.Receivers.{AreReceiversOf, IsSteady, change_after, pull_at};
+ghost use Rattle.aeth_trace.specs.Receivers.{pull_of, pulls_on, pulls_until, receivers_of};
 
 use crate::by_channel::ByChannel;
 use crate::fault::TraceFault;
@@ -116,6 +116,22 @@ impl Receivers {
     {
         *known = self.index.next_until(&self.rows, channel, cycle, *known);
         self.pull_of(channel, *known)
+    }
+
+    /// The cycle of the next row of a channel, where so many of its rows are those that aren't later
+    /// than a cycle: before it the receiver takes at most what it takes in this one. `None` where no
+    /// row follows.
+    pub fn next_change(&self, channel: Channel, cycle: u32, known: usize) -> Option<u32>
+        requires { known ≡ length (pulls_until self.now channel cycle) }
+        ensures gives { result ≡ change_after self.now channel cycle }
+        ensures later { IfSome result (λ next. cycle < next) }
+        ensures steady { IfSome result (λ next. IsSteady self.now channel cycle next) }
+        ensures last { IfNone result ((end : ℕ) → IsSteady self.now channel cycle end) }
+    {
+        if known == self.index.count(channel) {
+            return None;
+        }
+        Some(self.index.row(&self.rows, channel, known).cycle)
     }
 
     // What the last of so many rows of a channel says, and what is usual where there is none.

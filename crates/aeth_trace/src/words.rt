@@ -1,7 +1,9 @@
 // The words that are offered to channels.
 ghost use Rattle.std.specs.Prelude.{◌≡◌, ◌≤◌, ◌<◌, IfOk, Some, length, slice_get};
+ghost use Rattle.std.specs.List.Sorted.{IsNonDecreasingBy};
 ghost use Rattle.aeth_base.specs.Faults.{Reads};
 ghost use Rattle.aeth_trace.specs.Fault.{rule_of};
+ghost use Rattle.aeth_trace.specs.Limits.{max_rows};
 ghost use Rattle.aeth_trace.specs.Words.{AreWordsOf, words_of, words_on, words_until};
 
 use crate::by_channel::ByChannel;
@@ -82,9 +84,10 @@ pub struct Words {
 }
 
 impl Model for Words {
-    ghost use Rattle.std.specs.Prelude.{List};
+    ghost use Rattle.std.specs.Prelude.{List, length, ◌≤◌};
     ghost use Rattle.std.specs.List.Sorted.{IsNonDecreasingBy};
     ghost use Rattle.aeth_trace.specs.Channels.{IsByChannel};
+    ghost use Rattle.aeth_trace.specs.Limits.{max_rows};
     ghost use Rattle.aeth_trace.specs.declared.words.WordRow.{WordRow};
 
     ghost Value = { List WordRow };
@@ -92,13 +95,16 @@ impl Model for Words {
     ghost view = { λ words. words.rows.items };
 
     ghost invariant = { λ words. IsNonDecreasingBy (λ row. row.cycle) words.rows.items
-        × IsByChannel (λ row. row.channel) words.rows.items words.index.lists.items };
+        × IsByChannel (λ row. row.channel) words.rows.items words.index.lists.items
+        × (length words.rows.items ≤ max_rows) };
 }
 
 impl Words {
-    /// The words, in file order.
+    /// The words, in file order. Their cycles ascend, and they are at most 1,000,000.
     pub fn rows(&self) -> &[WordRow]
-        ensures { result.now ≡ self.now }
+        ensures rows { result.now ≡ self.now }
+        ensures order { IsNonDecreasingBy (λ row. row.cycle) self.now }
+        ensures few { length self.now ≤ max_rows }
     {
         &self.rows
     }
