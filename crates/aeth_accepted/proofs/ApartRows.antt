@@ -5,7 +5,7 @@ use Rattle.aeth_group.specs.Members.{group_at, groups_of}
 use Rattle.aeth_ni.specs.declared.row.ChannelRow.{ChannelRow}
 use Rattle.aeth_reconf.specs.Windows.{AreAllApart}
 use Rattle.aeth_tables.specs.Tables.{tables_of}
-use Rattle.aeth_tables.proofs.ListLaws.{place_of}
+use Rattle.aeth_tables.proofs.ListLaws.{place_in}
 use Rattle.aeth_accepted.specs.Inputs.{AreAccepted, Inputs, design_of, row_at}
 use Rattle.aeth_accepted.proofs.SessionRows.{is_row, promised}
 
@@ -17,8 +17,8 @@ module _ (inputs : Inputs) (accepted : AreAccepted inputs) where
       let rows =
       (tables_of inputs.chip inputs.app (groups_of inputs.app) inputs.plan (record { 0 = u })).rows in
       let keeps = promised inputs accepted u channel has_one in
-      let (i, at_i) = place_of rows (row channel) (is_row inputs accepted u channel has_one) in
-      let (j, at_j) = place_of rows (row other) (is_row inputs accepted u other has_two) in
+      let (i, at_i) = place_in rows (row channel) (is_row inputs accepted u channel has_one) in
+      let (j, at_j) = place_in rows (row other) (is_row inputs accepted u other has_two) in
       let places : i ≡ j = elim meets.shares [
         | inl queue ↦ keeps.queues i j (row channel) (row other) at_i at_j meets.ni queue
         | inr (slot, in_one, in_two) ↦ keeps.slots i j (row channel) (row other) slot at_i at_j

@@ -1,7 +1,7 @@
 -- The grants of a design are those of the connections of its use cases.
-use Rattle.std.proofs.Common.{◌≡◌, ◌∙◌, ◌<◌, ◌&&◌, ℕ, Bool, true, false, eqb, Option, Some, None}
+use Rattle.std.proofs.Common.{◌≡◌, ◌∙◌, ◌<◌, ℕ, Bool, true, false, Option, Some, None}
 use Rattle.std.proofs.Common.{Contains, slice_get, length, refl, sym, ap, inl, inr, arith}
-use Rattle.std.specs.Prelude.{find, map, unwrap_or}
+use Rattle.std.specs.Prelude.{map, unwrap_or}
 use Rattle.std.specs.List.{range_with_len}
 use Rattle.std.proofs.lemmas.Bool.{cases_lt, false≢true}
 use Rattle.std.proofs.lemmas.List.FromFn.{length-map-range_with_len}
@@ -15,28 +15,12 @@ use Rattle.aeth_app.specs.App.{AppData, has_connection, is_marked}
 use Rattle.aeth_group.specs.Members.{UseGroupData, group_at, groups_of, has_at, use_group, use_has}
 use Rattle.aeth_group.specs.declared.grant.Grant.{Grant}
 use Rattle.aeth_group.proofs.MemberLemmas.{connections-groups_of, length-groups_of}
-use Rattle.aeth_check.specs.Channels.{is_for as is_grant_for, same_side as is_same}
-use Rattle.aeth_base.specs.Sides.{same_side}
-use Rattle.aeth_report.specs.Design.{connection_at, grant_at, is_for, no_connection, no_grant}
+use Rattle.aeth_report.specs.Design.{connection_at, grant_at, no_connection, no_grant}
 use Rattle.aeth_tables.specs.Granted.{Granted, grant_of, grant_on, granted_in, unit_in}
 use Rattle.aeth_tables.proofs.ListLaws.{has_place}
 use Rattle.aeth_tables.proofs.ReservedLaws.{IsMade}
 use Rattle.aeth_tables.proofs.UseLaws.{conns_of, made_in}
 use Rattle.aeth_accepted.specs.Inputs.{AreAccepted, Inputs, design_of}
-
--- Two tests of sides are one.
-sides-same : (one other : Side) → same_side one other ≡ is_same one other
-sides-same Fwd Fwd = refl
-sides-same Fwd Back = refl
-sides-same Back Fwd = refl
-sides-same Back Back = refl
-
--- So are two tests of grants.
-tests-same : (group conn : ℕ) (side : Side)
-    → is_for (record { conn = record { 0 = conn }; side = side }) group
-    ≡ is_grant_for (unit_in group conn) side
-tests-same group conn side = λ i grant. eqb grant.unit.conn.0 conn
-    && (eqb grant.unit.group.0 group && sides-same grant.side side i)
 
 -- The grant that is found is the design's.
 grant-found : (inputs : Inputs) (group conn : ℕ) (side : Side) (grant : Grant)
@@ -45,9 +29,7 @@ grant-found : (inputs : Inputs) (group conn : ℕ) (side : Side) (grant : Grant)
 grant-found inputs group conn side grant found =
     let channel : Channel = record { conn = record { 0 = conn }; side = side } in
     let missing = no_grant inputs.chip.slots channel group in
-    ap (λ (test : Grant → Bool). unwrap_or (find test inputs.plan.grants) missing)
-    (tests-same group conn side)
-    ∙ ap (λ (o : Option Grant). unwrap_or o missing) found
+    ap (λ (o : Option Grant). unwrap_or o missing) found
 
 -- The grants of what is made of its parts are those of its sides.
 made-grants : (inputs : Inputs) (group conn : ℕ) (granted : Granted)

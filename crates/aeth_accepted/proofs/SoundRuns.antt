@@ -33,7 +33,7 @@ use Rattle.aeth_accepted.proofs.GivenGrants.{given_in, use-known}
 use Rattle.aeth_accepted.proofs.PathPlaces.{links-once}
 
 -- No number of a list is above the greatest.
-greatest-above : (xs : List ℕ) (x : ℕ) → Contains xs x → x ≤ greatest xs
+pub greatest-above : (xs : List ℕ) (x : ℕ) → Contains xs x → x ≤ greatest xs
 greatest-above [] x has = Contains-nil has
 greatest-above (y ∷ xs) x has = elim (Contains-cases y xs x has) [
   | inl same ↦ omega arith

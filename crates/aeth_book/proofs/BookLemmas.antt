@@ -1,6 +1,6 @@
 -- Laws of books: a first one, one with a grant more, and one with a grant less.
 use Rattle.std.proofs.Common.{◌≡◌, ◌∙◌, ◌<◌, ◌+◌, ◌*◌, ◌%◌, ◌++◌, ◌&&◌, ◌||◌, ℕ}
-use Rattle.std.proofs.Common.{Bool, true, false, cond, eqb, List, [], ◌∷◌, length, take, filter}
+use Rattle.std.proofs.Common.{Bool, true, false, cond, eqb, List, [], ◌∷◌, length, take}
 use Rattle.std.proofs.Common.{All, Contains, Some, get_or, refl, sym}
 use Rattle.std.proofs.Common.{ap, subst, inl, inr, arith}
 use Rattle.std.specs.List.{range_with_len}

@@ -4,15 +4,11 @@ use Rattle.std.proofs.Common.{Bool, true, false, cond, max, List, [], ◌∷◌,
 use Rattle.std.proofs.Common.{Contains, get_or, refl, ap, arith, filter}
 use Rattle.std.proofs.Common.{take, suc}
 use Rattle.std.specs.List.{list_any, range_with_len}
-use Rattle.std.specs.Ordering.{nat_cmp, ord_max}
-use Rattle.std.proofs.lemmas.Bool.Decides.{nat_tests}
 use Rattle.std.proofs.lemmas.List.{append-nil, take_more}
 use Rattle.std.proofs.lemmas.List.Elements.{filter-append}
 use Rattle.aeth_base.proofs.Ranges.{range_with_len-more}
 use Rattle.aeth_slots.specs.SlotSet.{greatest}
-use Rattle.aeth_slots.proofs.Ascending.{Ascends-bounds}
 use Rattle.aeth_base.proofs.Members.{Contains-here, Contains-there}
-use Rattle.aeth_slots.proofs.TestLemmas.{Ascends-slots}
 
 -- What one filter leaves, another filters.
 pub filter_twice : {X : Type 0} (first second both : X → Bool) (xs : List X)
@@ -105,10 +101,6 @@ range-fails test u fails =
     ap (λ n. filter test (range_with_len 0 n)) next
     ∙ ap (filter test) (range_with_len-more 0 u u (omega arith))
     ∙ filter-skip test (range_with_len 0 u) u fails
-
--- The greater of two numbers, as `max` answers it.
-pub ord_max-nat : (a b : ℕ) → ord_max nat_cmp a b ≡ max a b
-ord_max-nat a b = grind (arith, nat_tests)
 
 pub greatest-push : (xs : List ℕ) (x : ℕ) → greatest (xs ++ x ∷ []) ≡ max (greatest xs) x
 greatest-push [] x = omega arith

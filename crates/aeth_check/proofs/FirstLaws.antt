@@ -4,9 +4,7 @@ use Rattle.std.proofs.Common.{◌∷◌, Option, Some, None, Contains, slice_get
 use Rattle.std.proofs.Common.{arith, not, ◌↔◌}
 use Rattle.std.specs.Bool.{Decides}
 use Rattle.std.proofs.lemmas.Bool.{cond-false, false_from_ne_true, false≢true, not-false}
-use Rattle.std.proofs.lemmas.Option.{get_or_from_slice_get, none-some, same_Some}
-use Rattle.std.proofs.lemmas.Option.{slice_get-get_or}
-use Rattle.std.proofs.lemmas.Option.{slice_get_within}
+use Rattle.std.proofs.lemmas.Option.{none-some, same_Some}
 use Rattle.aeth_base.proofs.Members.{Contains-cases, Contains-here, Contains-nil}
 use Rattle.aeth_base.proofs.Members.{Contains-slice_get}
 use Rattle.aeth_base.proofs.Members.{Contains-there, slice_get-Contains}

@@ -1,8 +1,7 @@
 -- A search by halves among grants in order.
-use Rattle.std.proofs.Common.{◌≡◌, ◌∙◌, ◌<◌, ◌≤◌, ◌+◌, ℕ, Bool, true, false, List, Some, Option, None}
-use Rattle.std.proofs.Common.{Contains, eqb, length, slice_get, refl, sym, ap, inl, inr, arith}
-use Rattle.std.specs.List.{list_any}
-use Rattle.std.proofs.lemmas.Bool.{and_parts, cases_eq, cases_lt, eqb-true, false_from_ne_true}
+use Rattle.std.proofs.Common.{◌≡◌, ◌∙◌, ◌<◌, ◌≤◌, ◌+◌, ℕ, Bool, true, false, List, Some}
+use Rattle.std.proofs.Common.{eqb, length, slice_get, refl, sym, ap, inl, inr, arith}
+use Rattle.std.proofs.lemmas.Bool.{and_parts, cases_lt, eqb-true, false_from_ne_true}
 use Rattle.std.proofs.lemmas.Bool.{false≢true}
 use Rattle.std.proofs.lemmas.Option.{same_Some, slice_get_within}
 use Rattle.aeth_base.specs.declared.ids.Side.{Side}
@@ -14,7 +13,8 @@ use Rattle.aeth_plan.specs.Plan.{grant_before}
 use Rattle.aeth_check.specs.Channels.{has_side, is_before, is_for}
 use Rattle.aeth_base.proofs.SideLemmas.{same_side-is}
 use Rattle.aeth_base.proofs.Members.{Contains-slice_get, slice_get-Contains}
-use Rattle.aeth_check.proofs.GrantOrder.{before_trans, not_before, rises_at}
+use Rattle.aeth_plan.proofs.MadePlans.{before_trans}
+use Rattle.aeth_check.proofs.GrantOrder.{not_before, rises_at}
 
 -- A grant for a side of a unit has its connection, group and side.
 record IsFor (unit : GroupUnit) (side : Side) (grant : Grant) : Type 0 where

@@ -1,17 +1,15 @@
 -- What the grants of a plan are for: units with both sides, paths between the seats of the cores,
 -- and slots that suffice.
 --
---   sender, receiver      the cores of a channel
 --   is_for, is_before, has_side      the grants of a unit's sides
 --   lacking_side, first_lacking      the first side without a grant
 --   fits_path, IsOnPath      a grant's path leads from the sender's seat to the receiver's
 --   fits_slots, HasSlots      a grant's slots suffice for what the channel needs and wishes
 -- Connections: after Æthereal (2005). The rest: this project's own.
-use Rattle.std.specs.Prelude.{◌≡◌, ◌+◌, ◌-◌, ℕ, ◌==◌, ◌&&◌, Bool, true, false, List, [], ◌∷◌}
+use Rattle.std.specs.Prelude.{◌≡◌, ◌+◌, ◌-◌, ℕ, ◌==◌, ◌&&◌, Bool, false, List, [], ◌∷◌}
 use Rattle.std.specs.Prelude.{Option, Some, None, slice_get, if◌then◌else◌}
 use Rattle.std.specs.List.{list_any}
 pub use Rattle.aeth_base.specs.Sides.{same_side}
-use Rattle.aeth_base.specs.declared.ids.CoreId.{CoreId}
 use Rattle.aeth_base.specs.declared.ids.LinkId.{LinkId}
 use Rattle.aeth_base.specs.declared.ids.NiId.{NiId}
 use Rattle.aeth_base.specs.declared.ids.Side.{Side}
@@ -21,6 +19,7 @@ use Rattle.aeth_slots.specs.Choice.{IsSuitable, is_suitable}
 use Rattle.aeth_chip.specs.Chip.{ChipData}
 use Rattle.aeth_chip.specs.Paths.{IsAdmissible, path_delay}
 use Rattle.aeth_app.specs.App.{AppData, wish_of}
+pub use Rattle.aeth_app.specs.Connections.{receiver, sender}
 use Rattle.aeth_app.specs.Rates.{need_of}
 use Rattle.aeth_app.specs.declared.connection.Connection.{Connection}
 use Rattle.aeth_group.specs.declared.grant.Grant.{Grant}
@@ -28,16 +27,6 @@ use Rattle.aeth_group.specs.declared.grant.SeatLine.{SeatLine}
 use Rattle.aeth_plan.specs.Plan.{grant_before}
 use Rattle.aeth_check.specs.Routes.{is_admissible}
 use Rattle.aeth_check.specs.Seats.{ni_of}
-
--- The core that sends on a side of a connection.
-abbrev pub sender : Connection → Side → CoreId
-sender connection Fwd = connection.from
-sender connection Back = connection.to
-
--- The core that receives on a side of a connection.
-abbrev pub receiver : Connection → Side → CoreId
-receiver connection Fwd = connection.to
-receiver connection Back = connection.from
 
 -- ---- Units
 

@@ -7,7 +7,7 @@ use Rattle.std.proofs.lemmas.Bool.{cases_Bool, cases_lt, eq-eqb, eqb-true}
 use Rattle.std.proofs.lemmas.List.Kept.{AllPairs-filter}
 use Rattle.std.proofs.lemmas.Option.{get_or_from_slice_get, slice_get_within}
 use Rattle.aeth_base.proofs.Members.{Contains-filter, Contains-map, filter-Contains, map-Contains}
-use Rattle.aeth_tables.proofs.ListLaws.{has_place, place_of}
+use Rattle.aeth_tables.proofs.ListLaws.{has_place, place_in}
 use Rattle.aeth_components.specs.Switching.{Touches, Writes}
 use Rattle.aeth_components.specs.declared.event.Event.{Event}
 use Rattle.aeth_accepted.specs.Inputs.{AreAccepted, Inputs}
@@ -87,7 +87,7 @@ module _ (inputs : Inputs) (accepted : AreAccepted inputs) where
   occurs t event has =
       let one : Timed = record { cycle = t; event = event } in
       let test = λ (x : Timed). x.cycle == t in
-      place_of (events_at inputs t) event
+      place_in (events_at inputs t) event
       (Contains-map (λ (x : Timed). x.event) (filter test (timed_of inputs)) one
       (Contains-filter test (timed_of inputs) one has (eq-eqb t t refl)))
 

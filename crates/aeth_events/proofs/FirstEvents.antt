@@ -20,7 +20,7 @@ use Rattle.aeth_report.specs.Sessions.{Stay, Switch}
 use Rattle.aeth_reconf.specs.Rows.{Meets, RowOf, channels_that, rows_that}
 use Rattle.aeth_reconf.specs.Windows.{set_of, set_route, slot_set_of}
 use Rattle.aeth_reconf.proofs.WindowLemmas.{channels_that-has}
-use Rattle.aeth_tables.proofs.ListLaws.{has_place, place_of}
+use Rattle.aeth_tables.proofs.ListLaws.{has_place, place_in}
 use Rattle.aeth_accepted.specs.Inputs.{AreAccepted, Inputs, design_of, row_at, run_of}
 use Rattle.aeth_components.specs.declared.event.Event.{Event}
 use Rattle.aeth_components.specs.declared.event.Event.TheVariants.{Change}
@@ -117,7 +117,7 @@ module _ (inputs : Inputs) (accepted : AreAccepted inputs) where
             } in
             subst (λ (w : Write). IsWriteOf (fabric_of inputs) 0 w) same route
         | IsSlot x is_in same ↦
-            let (i, at) = place_of row.slots.slots x is_in in
+            let (i, at) = place_in row.slots.slots x is_in in
             let (place, small, entry) = on-slot inputs accepted u session.c x i channel has session.is at
             in
             let slot : IsWriteOf (fabric_of inputs) 0 (SetSlot row.ni x row.queue) = record {
@@ -155,7 +155,7 @@ module _ (inputs : Inputs) (accepted : AreAccepted inputs) where
       → Occurs (changes writes) (Change write)
   occurs channel known has write own =
       let row = row_of (group_at groups u) channel in
-      place_of (changes writes) (Change write)
+      place_in (changes writes) (Change write)
       (Contains-map (λ (w : Write). Change w) writes write
       (Contains-flat_map opening_writes rows row write
       (Contains-map (row_of (group_at groups u)) channels channel

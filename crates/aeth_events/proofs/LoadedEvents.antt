@@ -16,7 +16,7 @@ use Rattle.aeth_reconf.specs.Windows.{set_route}
 use Rattle.aeth_components.specs.Switching.{SlotWrite}
 use Rattle.aeth_components.specs.declared.event.Event.TheVariants.{Change}
 use Rattle.aeth_components.specs.declared.lane.ChannelEnd.{ChannelEnd}
-use Rattle.aeth_tables.proofs.ListLaws.{all_has, place_of}
+use Rattle.aeth_tables.proofs.ListLaws.{all_has, place_in}
 use Rattle.aeth_events.proofs.Pairs.{pairs-append, pairs-cons, pairs-head, pairs-none, pairs-tail}
 use Rattle.aeth_events.proofs.SwitchOrder.{ArePlacedApart}
 use Rattle.aeth_events.proofs.SwitchSessions.{slot-between}
@@ -117,7 +117,7 @@ slots-apart row low high (x ∷ xs) ascends =
     let set = λ (slot : ℕ). SetSlot row.ni slot row.queue in
     pairs-cons AreApartWrites (set x) (map set xs) (λ write has.
     let (y, same, is_in) = map-Contains set xs write has in
-    let (k, at) = place_of xs y is_in in
+    let (k, at) = place_in xs y is_in in
     let above = (slot-between (x + 1) high xs k y ascends.2 at).0 in
     subst (λ (w : Write). AreApartWrites (set x) w) same
     (slot-slot row row x y (λ ni equal. absurd (omega (arith, above, equal)))))

@@ -13,7 +13,6 @@ use Rattle.aeth_base.specs.declared.ids.UseId.{UseId}
 use Rattle.aeth_base.proofs.Members.{Contains-cases, Contains-filter, Contains-flat_map, Contains-here}
 use Rattle.aeth_base.proofs.Members.{Contains-map, Contains-nil, Contains-there}
 use Rattle.aeth_base.proofs.Ranges.{Contains-range}
-use Rattle.aeth_slots.specs.SlotSet.{greatest}
 use Rattle.aeth_server.specs.declared.shape.ChannelShape.{ChannelShape}
 use Rattle.aeth_group.specs.Members.{group_at, groups_of, has_at}
 use Rattle.aeth_group.proofs.MemberLemmas.{connections-groups_of}
@@ -35,20 +34,14 @@ use Rattle.aeth_refinement.specs.Fabric.{server_at}
 use Rattle.aeth_fabric.specs.Fabric.{Placed, fabric_of, opposite_in, placed_at, placed_of, row_in}
 use Rattle.aeth_fabric.specs.Fabric.{stays_in}
 use Rattle.aeth_fabric.proofs.Numbers.{opposite-is, placed-there}
-use Rattle.aeth_fabric.proofs.SessionRows.{is_row, numbers, promised}
+use Rattle.aeth_accepted.proofs.SessionRows.{is_row, promised}
+use Rattle.aeth_accepted.proofs.SoundRuns.{greatest-above}
+use Rattle.aeth_fabric.proofs.SessionRows.{numbers}
 use Rattle.aeth_schedule.specs.Lines.{all_lines, line_with, lines_of, lines_with}
 use Rattle.aeth_schedule.specs.Rooms.{queue_number, room_at, rooms_of}
 use Rattle.aeth_schedule.specs.declared.lines.Line.{Line}
 use Rattle.aeth_schedule.proofs.ScheduleLemmas.{rows-are}
 use Rattle.aeth_stimuli.specs.OnChip.{HaveRooms, IsOver, rooms_at}
-
--- No number of a list is above the greatest.
-greatest-above : (xs : List ℕ) (x : ℕ) → Contains xs x → x ≤ greatest xs
-greatest-above [] x has = Contains-nil has
-greatest-above (y ∷ xs) x has = elim (Contains-cases y xs x has) [
-  | inl same ↦ omega (arith, same)
-  | inr later ↦ let rest = greatest-above xs x later in omega (arith, rest)
-]
 
 -- The lines of rows have one for each channel of their connections, which lands where the opposite
 -- one is sent from.

@@ -26,7 +26,7 @@ use Rattle.aeth_accepted.specs.Inputs.{AreAccepted, Inputs, design_of, row_at, r
 use Rattle.aeth_accepted.proofs.SoundRuns.{AreSpans, is_sound}
 use Rattle.aeth_accepted.proofs.TableFlows.{shape-granted}
 use Rattle.aeth_fabric.proofs.ApartTables.{all_apart}
-use Rattle.aeth_fabric.proofs.SessionRows.{known, one}
+use Rattle.aeth_accepted.proofs.SessionRows.{known, one}
 use Rattle.aeth_fabric.proofs.WritableRuns.{writable}
 use Rattle.aeth_schedule.specs.Switching.{events_by, later_switches, switches_from, timed_of}
 use Rattle.aeth_schedule.specs.declared.timed.Timed.{Timed}

@@ -18,7 +18,8 @@ use Rattle.aeth_ni.specs.declared.write.Write.TheVariants.{ClearRoute, ClearSlot
 use Rattle.aeth_trace.specs.Spans.{SpanData, span_of}
 use Rattle.aeth_report.specs.Sessions.{Switch, close_by, go_by}
 use Rattle.aeth_reconf.specs.Rows.{RowOf, rows_closing, rows_opening}
-use Rattle.aeth_reconf.proofs.WriteCounts.{closing-counted, length-writes, opening-counted}
+use Rattle.aeth_ni.proofs.ProgramLemmas.{length-closing_writes, length-opening_writes}
+use Rattle.aeth_reconf.proofs.WriteCounts.{length-writes}
 use Rattle.aeth_components.specs.Switching.{Touches, Writes}
 use Rattle.aeth_components.specs.declared.event.Event.{Event}
 use Rattle.aeth_components.specs.declared.event.Event.TheVariants.{Change, Finish, Halt}
@@ -176,8 +177,8 @@ module _ (groups : GroupsData) (row_of : RowOf) (spans : SpanData) (switch : Swi
   program-counted : length (program_of closing opening)
       ≡ sum_by write_count closing + sum_by write_count opening
   program-counted =
-      let closed = length-writes row_of 0 closing_writes closing-counted closing in
-      let opened = length-writes row_of 0 opening_writes opening-counted opening in
+      let closed = length-writes row_of 0 closing_writes length-closing_writes closing in
+      let opened = length-writes row_of 0 opening_writes length-opening_writes opening in
       let both = length-append (flat_map closing_writes closing) (flat_map opening_writes opening) in
       omega (arith, closed, opened, both)
 

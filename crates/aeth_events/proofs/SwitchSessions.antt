@@ -13,7 +13,7 @@ use Rattle.aeth_report.specs.Sessions.{Stay, Switch, close_by}
 use Rattle.aeth_report.proofs.Stays.{AreKnown, IsClosedBy, stays_of-is}
 use Rattle.aeth_reconf.specs.Rows.{RowOf}
 use Rattle.aeth_reconf.specs.Windows.{IsClosed, IsOpened, cleared_of, freed_of, set_of, slot_set_of}
-use Rattle.aeth_tables.proofs.ListLaws.{place_of}
+use Rattle.aeth_tables.proofs.ListLaws.{place_in}
 use Rattle.aeth_accepted.specs.Inputs.{Inputs, design_of, row_at, run_of}
 use Rattle.aeth_fabric.specs.Fabric.{Placed, cleared_by, flow_in, freed_by, freed_in, no_placed}
 use Rattle.aeth_fabric.specs.Fabric.{passage_of, placed_at, placed_of, row_in, slot_at, slot_freed_in}
@@ -135,7 +135,7 @@ module _ (inputs : Inputs) where
       → IsNumbered channel stay
   number-of channel inside stay has =
       let run = run_of inputs in
-      let (i, at) = place_of (stays_in run channel.conn.0) stay has in
+      let (i, at) = place_in (stays_in run channel.conn.0) stay has in
       let (c, there) = numbered run channel i stay inside at in
       let p : Placed = record { channel = channel; place = i; stay = stay } in
       let same : placed_at run c ≡ p = get_or_from_slice_get (placed_of run) c p no_placed there in

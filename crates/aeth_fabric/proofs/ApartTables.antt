@@ -1,16 +1,13 @@
 -- No two channels of one use case share a queue or a slot of an interface, and no two of all use cases
 -- share a queue.
-use Rattle.std.proofs.Common.{◌≡◌, ◌<◌, ◌∙◌, ℕ, true, Contains, Some, slice_get, length, sym}
-use Rattle.std.proofs.Common.{ap, subst, refl, inl, inr, arith}
+use Rattle.std.proofs.Common.{◌≡◌, ◌∙◌, ℕ, true, Contains, Some, slice_get, length, sym}
+use Rattle.std.proofs.Common.{ap, subst, inl, inr}
 use Rattle.std.specs.Prelude.{IsSomeAnd, IsTrue}
 use Rattle.std.proofs.lemmas.Option.{same_Some}
 use Rattle.aeth_base.specs.declared.ids.Channel.{Channel}
 use Rattle.aeth_base.specs.declared.ids.CoreId.{CoreId}
 use Rattle.aeth_base.specs.declared.ids.NiId.{NiId}
-use Rattle.aeth_base.specs.declared.ids.Side.{Side}
-use Rattle.aeth_base.specs.declared.ids.Side.TheVariants.{Back, Fwd}
 use Rattle.aeth_app.specs.App.{IsConnection, is_end, position_of}
-use Rattle.aeth_app.specs.Limits.{max_core_connections}
 use Rattle.aeth_app.specs.declared.connection.Connection.{Connection}
 use Rattle.aeth_app.proofs.AppLemmas.{position_of-few}
 use Rattle.aeth_app.proofs.PositionLemmas.{position_of-apart}
@@ -24,27 +21,12 @@ use Rattle.aeth_reconf.specs.Windows.{AreAllApart, AreQueuesApart}
 use Rattle.aeth_seats.specs.Seats.{queue_of}
 use Rattle.aeth_tables.specs.Granted.{sending_seat}
 use Rattle.aeth_tables.specs.Tables.{tables_of}
-use Rattle.aeth_tables.proofs.ApartLaws.{ends_there, one_item, sender_ends}
-use Rattle.aeth_tables.proofs.ListLaws.{place_of}
+use Rattle.aeth_tables.proofs.ApartLaws.{ends_there, one_item, one_seat-back, one_sender}
+use Rattle.aeth_tables.proofs.ApartLaws.{queue_parts, sender_ends}
+use Rattle.aeth_tables.proofs.ListLaws.{place_in}
 use Rattle.aeth_tables.proofs.UseLaws.{is_planned}
 use Rattle.aeth_accepted.specs.Inputs.{AreAccepted, Inputs, design_of, row_at}
-use Rattle.aeth_fabric.proofs.SessionRows.{is_row, known, one, promised, reserved, row-is}
-
--- A queue number tells its seat and its position.
-queue_parts : (seat seat' position position' : ℕ) → position < max_core_connections
-    → position' < max_core_connections → queue_of seat position ≡ queue_of seat' position'
-    → (seat ≡ seat') × (position ≡ position')
-queue_parts seat seat' position position' first second same =
-    (omega (arith, first, second, same), omega (arith, first, second, same))
-
--- Sides of a connection with one sender are one.
-one_sender : (cores : ℕ) (connection : Connection) → IsConnection cores connection → (s t : Side)
-    → sender connection s ≡ sender connection t → s ≡ t
-one_sender cores connection is Fwd Fwd same = refl
-one_sender cores connection is Fwd Back same = absurd (is.apart (ap (λ (c : CoreId). c.0) same))
-one_sender cores connection is Back Fwd same =
-    absurd (is.apart (sym (ap (λ (c : CoreId). c.0) same)))
-one_sender cores connection is Back Back same = refl
+use Rattle.aeth_accepted.proofs.SessionRows.{is_row, known, one, promised, reserved, row-is}
 
 module _ (inputs : Inputs) (accepted : AreAccepted inputs) where
   -- Of one use case: rows of its tables are told apart.
@@ -54,8 +36,8 @@ module _ (inputs : Inputs) (accepted : AreAccepted inputs) where
       let rows =
       (tables_of inputs.chip inputs.app (groups_of inputs.app) inputs.plan (record { 0 = u })).rows in
       let keeps = promised inputs accepted u channel has_one in
-      let (i, at_i) = place_of rows (row channel) (is_row inputs accepted u channel has_one) in
-      let (j, at_j) = place_of rows (row other) (is_row inputs accepted u other has_two) in
+      let (i, at_i) = place_in rows (row channel) (is_row inputs accepted u channel has_one) in
+      let (j, at_j) = place_in rows (row other) (is_row inputs accepted u other has_two) in
       let places : i ≡ j = elim meets.shares [
         | inl queue ↦ keeps.queues i j (row channel) (row other) at_i at_j meets.ni queue
         | inr (slot, in_one, in_two) ↦ keeps.slots i j (row channel) (row other) slot at_i at_j
@@ -109,9 +91,6 @@ module _ (inputs : Inputs) (accepted : AreAccepted inputs) where
             (position_of inputs.app.connections line.core n)) (sym conn)
             ∙ ap (λ (r : ChannelRow). r.queue) row;
       }
-
-  one_seat-back : (a b : SeatLine) → IsOneSeat a b → IsOneSeat b a
-  one_seat-back a b same = record { ni = sym same.ni; seat = sym same.seat }
 
   -- Two that send from one queue of one interface are one.
   one_sends : (channel other : Channel) (ni ni' : NiId) (queue queue' : ℕ)

@@ -11,6 +11,7 @@ use Rattle.std.proofs.lemmas.Option.{slice_get-map, slice_get_within}
 use Rattle.aeth_base.specs.declared.ids.Channel.{Channel}
 use Rattle.aeth_base.specs.declared.ids.Side.{Side}
 use Rattle.aeth_base.specs.declared.ids.Side.TheVariants.{Back, Fwd}
+use Rattle.aeth_base.proofs.Lists.{option_map-some}
 use Rattle.aeth_trace.specs.Channels.{is_channel, side_number}
 use Rattle.aeth_report.specs.Channels.{channels_of, channels_with, opposite}
 use Rattle.aeth_report.specs.Flows.{Run}
@@ -23,7 +24,6 @@ use Rattle.aeth_report.proofs.StaysAlone.{at-Contains}
 use Rattle.aeth_fabric.specs.Fabric.{Placed, is_opposite, no_placed, opposite_in, placed_at}
 use Rattle.aeth_fabric.specs.Fabric.{placed_of, placed_on, placed_with, stays_in}
 use Rattle.aeth_fabric.proofs.Flattened.{flat_map-at}
-use Rattle.aeth_fabric.proofs.WirePlaces.{mapped}
 
 -- Where one item of a list passes a test, the first that does is there.
 first_passes : {X : Type 0} (test : X → Bool) (xs : List X) (k : ℕ) (x : X)
@@ -86,7 +86,7 @@ module _ (run : Run) where
   placed_on-is channel i placed at =
       let stays = stays_in run channel.conn.0 in
       let numbered = enumerate_from 0 stays in
-      let (pair, there, is) = mapped (placed_with channel) (slice_get numbered i) placed
+      let (pair, there, is) = option_map-some (placed_with channel) (slice_get numbered i) placed
       (sym (slice_get-map (placed_with channel) numbered i) ∙ at) in
       let found = enumerate_from-place 0 stays i pair there in
       let number = found.0 in

@@ -12,7 +12,7 @@ use Rattle.aeth_base.specs.Limits.{max_path_links}
 use Rattle.aeth_base.specs.declared.ids.LinkId.{LinkId}
 use Rattle.aeth_base.specs.declared.ids.NiId.{NiId}
 use Rattle.aeth_base.specs.declared.ids.RouterId.{RouterId}
-use Rattle.aeth_base.proofs.Lists.{drop-slice_get, slice_get-push}
+use Rattle.aeth_base.proofs.Lists.{drop-slice_get, option_map-some, slice_get-push}
 use Rattle.aeth_header.specs.Layout.{port_bits, route_bits}
 use Rattle.aeth_header.specs.Route.{IsPort, route_of}
 use Rattle.aeth_header.proofs.RouteLemmas.{route_of-drop, route_of-fits, route_of-mod}
@@ -37,7 +37,6 @@ use Rattle.aeth_fabric.proofs.PathWires.{IsWireOf, hops-is, length-wires_along, 
 use Rattle.aeth_fabric.proofs.WireEnds.{delay-there, first-starts, further-starts, inner-ends}
 use Rattle.aeth_fabric.proofs.WireEnds.{last-ends, last_wire-there}
 use Rattle.aeth_fabric.proofs.WiredLemmas.{port_at}
-use Rattle.aeth_fabric.proofs.WirePlaces.{mapped}
 
 module _ (links : List Link) where
   -- A link of joined ones begins where the one before it ends.
@@ -122,7 +121,7 @@ module _ (chip : ChipData) (is_chip : IsChip chip) (a b : NiId) (path : List Lin
       elim (slice_get-push routers (Ni b) (to_of chip.links l) j ends) [
         | inl inside ↦
             let within = slice_get_within routers j (to_of chip.links l) inside in
-            let (router, is, same) = mapped (λ (r : RouterId). Router r)
+            let (router, is, same) = option_map-some (λ (r : RouterId). Router r)
             (slice_get is_path.routers j) (to_of chip.links l)
             (sym (slice_get-map (λ (r : RouterId). Router r) is_path.routers j) ∙ inside) in
             On router (sym same) (omega (arith, within, count, all))
@@ -159,7 +158,7 @@ module _ (chip : ChipData) (is_chip : IsChip chip) (a b : NiId) (path : List Lin
 
   ports_fit : All IsPort (map (port_of chip.links) (drop 1 path))
   ports_fit = all_from_places IsPort (map (port_of chip.links) (drop 1 path)) (λ place port at.
-      let (link, there, is) = mapped (port_of chip.links) (slice_get (drop 1 path) place) port
+      let (link, there, is) = option_map-some (port_of chip.links) (slice_get (drop 1 path) place) port
       (sym (slice_get-map (port_of chip.links) (drop 1 path) place) ∙ at) in
       subst IsPort is (port_fits place link (sym (drop-one path place) ∙ there)))
 

@@ -10,13 +10,13 @@ use Rattle.std.proofs.lemmas.List.FromFn.{get_or-map-range_with_len, length-map-
 use Rattle.std.proofs.lemmas.List.Sums.{sum_by-cons}
 use Rattle.std.proofs.lemmas.Option.{same_Some, slice_get-get_or, slice_get-map, slice_get_within}
 use Rattle.aeth_base.specs.declared.ids.LinkId.{LinkId}
+use Rattle.aeth_base.proofs.Lists.{option_map-some}
 use Rattle.aeth_chip.specs.Paths.{delay_of, offset, path_delay}
 use Rattle.aeth_chip.specs.Wires.{wire_at}
 use Rattle.aeth_chip.specs.declared.node.Link.{Link}
 use Rattle.aeth_report.proofs.Places.{flat_map-place, range-place}
 use Rattle.aeth_fabric.specs.Paths.{hops_along, wires_along, wires_on}
 use Rattle.aeth_fabric.proofs.Flattened.{flat_map-at}
-use Rattle.aeth_fabric.proofs.WirePlaces.{mapped}
 
 module _ (links : List Link) where
   -- A link has as many wires as it delays.
@@ -58,7 +58,7 @@ module _ (links : List Link) where
       let range = range_with_len 0 (delay_of links link) in
       let within = slice_get_within (wires_on links link) found.inner wire found.gives in
       let count = length-wires_on link in
-      let (k, there, is) = mapped (wire_at links link.0) (slice_get range found.inner) wire
+      let (k, there, is) = option_map-some (wire_at links link.0) (slice_get range found.inner) wire
       (sym (slice_get-map (wire_at links link.0) range found.inner) ∙ found.gives) in
       let same = range-place 0 (delay_of links link) found.inner k there in
       let inner : k ≡ found.inner = omega (arith, same) in

@@ -1,21 +1,16 @@
 -- A wire has one place on one link: the two ways between numbers and places.
 use Rattle.std.proofs.Common.{◌≡◌, ◌<◌, ◌+◌, ◌-◌, ◌∙◌, ℕ, zero, suc, false, true, List, []}
-use Rattle.std.proofs.Common.{◌∷◌, Option, Some, None, length, take, refl, ap, subst, inl, inr}
+use Rattle.std.proofs.Common.{◌∷◌, Some, length, take, refl, ap, subst, inl, inr}
 use Rattle.std.proofs.Common.{arith}
-use Rattle.std.specs.Prelude.{nat_lt, option_map, slice_get}
+use Rattle.std.specs.Prelude.{nat_lt, slice_get}
 use Rattle.std.proofs.lemmas.Bool.{cases_lt, le-ltb, lt-ltb}
 use Rattle.std.proofs.lemmas.List.Sums.{sum_by-cons}
 use Rattle.std.proofs.lemmas.Option.{same_Some, slice_get_cases, slice_get_within}
+use Rattle.aeth_base.proofs.Lists.{option_map-some}
 use Rattle.aeth_chip.specs.Wires.{further_wires, wire_at}
 use Rattle.aeth_chip.specs.declared.node.Link.{Link}
 use Rattle.aeth_chip.proofs.WireLemmas.{HaveDelays}
-use Rattle.aeth_fabric.specs.Wiring.{further_at, place_of}
-
--- What an image stands for.
-pub mapped : {X Y : Type 0} (f : X → Y) (o : Option X) (y : Y) → option_map f o ≡ Some y
-    → (x : X) × (o ≡ Some x) × (f x ≡ y)
-mapped f None y at = absurd cc
-mapped f (Some x) y at = (x, refl, same_Some (f x) y at)
+use Rattle.aeth_fabric.specs.Wiring.{further_at, wire_place}
 
 -- The place of a further wire.
 further_at-place : (links : List Link) (l j : ℕ) (link : Link) → slice_get links l ≡ Some link
@@ -41,11 +36,11 @@ further_at-place (first ∷ links) (suc l) j link at short =
     ap (further_at (first ∷ links)) index ∙ rw (past, behind, rest) refl
 
 -- A wire at its place.
-pub place_of-at : (links : List Link) (l p : ℕ) (link : Link) → slice_get links l ≡ Some link
-    → p < link.delay → place_of links (wire_at links l p) ≡ Some (l, p)
-place_of-at links l zero link at short =
+pub wire_place-at : (links : List Link) (l p : ℕ) (link : Link) → slice_get links l ≡ Some link
+    → p < link.delay → wire_place links (wire_at links l p) ≡ Some (l, p)
+wire_place-at links l zero link at short =
     rw (lt-ltb l (length links) (slice_get_within links l link at)) refl
-place_of-at links l (suc p) link at short =
+wire_place-at links l (suc p) link at short =
     let before = further_wires (take l links) in
     let wire = length links + before + p in
     let past : nat_lt wire (length links) ≡ false = le-ltb wire (length links) (omega arith) in
@@ -72,7 +67,7 @@ further_at-is (first ∷ links) k at found = elim (cases_lt k (first.delay - 1))
       subst (λ (p : ℕ × ℕ). IsFurther (first ∷ links) k p) same here
   | inr past ↦
       let front = first.delay - 1 in
-      let (before, is, same) = mapped (λ (p : ℕ × ℕ). (suc p.0, p.1)) (further_at links (k - front))
+      let (before, is, same) = option_map-some (λ (p : ℕ × ℕ). (suc p.0, p.1)) (further_at links (k - front))
       at (rw (le-ltb k front past) at found) in
       let rest = further_at-is links (k - front) before is in
       let split = sum_by-cons (λ (k : Link). k.delay - 1) first (take before.0 links) in
@@ -103,16 +98,16 @@ first_there links delays wire within = elim ((slice_get_cases links wire).1) [
 ]
 
 -- So each place that is found is.
-pub place_of-is : (links : List Link) → HaveDelays links → (wire : ℕ) (at : ℕ × ℕ)
-    → place_of links wire ≡ Some at → IsWireAt links wire at
-place_of-is links delays wire at found = elim (cases_lt wire (length links)) [
+pub wire_place-is : (links : List Link) → HaveDelays links → (wire : ℕ) (at : ℕ × ℕ)
+    → wire_place links wire ≡ Some at → IsWireAt links wire at
+wire_place-is links delays wire at found = elim (cases_lt wire (length links)) [
   | inl less ↦
       let same : (wire, 0) ≡ at =
       same_Some (wire, 0) at (rw (lt-ltb wire (length links) less) at found) in
       subst (λ (p : ℕ × ℕ). IsWireAt links wire p) same
       (first_there links delays wire less)
   | inr past ↦
-      let (before, is, same) = mapped (λ (p : ℕ × ℕ). (p.0, suc p.1))
+      let (before, is, same) = option_map-some (λ (p : ℕ × ℕ). (p.0, suc p.1))
       (further_at links (wire - length links)) at
       (rw (le-ltb wire (length links) past) at found) in
       let rest = further_at-is links (wire - length links) before is in

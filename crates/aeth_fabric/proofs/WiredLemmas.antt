@@ -5,6 +5,7 @@ use Rattle.std.specs.Prelude.{count_by, option_and_then, option_map, position, s
 use Rattle.std.proofs.lemmas.Option.{none-some, same_Some, slice_get-map, slice_get_within}
 use Rattle.aeth_base.specs.declared.ids.NiId.{NiId}
 use Rattle.aeth_base.specs.declared.ids.RouterId.{RouterId}
+use Rattle.aeth_base.proofs.Lists.{option_map-some}
 use Rattle.aeth_chip.specs.Chip.{ChipData, IsChip, IsNode}
 use Rattle.aeth_chip.specs.Nodes.{begins_at, ends_at, numbers_from, receives_on, router_of, sends_on}
 use Rattle.aeth_chip.specs.Paths.{delay_of}
@@ -21,11 +22,11 @@ use Rattle.aeth_report.specs.Routes.{port_of}
 use Rattle.aeth_router.specs.Router.{entering_wires, last_wire}
 use Rattle.aeth_router.proofs.LinkLemmas.{position-at}
 use Rattle.aeth_fabric.specs.Wiring.{end_in, end_of, entering_of, fabric_on, leaving_of, node_end}
-use Rattle.aeth_fabric.specs.Wiring.{place_of, start_of}
+use Rattle.aeth_fabric.specs.Wiring.{start_of, wire_place}
 use Rattle.aeth_fabric.proofs.WireEnds.{delay-there, ends_at-node, inner-ends}
 use Rattle.aeth_fabric.proofs.WireEnds.{last-ends, starts_at-node, starts_behind}
 use Rattle.aeth_fabric.proofs.WireEnds.{Behind, FollowsIn, NoWire, StartsBehind}
-use Rattle.aeth_fabric.proofs.WirePlaces.{mapped, place_of-at}
+use Rattle.aeth_fabric.proofs.WirePlaces.{wire_place-at}
 
 -- A link stands in the list of those that pass a test.
 listed : (test : Link → Bool) (links : List Link) (l : ℕ) (link : Link)
@@ -149,7 +150,7 @@ module _ (chip : ChipData) (is_chip : IsChip chip) where
   entering-is k wire r at =
       let router : RouterId = record { 0 = r } in
       let receives = receives_on (Router router) chip.links in
-      let (number, there, is) = mapped (last_wire chip.links) (slice_get receives k) wire
+      let (number, there, is) = option_map-some (last_wire chip.links) (slice_get receives k) wire
       (sym (slice_get-map (last_wire chip.links) receives k) ∙ at) in
       let found = receives_on-found chip.links (Router router) k number there in
       record {
@@ -206,13 +207,13 @@ module _ (chip : ChipData) (is_chip : IsChip chip) where
   stage_reads m l starts = stage_reads-in m l (starts_behind chip.links delays m l starts)
 
   -- No wire stands behind what is no wire.
-  not_both : (m n l : ℕ) → place_of chip.links m ≡ None → m ≡ l → FollowsIn chip.links l n → ⊥
+  not_both : (m n l : ℕ) → wire_place chip.links m ≡ None → m ≡ l → FollowsIn chip.links l n → ⊥
   not_both m n l none same behind =
       let short = behind.short in
-      let found = place_of-at chip.links behind.number behind.place behind.link behind.at
+      let found = wire_place-at chip.links behind.number behind.place behind.link behind.at
       (omega (arith, short)) in
       none-some (behind.number, behind.place)
-      (sym (ap (place_of chip.links) (behind.first ∙ sym same) ∙ none) ∙ found)
+      (sym (ap (wire_place chip.links) (behind.first ∙ sym same) ∙ none) ∙ found)
 
   stage_once-in : (m n l : ℕ) → StartsBehind chip.links delays m l
       → StartsBehind chip.links delays n l → m ≡ n

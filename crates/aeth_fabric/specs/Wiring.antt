@@ -1,14 +1,14 @@
 -- The wires of a chip, as a fabric has them.
 --
---   further_at, place_of      the link of a wire, and the place at which it is on it
+--   further_at, wire_place      the link of a wire, and the place at which it is on it
 --   node_end      a node, as an end of a wire
 --   start_in, start_of      where a wire starts
 --   end_in, end_of      where it ends
 --   leaving_of, entering_of      the wires of an interface
 --   fabric_on      the fabric of a chip with some sessions
 -- This project's own.
-use Rattle.std.specs.Prelude.{ℕ, zero, suc, ◌-◌, ◌==◌, nat_lt, if◌then◌else◌, List, [], ◌∷◌}
-use Rattle.std.specs.Prelude.{Option, Some, None, length, option_map, slice_get, slice_index}
+use Rattle.std.specs.Prelude.{ℕ, zero, suc, ◌-◌, ◌==◌, nat_lt, List, [], ◌∷◌}
+use Rattle.std.specs.Prelude.{Option, Some, None, length, option_map, slice_get, slice_index, if◌then◌else◌}
 use Rattle.aeth_chip.specs.Chip.{ChipData}
 use Rattle.aeth_chip.specs.Nodes.{receives_on, sends_on}
 use Rattle.aeth_chip.specs.Paths.{delay_of, to_of}
@@ -30,8 +30,8 @@ further_at (link ∷ links) k =
 
 -- The link of a wire, and its place behind the first wire of the link; none where there is no such
 -- wire.
-abbrev pub place_of : List Link → ℕ → Option (ℕ × ℕ)
-place_of links wire =
+abbrev pub wire_place : List Link → ℕ → Option (ℕ × ℕ)
+wire_place links wire =
     if nat_lt wire (length links) then Some (wire, 0)
     else option_map (λ at. (at.0, suc at.1)) (further_at links (wire - length links))
 
@@ -54,7 +54,7 @@ start_in links wire (Some (l, suc place)) = AtStage (wire_at links l place)
 
 -- Where a wire starts.
 abbrev pub start_of : List Link → ℕ → WireEnd
-start_of links wire = start_in links wire (place_of links wire)
+start_of links wire = start_in links wire (wire_place links wire)
 
 -- Where a wire ends at a place of a link: the last where the link ends, and each one before at a
 -- stage.
@@ -67,7 +67,7 @@ end_in links wire (Some (l, place)) =
 
 -- Where a wire ends.
 abbrev pub end_of : List Link → ℕ → WireEnd
-end_of links wire = end_in links wire (place_of links wire)
+end_of links wire = end_in links wire (wire_place links wire)
 
 -- The wire that leaves an interface.
 abbrev pub leaving_of : List Link → ℕ → ℕ

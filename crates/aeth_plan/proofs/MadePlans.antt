@@ -37,10 +37,10 @@ chain_sides Fwd Fwd Fwd one two = one
 chain_sides Fwd Back Fwd one two = two
 chain_sides Back t u one two = absurd (true≢false (sym one))
 
--- The order of grants goes on and on.
-chain : (a b c : Grant) → grant_before a b ≡ true → grant_before b c ≡ true
+-- What comes before a grant that comes before another comes before this one.
+pub before_trans : (a b c : Grant) → grant_before a b ≡ true → grant_before b c ≡ true
     → grant_before a c ≡ true
-chain a b c = chain_numbers a.unit.conn.0 b.unit.conn.0 c.unit.conn.0 _ _ _
+before_trans a b c = chain_numbers a.unit.conn.0 b.unit.conn.0 c.unit.conn.0 _ _ _
     (chain_numbers a.unit.group.0 b.unit.group.0 c.unit.group.0 _ _ _
     (chain_sides a.side b.side c.side))
 
@@ -63,13 +63,13 @@ grants_apart plan is i j d below within units sides =
     let b = get_or plan.grants j d in
     let shown : grant_before a b ≡ grant_before b b = λ k.
     grant_before (record { unit = units k; side = sides k; path = a.path; slots = a.slots }) b in
-    never b (sym shown ∙ rising_pairs grant_before chain plan.grants is.grants i j d below within)
+    never b (sym shown ∙ rising_pairs grant_before before_trans plan.grants is.grants i j d below within)
 
 -- Two lists of the same grants that rise are the same.
 same_grants : (grants xs ys : List Grant) → IsPermutation grants xs → IsPermutation grants ys
     → Rises grant_before xs → Rises grant_before ys → xs ≡ ys
 same_grants grants xs ys one two rising other =
-    rising_same grant_before chain never xs ys rising other
+    rising_same grant_before before_trans never xs ys rising other
     (λ z has. Contains-permutation grants ys z two
     (Contains-permutation xs grants z (IsPermutation-sym grants xs one) has))
     (λ z has. Contains-permutation grants xs z one

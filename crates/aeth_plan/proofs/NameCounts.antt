@@ -14,5 +14,4 @@ length-core_names app = length-map app.cores (λ core. core.name)
 -- There are as many names as connections.
 pub length-connection_names : (app : AppData)
     → length (connection_names app) ≡ length app.connections
-unfolding connection_names
 length-connection_names app = length-map app.connections (λ connection. connection.name)

@@ -5,6 +5,7 @@ use Rattle.std.specs.Str.{bytes_eq}
 use Rattle.std.proofs.lemmas.List.Elements.{recursion_from_All}
 use Rattle.aeth_base.specs.Name.{is_name}
 use Rattle.aeth_chip.specs.Chip.{ChipData, IsChip}
+use Rattle.aeth_chip.proofs.NameLemmas.{nis_apart}
 use Rattle.aeth_app.specs.App.{AppData, IsApp}
 use Rattle.aeth_plan.specs.Plan.{connection_names, core_names}
 
@@ -22,11 +23,6 @@ all_behind : {X : Type 0} (P : X → Type 0) (xs ys : List X) → AllByRecursion
 all_behind P [] ys all = all
 all_behind P (x ∷ xs) ys all = all_behind P xs ys all.1
 
-apart_behind : (xs ys : List (List ℕ)) → IsDistinct bytes_eq (xs ++ ys) → IsDistinct bytes_eq ys
-unfolding IsDistinct
-apart_behind [] ys apart = apart
-apart_behind (x ∷ xs) ys apart = apart_behind xs ys apart.1
-
 all_names : {X : Type 0} (name : X → List ℕ) (xs : List X)
     → AllByRecursion (λ x. is_name (name x) ≡ true) xs
     → AllByRecursion (λ n. is_name n ≡ true) (map name xs)
@@ -35,14 +31,14 @@ all_names name (x ∷ xs) all = (all.0, all_names name xs all.1)
 
 -- They hold of each.
 pub names_hold : (chip : ChipData) (app : AppData) → IsChip chip → IsApp app → HasNames chip app
-unfolding core_names connection_names
+unfolding core_names
 names_hold chip app is_chip is_app = record {
   nis = all_behind (λ name. is_name name ≡ true) chip.routers chip.nis
       (recursion_from_All _ _ is_chip.named);
   cores = all_names (λ core. core.name) app.cores (recursion_from_All _ _ is_app.named_cores);
   connections = all_names (λ connection. connection.name) app.connections
       (recursion_from_All _ _ is_app.named_connections);
-  apart_nis = apart_behind chip.routers chip.nis is_chip.apart;
+  apart_nis = nis_apart chip is_chip;
   apart_cores = is_app.core_names;
   apart_connections = is_app.connection_names;
 }

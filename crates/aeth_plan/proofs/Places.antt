@@ -15,7 +15,7 @@ use Rattle.aeth_slots.specs.SlotSet.{Ascends}
 use Rattle.aeth_document.specs.Chain.{◌>>=◌}
 use Rattle.aeth_text.specs.Order.{Rises, RisesAfter, line_after}
 use Rattle.aeth_plan.specs.Plan.{name_at}
-use Rattle.aeth_plan.specs.Rules.{each, found, holds, ordered, place_of}
+use Rattle.aeth_plan.specs.Rules.{each, found, holds, ordered, place_among}
 use Rattle.aeth_plan.proofs.Chains.{bind_ok, err_ok, ok_is}
 
 -- ---- Names
@@ -25,7 +25,7 @@ name_at-get_or : (names : List (List ℕ)) (i : ℕ) → i < length names
 name_at-get_or names i within = ap (λ o. unwrap_or o []) (slice_get-get_or names i [] within)
 
 -- The name at the place of a name is this name.
-pub place_only : (names : List (List ℕ)) (name : List ℕ) (i : ℕ) → place_of names name ≡ Some i
+pub place_only : (names : List (List ℕ)) (name : List ℕ) (i : ℕ) → place_among names name ≡ Some i
     → (i < length names) × (name_at names i ≡ name)
 place_only names name i is =
     let (within, same, before) = position-Some (bytes_eq name) names i [] is in
@@ -61,7 +61,7 @@ apart_at (name ∷ names) apart (suc k) (suc i) less within =
 
 -- Where no two names are equal, the place of the name at a place is this place.
 pub place_again : (names : List (List ℕ)) → IsDistinct bytes_eq names → (i : ℕ)
-    → i < length names → place_of names (name_at names i) ≡ Some i
+    → i < length names → place_among names (name_at names i) ≡ Some i
 place_again names apart i within =
     let name = get_or names i [] in
     let at : position_or_len (bytes_eq name) names ≡ i =

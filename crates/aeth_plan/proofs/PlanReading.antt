@@ -19,7 +19,7 @@ use Rattle.aeth_plan.specs.Plan.{core_names, grant_before, seat_before}
 use Rattle.aeth_plan.specs.PlanText.{grant_words}
 use Rattle.aeth_plan.specs.Rules.{each, found, holds, known_grant}
 use Rattle.aeth_plan.specs.PlanText.{plan_in, plan_of, plan_text}
-use Rattle.aeth_plan.specs.Rules.{known_seat, ordered, place_of}
+use Rattle.aeth_plan.specs.Rules.{known_seat, ordered, place_among}
 use Rattle.aeth_plan.specs.PlanText.{plan_words, seat_words}
 use Rattle.aeth_plan.specs.Spelling.{IsGrantText, IsSeatText, IsText}
 use Rattle.aeth_plan.specs.Lines.{GrantWords, PlanWords, text_of}
@@ -40,8 +40,8 @@ seat_only : (chip : ChipData) (app : AppData) (line : ℕ) (text : SeatText) (se
     → (seat_words chip app seat ≡ text) × IsSeatOf chip app seat
 unfolding known_seat
 seat_only chip app line text seat has e =
-    let (core, e1, r1) = bind_ok (found line 2 (place_of (core_names app) text.core)) _ seat e in
-    let (ni, e2, r2) = bind_ok (found line 3 (place_of chip.nis text.ni)) _ seat r1 in
+    let (core, e1, r1) = bind_ok (found line 2 (place_among (core_names app) text.core)) _ seat e in
+    let (ni, e2, r2) = bind_ok (found line 3 (place_among chip.nis text.ni)) _ seat r1 in
     let (u, e3, r3) = bind_ok (holds line 4 (nat_lt text.seat seats_per_ni)) _ seat r2 in
     let made : SeatLine =
     record { core = record { 0 = core }; ni = record { 0 = ni }; seat = text.seat } in
@@ -64,7 +64,7 @@ grant_only : (chip : ChipData) (app : AppData) (groups : GroupsData) (line : ℕ
 unfolding known_grant
 grant_only chip app groups line text grant has e =
     let (conn, e1, r1) =
-    bind_ok (found line 2 (place_of (connection_names app) text.conn)) _ grant e in
+    bind_ok (found line 2 (place_among (connection_names app) text.conn)) _ grant e in
     let (u2, e2, r2) = bind_ok (holds line 3 (nat_lt text.group groups.count)) _ grant r1 in
     let (u3, e3, r3) =
     bind_ok (holds line 5 (list_all (λ link. nat_lt link.0 (length chip.links)) text.links)) _

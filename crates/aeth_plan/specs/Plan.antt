@@ -4,7 +4,7 @@
 --   seat_before, grant_before      the order of its lines
 --   IsPlan      what holds of every plan
 --   IsSeatOf, IsGrantOf, IsPlanOf      what holds of a plan for a chip, an application and groups
---   core_names, connection_names, name_at      the names in a plan's text
+--   core_names, name_at      the names in a plan's text
 -- This project's own.
 use Rattle.std.specs.Prelude.{◌≡◌, ◌≤◌, ◌<◌, ◌==◌, ℕ, Bool, true, false, nat_lt, List, []}
 use Rattle.std.specs.Prelude.{length, map, slice_get, unwrap_or, if◌then◌else◌}
@@ -16,6 +16,7 @@ use Rattle.aeth_slots.specs.SlotSet.{Ascends}
 use Rattle.aeth_text.specs.Order.{Rises}
 use Rattle.aeth_chip.specs.Chip.{ChipData}
 use Rattle.aeth_app.specs.App.{AppData}
+pub use Rattle.aeth_app.specs.Connections.{connection_names}
 use Rattle.aeth_app.specs.Limits.{seats_per_ni}
 use Rattle.aeth_group.specs.Members.{GroupsData}
 use Rattle.aeth_group.specs.declared.grant.Grant.{Grant}
@@ -80,10 +81,6 @@ pub record IsPlanOf (chip : ChipData) (app : AppData) (groups : GroupsData) (pla
 -- The names of an application's cores.
 unfoldable pub core_names : AppData → List (List ℕ)
 core_names app = map (λ core. core.name) app.cores
-
--- The names of an application's connections.
-unfoldable pub connection_names : AppData → List (List ℕ)
-connection_names app = map (λ connection. connection.name) app.connections
 
 -- The name at a place; no bytes where there is none.
 abbrev pub name_at : List (List ℕ) → ℕ → List ℕ

@@ -1,6 +1,6 @@
 -- What the fields of plan lines name on a chip and in an application, and lines in order.
 --
---   found, holds, place_of      looking up a name, and a test
+--   found, holds, place_among      looking up a name, and a test
 --   each, ordered      each line, and the order of lines
 --   known_seat, known_grant      the rule of unknown fields, line by line
 -- This project's own.
@@ -33,8 +33,8 @@ holds line field true = Ok tt
 holds line field false = Err (unknown line field)
 
 -- The place of a name among names.
-abbrev pub place_of : List (List ℕ) → List ℕ → Option ℕ
-place_of names name = position (bytes_eq name) names
+abbrev pub place_among : List (List ℕ) → List ℕ → Option ℕ
+place_among names name = position (bytes_eq name) names
 
 -- What each line gives, the first of which has this number; or the first fault.
 abbrev pub each : {X Y : Type 0} → (ℕ → X → Result Y BrokenRule) → ℕ → List X
@@ -51,8 +51,8 @@ ordered (Some line) = Err (wrong_order line)
 -- The seat of a line.
 unfoldable pub known_seat : ChipData → AppData → ℕ → SeatText → Result SeatLine BrokenRule
 known_seat chip app line text = do
-  core ← found line 2 (place_of (core_names app) text.core)
-  ni ← found line 3 (place_of chip.nis text.ni)
+  core ← found line 2 (place_among (core_names app) text.core)
+  ni ← found line 3 (place_among chip.nis text.ni)
   seat ← holds line 4 (nat_lt text.seat seats_per_ni)
   Ok (record { core = record { 0 = core }; ni = record { 0 = ni }; seat = text.seat })
 
@@ -60,7 +60,7 @@ known_seat chip app line text = do
 unfoldable pub known_grant : ChipData → AppData → GroupsData → ℕ → GrantWords
     → Result Grant BrokenRule
 known_grant chip app groups line text = do
-  conn ← found line 2 (place_of (connection_names app) text.conn)
+  conn ← found line 2 (place_among (connection_names app) text.conn)
   group ← holds line 3 (nat_lt text.group groups.count)
   links ← holds line 5 (list_all (λ link. nat_lt link.0 (length chip.links)) text.links)
   starts ← holds line 6 (list_all (λ start. nat_lt start chip.slots) text.starts)

@@ -82,7 +82,7 @@ fn set_of(size: u32, starts: &[u32]) -> SlotSet
 }
 
 /// The grant of a line.
-#[tactic(auto, unfolding(crate::specs::Plan::connection_names, crate::specs::Rules::known_grant))]
+#[tactic(auto, unfolding(crate::specs::Rules::known_grant))]
 fn known_grant(
     chip: &Chip,
     app: &App,

@@ -106,7 +106,6 @@ fn push_grant_line(out: &mut Vec<u8>, conn: &[u8], grant: &Grant) -> Result<(), 
 }
 
 /// Appends the line of a grant.
-#[tactic(auto, unfolding(crate::specs::Plan::connection_names))]
 fn push_grant(out: &mut Vec<u8>, app: &App, grant: &Grant) -> Result<(), NoMemory>
     requires { grant.now.unit.conn.0 < length app.now.connections }
     ensures { OnOk result (out.new.items

@@ -9,7 +9,7 @@ use Rattle.aeth_base.specs.declared.ids.Channel.{Channel}
 use Rattle.aeth_group.specs.Members.{GroupsData}
 use Rattle.aeth_trace.specs.Spans.{SpanData}
 use Rattle.aeth_trace.specs.declared.switches.SwitchRow.{SwitchRow}
-use Rattle.aeth_report.specs.Sessions.{Stay, Switch, close_by, go_by, go_of, stays_of}
+use Rattle.aeth_report.specs.Sessions.{Stay, Switch, close_by, go_of, stays_of}
 use Rattle.aeth_report.proofs.SessionMeetings.{in_time}
 use Rattle.aeth_report.proofs.SessionOrder.{stays-after}
 use Rattle.aeth_report.proofs.Stays.{AreKnown, IsKnown, stays_of-is}
@@ -18,7 +18,7 @@ use Rattle.aeth_reconf.specs.Rows.{RowOf}
 use Rattle.aeth_reconf.specs.Windows.{AreWritable, AreQueuesApart, IsHandedOn, IsOwned, IsStayAt}
 use Rattle.aeth_reconf.specs.Windows.{clears_from, set_of, since_of}
 use Rattle.aeth_reconf.proofs.OneWritten.{IsBetween, rising}
-use Rattle.aeth_reconf.proofs.StayTurns.{AreInTurn, IsBefore, opened_at, stays-turn}
+use Rattle.aeth_reconf.proofs.StayTurns.{AreInTurn, opened_at, stays-turn}
 
 module _ (groups : GroupsData) (row_of : RowOf) (spans : SpanData) where
   -- When a switch has finished what it closes.

@@ -1,5 +1,5 @@
 -- The windows of stays: their order.
-use Rattle.std.proofs.Common.{◌≡◌, ◌≤◌, ◌<◌, ◌∙◌, ◌+◌, ℕ, Bool, true, List, [], ◌∷◌, Contains, Option}
+use Rattle.std.proofs.Common.{◌≡◌, ◌≤◌, ◌<◌, ◌+◌, ℕ, Bool, true, List, [], ◌∷◌, Contains, Option}
 use Rattle.std.proofs.Common.{Some, None, filter, length, refl, ap, subst, inl, inr, arith}
 use Rattle.std.specs.Prelude.{IfSome, IsTrue, sum_by}
 use Rattle.std.specs.List.{range_with_len}

@@ -1,20 +1,17 @@
 -- How many writes come before those of a channel, and which they are.
-use Rattle.std.proofs.Common.{◌≡◌, ◌≤◌, ◌<◌, ◌∙◌, ◌++◌, ◌+◌, ℕ, zero, suc, Bool, true, cond, List, []}
+use Rattle.std.proofs.Common.{◌≡◌, ◌≤◌, ◌<◌, ◌∙◌, ◌++◌, ◌+◌, ℕ, zero, suc, List, []}
 use Rattle.std.proofs.Common.{◌∷◌, Contains, length, map, slice_get, refl, sym, ap, inl, inr, arith}
-use Rattle.std.specs.Prelude.{◌==◌, ◌&&◌, sum_by}
+use Rattle.std.specs.Prelude.{sum_by}
 use Rattle.std.specs.List.{flat_map}
-use Rattle.std.proofs.lemmas.Bool.{and_from, and_parts, both_ways, cases_Bool, eq-eqb, eqb-true}
-use Rattle.std.proofs.lemmas.List.{length-append, length-map}
+use Rattle.std.proofs.lemmas.Bool.{both_ways, cases_Bool}
+use Rattle.std.proofs.lemmas.List.{length-append}
 use Rattle.std.proofs.lemmas.List.Concat.{flat_map-cons}
 use Rattle.std.proofs.lemmas.List.Sums.{sum_by-cons}
 use Rattle.aeth_base.specs.declared.ids.Channel.{Channel}
-use Rattle.aeth_base.specs.declared.ids.Side.{Side}
-use Rattle.aeth_base.specs.declared.ids.Side.TheVariants.{Back, Fwd}
 use Rattle.aeth_base.proofs.Members.{Contains-cases, Contains-nil}
-use Rattle.aeth_ni.specs.Program.{closing_writes, opening_writes, write_count}
+use Rattle.aeth_ni.specs.Program.{write_count}
 use Rattle.aeth_ni.specs.declared.row.ChannelRow.{ChannelRow}
 use Rattle.aeth_ni.specs.declared.write.Write.{Write}
-use Rattle.aeth_ni.specs.declared.write.Write.TheVariants.{ClearRoute, ClearSlot, SetSlot}
 use Rattle.aeth_trace.specs.Channels.{is_channel}
 use Rattle.aeth_reconf.specs.Rows.{RowOf}
 use Rattle.aeth_reconf.specs.Windows.{ahead_of}
@@ -104,15 +101,3 @@ module _ (row_of : RowOf) (group : ℕ) where
                 ∙ write_at channels channel there i within)
           ]
         ]
-
--- The writes that close a row are one for each slot, and one for its route; so are those that open it.
-pub closing-counted : (row : ChannelRow) → length (closing_writes row) ≡ write_count row
-closing-counted row =
-    let clears = map (λ slot. ClearSlot row.ni slot) row.slots.slots in
-    let slots = length-map row.slots.slots (λ slot. ClearSlot row.ni slot) in
-    let both = length-append clears (ClearRoute row.ni row.queue ∷ []) in
-    omega arith
-
-pub opening-counted : (row : ChannelRow) → length (opening_writes row) ≡ write_count row
-opening-counted row =
-    let slots = length-map row.slots.slots (λ slot. SetSlot row.ni slot row.queue) in omega arith

@@ -24,7 +24,8 @@ use Rattle.aeth_report.specs.Sessions.{Switch, closes, opens}
 use Rattle.aeth_report.proofs.ChannelLemmas.{is_channel-itself, of_connection, same_channel}
 use Rattle.aeth_reconf.specs.Rows.{RowOf, channels_that, rows_closing, rows_opening, switch_program}
 use Rattle.aeth_reconf.specs.Windows.{IsClosingWrite, IsOpeningWrite, ahead_of}
-use Rattle.aeth_reconf.proofs.WriteCounts.{closing-counted, length-writes, opening-counted}
+use Rattle.aeth_ni.proofs.ProgramLemmas.{length-closing_writes, length-opening_writes}
+use Rattle.aeth_reconf.proofs.WriteCounts.{length-writes}
 
 -- ---- channels that differ
 
@@ -165,8 +166,8 @@ module _ (groups : GroupsData) where
         let closing = flat_map closing_writes shut in
         let opening = flat_map opening_writes open_rows in
         let both = length-append closing opening in
-        let closed = length-writes row_of (group_at groups u) closing_writes closing-counted shut in
-        let opened = length-writes row_of (group_at groups v) opening_writes opening-counted open_rows in
+        let closed = length-writes row_of (group_at groups u) closing_writes length-closing_writes shut in
+        let opened = length-writes row_of (group_at groups v) opening_writes length-opening_writes open_rows in
         elim (cases_lt k (sum_by write_count shut)) [
           | inl early ↦
               let test = closes groups u v in

@@ -1,14 +1,13 @@
 -- The writes of a switch are made in the cycles of the windows.
 use Rattle.std.proofs.Common.{◌≡◌, ◌<◌, ◌∙◌, ◌+◌, ◌++◌, ℕ, suc, List, [], ◌∷◌, Some, ap, length, map}
 use Rattle.std.proofs.Common.{slice_get, arith}
-use Rattle.std.specs.Prelude.{option_map, sum_by}
+use Rattle.std.specs.Prelude.{option_map}
 use Rattle.std.specs.List.{flat_map}
 use Rattle.std.proofs.lemmas.List.{length-map}
 use Rattle.std.proofs.lemmas.Option.{slice_get-map, slice_get_within}
 use Rattle.aeth_base.specs.declared.ids.Channel.{Channel}
 use Rattle.aeth_group.specs.Members.{GroupsData, group_at}
 use Rattle.aeth_ni.specs.Program.{closing_writes, opening_writes, write_count}
-use Rattle.aeth_ni.specs.declared.row.ChannelRow.{ChannelRow}
 use Rattle.aeth_ni.specs.declared.write.Write.{Write}
 use Rattle.aeth_ni.specs.declared.write.Write.TheVariants.{ClearRoute, ClearSlot, SetSlot}
 use Rattle.aeth_trace.specs.Spans.{SpanData}
@@ -17,8 +16,9 @@ use Rattle.aeth_reconf.specs.Rows.{RowOf, channels_that, rows_closing, rows_open
 use Rattle.aeth_reconf.specs.Windows.{IsClosed, IsOpened, cleared_of, clears_from, closing_ahead}
 use Rattle.aeth_reconf.specs.Windows.{freed_of, opening_ahead, set_of, set_route, slot_set_of}
 use Rattle.aeth_reconf.proofs.WindowLemmas.{channels_that-has}
-use Rattle.aeth_reconf.proofs.WriteCounts.{ahead_of-within, before, behind, closing-counted}
-use Rattle.aeth_reconf.proofs.WriteCounts.{length-writes, opening-counted, write_at}
+use Rattle.aeth_ni.proofs.ProgramLemmas.{length-closing_writes, length-opening_writes}
+use Rattle.aeth_reconf.proofs.WriteCounts.{ahead_of-within, before, behind, length-writes}
+use Rattle.aeth_reconf.proofs.WriteCounts.{write_at}
 
 -- What a map makes of what stands at a place.
 map_at : {X Y : Type 0} (f : X → Y) (xs : List X) (i : ℕ) (x : X) → slice_get xs i ≡ Some x
@@ -52,12 +52,12 @@ module _ (groups : GroupsData) (row_of : RowOf) (spans : SpanData) (switch : Swi
       let has = channels_that-has groups test channel closed.known closed.is in
       let channels = channels_that groups test in
       let fits = ahead_of-within row_of left channels channel has in
-      let all = length-writes row_of left closing_writes closing-counted rows in
+      let all = length-writes row_of left closing_writes length-closing_writes rows in
       let ahead = closing_ahead groups row_of switch channel in
       let place : k ≡ ahead + i = omega arith in
       ap (λ n. slice_get (closing ++ opening) n) place
       ∙ before closing opening (ahead + i) (omega arith)
-      ∙ write_at row_of left closing_writes closing-counted channels channel has i within
+      ∙ write_at row_of left closing_writes length-closing_writes channels channel has i within
 
   -- That of a slot.
   pub clear_at : IsClosed groups switch channel → (place slot k : ℕ)
@@ -105,10 +105,10 @@ module _ (groups : GroupsData) (row_of : RowOf) (spans : SpanData) (switch : Swi
       let has = channels_that-has groups test channel opened.known opened.is in
       let channels = channels_that groups test in
       let ahead = opening_ahead groups row_of switch channel in
-      let all = length-writes row_of left closing_writes closing-counted rows in
+      let all = length-writes row_of left closing_writes length-closing_writes rows in
       let place : k ≡ length closing + (ahead + i) = omega arith in
       ap (λ n. slice_get (closing ++ opening) n) place ∙ behind closing opening (ahead + i)
-      ∙ write_at row_of entered opening_writes opening-counted channels channel has i within
+      ∙ write_at row_of entered opening_writes length-opening_writes channels channel has i within
 
   -- That of its route.
   pub route_at : IsOpened groups switch channel → (k : ℕ)

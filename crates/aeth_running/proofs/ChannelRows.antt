@@ -21,7 +21,8 @@ use Rattle.aeth_trace.specs.declared.receivers.PullRow.{PullRow}
 use Rattle.aeth_trace.specs.declared.words.WordRow.{WordRow}
 use Rattle.aeth_accepted.specs.Inputs.{Inputs}
 use Rattle.aeth_running.proofs.ChannelNumbers.{numbers-tell}
-use Rattle.aeth_running.proofs.RowFilters.{filter-swap, filter-within, rows-by}
+use Rattle.aeth_base.proofs.Filters.{filter-swap}
+use Rattle.aeth_running.proofs.RowFilters.{filter-within, rows-by}
 use Rattle.aeth_running.specs.Network.{offers_in, takes_in}
 use Rattle.aeth_stimuli.specs.Stimuli.{Offer, Take, offer_of, stimuli_of, take_of}
 

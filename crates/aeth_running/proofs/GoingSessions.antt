@@ -15,8 +15,9 @@ use Rattle.aeth_schedule.specs.Goings.{goings_of}
 use Rattle.aeth_schedule.specs.declared.going.Going.{Going}
 use Rattle.aeth_running.proofs.ChannelNumbers.{channel-same}
 use Rattle.aeth_running.proofs.FabricSessions.{session-number, session-there, session_at}
-use Rattle.aeth_running.proofs.RowFilters.{NoneHas, OneHas, filter-swap, filter-within, map-none}
-use Rattle.aeth_running.proofs.RowFilters.{map-one, one-at}
+use Rattle.aeth_base.proofs.Filters.{filter-swap}
+use Rattle.aeth_base.proofs.Lists.{map-nil}
+use Rattle.aeth_running.proofs.RowFilters.{NoneHas, OneHas, filter-within, map-one, one-at}
 use Rattle.aeth_stimuli.specs.Stimuli.{goings_over}
 use Rattle.aeth_running.specs.Network.{goings_in}
 use Rattle.aeth_stimuli.specs.Sessions.{SessionGoing, as_going, channel_of, going_of}
@@ -74,7 +75,7 @@ module _ (inputs : Inputs) (t : ℕ) (channel : Channel) where
     goes-now = elim (one-at (λ (session : Session). session.go) t sessions
         (λ i j one other at there less. apart i j one other less at there)) [
           | NoneHas none never ↦ NoneGoes
-              (map-none as_going going_now
+              (map-nil as_going going_now
               (going-sessions ∙ ap (λ (some : List Session). map (going_of inputs channel) some) none))
               (λ c within same go.
               let own : (placed_at (run_of inputs) c).channel ≡ channel =

@@ -11,35 +11,7 @@ use Rattle.std.proofs.lemmas.List.Elements.{filter_passes}
 use Rattle.std.proofs.lemmas.List.Kept.{IsNonDecreasingBy-filter}
 use Rattle.std.proofs.lemmas.Option.{get_or_from_slice_get, slice_get_within}
 
--- Two filters in either order.
-pub filter-filter : {X : Type 0} (p q : X → Bool) (xs : List X)
-    → filter p (filter q xs) ≡ filter q (filter p xs)
-filter-filter p q [] = refl
-filter-filter {X} p q (x ∷ xs) =
-    let rest = filter-filter p q xs in
-    elim (cases_Bool (p x)) [
-      | inl one ↦ elim (cases_Bool (q x)) [
-        | inl other ↦ rw (one, other, one) (ap (λ (ys : List X). x ∷ ys) rest)
-        | inr other ↦ rw (one, other) rest
-      ]
-      | inr one ↦ elim (cases_Bool (q x)) [
-        | inl other ↦ rw (one, other, one) rest
-        | inr other ↦ rw (one, other) rest
-      ]
-    ]
-
--- A filter once more keeps all.
-pub filter-again : {X : Type 0} (test : X → Bool) (xs : List X)
-    → filter test (filter test xs) ≡ filter test xs
-filter-again test [] = refl
-filter-again {X} test (x ∷ xs) =
-    let rest = filter-again test xs in
-    elim (cases_Bool (test x)) [
-      | inl is ↦ rw (is, is) (ap (λ (ys : List X). x ∷ ys) rest)
-      | inr isnt ↦ rw isnt rest
-    ]
-
--- What it keeps passes the test.
+-- What a filter keeps passes the test.
 pub passes-at : {X : Type 0} (test : X → Bool) (xs : List X) (i : ℕ) (x : X)
     → slice_get (filter test xs) i ≡ Some x → test x ≡ true
 passes-at test xs i x at =

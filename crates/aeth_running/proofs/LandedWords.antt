@@ -12,6 +12,7 @@ use Rattle.aeth_server.specs.Shape.{HasPaths}
 use Rattle.aeth_server.proofs.LandingLemmas.{landing_cycle-lands}
 use Rattle.aeth_server.proofs.PrivateServerLemmas.{has-grown}
 use Rattle.aeth_server.proofs.SessionEnds.{idle-before, is-closed}
+use Rattle.aeth_report.proofs.LogRows.{lands-before, lands-once}
 
 -- What stands behind some first items.
 pub slice_get-drop : {X : Type 0} (n : ℕ) (xs : List X) (i : ℕ)
@@ -73,23 +74,6 @@ module _ (server : PrivateServer) (paths : HasPaths server.shape)
   abbrev latched : ℕ
   latched = landed server (min cycles server.finish + 1)
 
-  -- A word lands before each cycle by which it has landed.
-  lands-before : (i p t : ℕ) → LandsAt server i p → i ≤ landed server t → p < t
-  lands-before i p t lands there = elim (cases_lt p t) [
-    | inl below ↦ below
-    | inr above ↦
-        let grown = (has-grown server paths t p above).landed in
-        let before = lands.before in
-        absurd (omega arith)
-  ]
-
-  -- It lands once.
-  lands-once : (i p q : ℕ) → LandsAt server i p → LandsAt server i q → p ≡ q
-  lands-once i p q lands again =
-      let one = lands-before i p (q + 1) lands again.after in
-      let other = lands-before i q (p + 1) again lands.after in
-      omega arith
-
   -- Nothing lands before the session has gone for a cycle.
   none-lands : (p : ℕ) → p ≤ server.go → landed server (p + 1) ≡ 0
   none-lands p early =
@@ -119,7 +103,7 @@ module _ (server : PrivateServer) (paths : HasPaths server.shape)
       let last = min cycles server.finish + 1 in
       let p = landing_cycle server last (i + 1) in
       let lands = landing_cycle-lands server last (i + 1) (omega arith) (omega arith) in
-      let below = lands-before (i + 1) p last lands (omega arith) in
+      let below = lands-before server paths cycles [] (i + 1) p last lands (omega arith) in
       let before = lands.before in
       let after = lands.after in
       let goes : server.go < p = elim (cases_lt server.go p) [
@@ -152,7 +136,7 @@ module _ (server : PrivateServer) (paths : HasPaths server.shape)
         item = one.cycle;
         at = slice_get-drop first landings i ∙ one.at;
         early = λ below.
-            let early = lands-before (i + 1) one.cycle counted lands (omega arith) in
+            let early = lands-before server paths cycles [] (i + 1) one.cycle counted lands (omega arith) in
             lt-ltb one.cycle cycles (omega arith);
         late = λ above. elim (cases_lt one.cycle cycles) [
           | inr late ↦ le-ltb one.cycle cycles late
@@ -172,5 +156,5 @@ module _ (server : PrivateServer) (paths : HasPaths server.shape)
       let grown = (has-grown server paths counted (min cycles server.finish + 1) (omega arith)).landed in
       let one = is-noted k (omega arith) in
       let lands = landing_cycle-lands server counted (k + 1) (omega arith) (omega arith) in
-      one.at ∙ ap (λ n. Some n) (lands-once (k + 1) one.cycle
+      one.at ∙ ap (λ n. Some n) (lands-once server paths cycles [] (k + 1) one.cycle
       (landing_cycle server counted (k + 1)) one.lands lands)

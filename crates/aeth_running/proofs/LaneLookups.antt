@@ -1,47 +1,21 @@
 -- A channel once sessions have gone, words are accepted and receivers have their rows: what the rows of
 -- its own number make of it.
-use Rattle.std.proofs.Common.{◌≡◌, ◌∙◌, ◌+◌, ℕ, zero, suc, Bool, true, false, List, [], ◌∷◌, Some}
+use Rattle.std.proofs.Common.{◌≡◌, ◌∙◌, ◌+◌, ℕ, suc, Bool, true, false, List, [], ◌∷◌, Some}
 use Rattle.std.proofs.Common.{filter, fold}
 use Rattle.std.proofs.Common.{length, slice_get, refl, sym, ap, arith}
-use Rattle.std.specs.Prelude.{◌==◌, if◌then◌else◌, nat_lt, slice_index}
+use Rattle.std.specs.Prelude.{◌==◌, nat_lt, slice_index, if◌then◌else◌}
 use Rattle.std.proofs.lemmas.List.{length-set}
-use Rattle.std.proofs.lemmas.Option.{get_or_from_slice_get, same_Some, slice_get_within}
+use Rattle.std.proofs.lemmas.Option.{get_or_from_slice_get, slice_get_within}
 use Rattle.aeth_base.proofs.Lists.{slice_get-slice_set_other, slice_get-slice_set_same}
 use Rattle.aeth_trace.specs.Channels.{channel_number}
 use Rattle.aeth_components.specs.Lanes.{with_lane}
+use Rattle.aeth_components.proofs.LaneLemmas.{length-with_lane, with_lane-other, with_lane-own}
 use Rattle.aeth_components.specs.declared.lane.Lane.{Lane}
 use Rattle.aeth_schedule.specs.declared.going.Going.{Going}
 use Rattle.aeth_running.proofs.FoldLookups.{fold-at, length-fold}
 use Rattle.aeth_running.specs.Network.{accepted_with, gone_with, goings_in, lanes_in, offers_in}
 use Rattle.aeth_running.specs.Network.{takes_in, until_with, untils_in}
 use Rattle.aeth_stimuli.specs.Stimuli.{Offer, Stimuli, Take, is_over}
-
--- A change of one channel, at its number and at any other.
-with_lane-own : (number : ℕ) (change : Lane → Lane) (lanes : List Lane) (lane : Lane)
-    → slice_get lanes number ≡ Some lane
-    → slice_get (with_lane number change lanes) number ≡ Some (change lane)
-with_lane-own number change [] lane at = absurd (cc at)
-with_lane-own zero change (first ∷ lanes) lane at =
-    ap (λ (one : Lane). Some (change one)) (same_Some first lane at)
-with_lane-own (suc number) change (first ∷ lanes) lane at =
-    with_lane-own number change lanes lane at
-
-with_lane-other : (number other : ℕ) (change : Lane → Lane) (lanes : List Lane)
-    → (number ≡ other → ⊥)
-    → slice_get (with_lane number change lanes) other ≡ slice_get lanes other
-with_lane-other number other change [] apart = refl
-with_lane-other zero zero change (first ∷ lanes) apart = absurd (apart refl)
-with_lane-other zero (suc other) change (first ∷ lanes) apart = refl
-with_lane-other (suc number) zero change (first ∷ lanes) apart = refl
-with_lane-other (suc number) (suc other) change (first ∷ lanes) apart =
-    with_lane-other number other change lanes (λ same. apart (ap (λ n. suc n) same))
-
-length-with_lane : (number : ℕ) (change : Lane → Lane) (lanes : List Lane)
-    → length (with_lane number change lanes) ≡ length lanes
-length-with_lane number change [] = refl
-length-with_lane zero change (first ∷ lanes) = refl
-length-with_lane (suc number) change (first ∷ lanes) =
-    ap (λ n. suc n) (length-with_lane number change lanes)
 
 -- A row that changes the channel of its number.
 module _ {R : Type 0} (place : R → ℕ) (change : R → Lane → Lane) where

@@ -6,10 +6,9 @@ use Rattle.std.specs.List.{range_with_len}
 use Rattle.std.specs.List.Sorted.{IsNonDecreasingBy}
 use Rattle.std.proofs.lemmas.List.Concat.{flat_map-cons}
 use Rattle.aeth_base.specs.declared.ids.Channel.{Channel}
-use Rattle.aeth_base.specs.declared.ids.Side.{Side}
 use Rattle.aeth_base.specs.declared.ids.Side.TheVariants.{Back, Fwd}
 use Rattle.aeth_group.proofs.MemberLemmas.{connections-groups_of}
-use Rattle.aeth_trace.specs.Channels.{channel_number, side_number}
+use Rattle.aeth_trace.specs.Channels.{channel_number}
 use Rattle.aeth_report.specs.Carries.{carries as carries_in}
 use Rattle.aeth_report.specs.Channels.{channels_of, channels_with}
 use Rattle.aeth_report.specs.Flows.{sessions_in}
@@ -27,6 +26,7 @@ use Rattle.aeth_running.specs.Network.{NetworkState, first_network, played}
 use Rattle.aeth_running.specs.Running.{IsRunning}
 use Rattle.aeth_stimuli.specs.Sessions.{IsBefore, as_going, going_of}
 use Rattle.aeth_running.specs.Told.{channel_told, channels_told, network_log, told}
+use Rattle.aeth_running.proofs.ChannelNumbers.{channel-within}
 use Rattle.aeth_running.proofs.ChannelTold.{channel-is}
 use Rattle.aeth_running.proofs.FlitsTold.{flits-are}
 use Rattle.aeth_running.proofs.Played.{played-log}
@@ -58,13 +58,6 @@ channels-are all inputs each (suc n) c within =
     ap (λ (list : List Channel). channels_told all (2 * c) (map (first_channel inputs) list)) cons
     ∙ (λ q. one q ∷ other q ∷ rest q)
     ∙ ap (λ (list : List Channel). map (channel_log (run_of inputs)) list) (sym cons)
-
--- The numbers of known channels.
-number-within : (channel : Channel) (n : ℕ) → channel.conn.0 < n → channel_number channel < 2 * n
-number-within channel n known =
-    let cases : (s : Side) → 2 * channel.conn.0 + side_number s < 2 * n =
-    elim [ Fwd ↦ omega arith | Back ↦ omega arith ] in
-    cases channel.side
 
 -- What is told of a network that has the first log of inputs.
 told-is : (inputs : Inputs) (all : NetworkState)
@@ -104,7 +97,7 @@ module _ (inputs : Inputs) (accepted : AreAccepted inputs) (sound : IsSound (run
       let run = running inputs.cycles (omega arith) in
       told-is inputs all
       (λ channel known. channel-is inputs accepted sound running ordered channel known
-      (number-within channel (length inputs.app.connections) known)
+      (channel-within channel (length inputs.app.connections) known)
       (λ i j one other. apart channel.conn.0 i j one other known) (goings_are channel known))
       (played-log inputs inputs.cycles)
       (flits-are inputs all.components carried run.links run.flits)

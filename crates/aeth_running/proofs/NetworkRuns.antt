@@ -1,7 +1,7 @@
 -- The network of accepted inputs runs, before each cycle and behind the last.
 use Rattle.std.proofs.Common.{◌≡◌, ◌≤◌, ◌<◌, ◌∙◌, ◌+◌, ◌*◌, ℕ, zero, suc, Some, filter, length, map}
 use Rattle.std.proofs.Common.{slice_get}
-use Rattle.std.proofs.Common.{refl, ap, subst, arith}
+use Rattle.std.proofs.Common.{ap, subst, arith}
 use Rattle.std.specs.Prelude.{nat_lt, Option, unwrap_or}
 use Rattle.aeth_base.specs.declared.ids.Channel.{Channel}
 use Rattle.aeth_trace.specs.Channels.{channel_number}
@@ -26,7 +26,7 @@ use Rattle.aeth_running.proofs.FirstNetworks.{first-plays}
 use Rattle.aeth_running.proofs.GoingSessions.{GoesNow, goes-now}
 use Rattle.aeth_running.proofs.NetworkLaws.{BeginningLaws, CycleLaws}
 use Rattle.aeth_running.proofs.NetworkSteps.{Plays, plays-on}
-use Rattle.aeth_running.specs.FirstLog.{first_log}
+use Rattle.aeth_running.proofs.Played.{played-time}
 use Rattle.aeth_stimuli.specs.Stimuli.{goings_over}
 use Rattle.aeth_events.specs.Events.{events_in}
 use Rattle.aeth_running.specs.Network.{first_network, played, stepped}
@@ -35,23 +35,6 @@ use Rattle.aeth_stimuli.specs.OnChip.{HaveRooms, IsOver}
 use Rattle.aeth_running.specs.Running.{IsRunning}
 use Rattle.aeth_stimuli.specs.Sessions.{IsBefore, as_going, first_of, going_of}
 use Rattle.aeth_stimuli.specs.Stimuli.{AreStimuli, stimuli_of}
-
--- What a network is given stays, and so do its log and its count of cycles.
-module _ (inputs : Inputs) where
-  pub stimuli-of : (t : ℕ) → (played t (first_network inputs)).stimuli ≡ stimuli_of inputs
-  unfolding played first_network stepped
-  stimuli-of zero = refl
-  stimuli-of (suc t) = stimuli-of t
-
-  pub log-of : (t : ℕ) → (played t (first_network inputs)).log ≡ first_log inputs
-  unfolding played first_network stepped
-  log-of zero = refl
-  log-of (suc t) = log-of t
-
-  pub time-is : (t : ℕ) → (played t (first_network inputs)).time ≡ t
-  unfolding played first_network stepped
-  time-is zero = refl
-  time-is (suc t) = let before = time-is t in omega (arith, before)
 
 module _ (begin : BeginningLaws) (laws : CycleLaws)
     (fabrics : (inputs : Inputs) → AreAccepted inputs → IsAccepted (fabric_of inputs))
@@ -131,10 +114,10 @@ module _ (begin : BeginningLaws) (laws : CycleLaws)
   plays-by zero within = first-plays inputs begin accepted.design.chip_is ok
       (is-over inputs accepted) (have-rooms inputs accepted) (loaded-are inputs accepted)
   plays-by (suc t) within =
-      plays-next t (plays-by t (omega (arith, within))) (time-is inputs t) (omega (arith, within))
+      plays-next t (plays-by t (omega (arith, within))) (played-time inputs t) (omega (arith, within))
 
   -- So its components run.
   pub running : (t : ℕ) → t ≤ inputs.cycles
       → IsRunning inputs t (played t (first_network inputs)).components
   running t within = subst (λ (n : ℕ). IsRunning inputs n (played t (first_network inputs)).components)
-      (time-is inputs t) (plays-by t within).running
+      (played-time inputs t) (plays-by t within).running

@@ -17,7 +17,8 @@ use Rattle.aeth_stimuli.specs.Loaded.{no_lane}
 use Rattle.aeth_stimuli.specs.Stimuli.{is_over}
 use Rattle.aeth_running.specs.Told.{last_lanes}
 use Rattle.aeth_running.proofs.Accepting.{shown-beside}
-use Rattle.aeth_running.proofs.InOrder.{below, below-next, filter-again, map-kept, none-below}
+use Rattle.aeth_base.proofs.Filters.{filter-again}
+use Rattle.aeth_running.proofs.InOrder.{below, below-next, map-kept, none-below}
 use Rattle.aeth_running.proofs.Played.{played-stimuli, replaced-first, replaced-next}
 
 -- When a session goes.

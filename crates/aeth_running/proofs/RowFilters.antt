@@ -1,9 +1,9 @@
 -- Rows of a channel in a cycle, out of all rows.
 --
---   filter-swap, filter-within      filters behind filters
+--   filter-within      a filter behind a wider one
 --   rows-by      the rows up to a cycle are those before it and those in it
 --   One, one-at      of items whose numbers differ one at most has a number
---   map-none, map-one      a list whose image has no item or one
+--   map-one      a list whose image has one item
 use Rattle.std.proofs.Common.{◌≡◌, ◌≤◌, ◌<◌, ◌∙◌, ◌+◌, ◌++◌, ℕ, zero, suc, Bool, true, List, []}
 use Rattle.std.proofs.Common.{◌∷◌, Some, filter}
 use Rattle.std.proofs.Common.{map, slice_get, refl, sym, ap, inl, inr, arith}
@@ -13,23 +13,6 @@ use Rattle.std.proofs.lemmas.Bool.{cases_Bool, cases_order, eq-eqb, eqb-false, e
 use Rattle.std.proofs.lemmas.Bool.{lt-ltb, ne_eqb}
 use Rattle.std.proofs.lemmas.List.Elements.{All-head, All-tail}
 use Rattle.std.proofs.lemmas.Option.{same_Some}
-
--- Two filters, in either order.
-pub filter-swap : {X : Type 0} (p q : X → Bool) (xs : List X)
-    → filter p (filter q xs) ≡ filter q (filter p xs)
-filter-swap p q [] = refl
-filter-swap {X} p q (x ∷ xs) =
-    let rest = filter-swap p q xs in
-    elim (cases_Bool (p x)) [
-      | inl one ↦ elim (cases_Bool (q x)) [
-        | inl two ↦ rw (one, two, one) (ap (λ (ys : List X). x ∷ ys) rest)
-        | inr two ↦ rw (one, two) rest
-      ]
-      | inr one ↦ elim (cases_Bool (q x)) [
-        | inl two ↦ rw (one, two, one) rest
-        | inr two ↦ rw (one, two) rest
-      ]
-    ]
 
 -- A filter whose items pass another test anyway.
 pub filter-within : {X : Type 0} (p q : X → Bool) → ((x : X) → p x ≡ true → q x ≡ true)
@@ -130,11 +113,7 @@ one-at {X} n t (x ∷ xs) apart = elim (cases_Bool (n x == t)) [
       ]
 ]
 
--- A list whose image has no item, or one.
-pub map-none : {X Y : Type 0} (f : X → Y) (xs : List X) → map f xs ≡ [] → xs ≡ []
-map-none f [] is = refl
-map-none f (x ∷ xs) is = absurd (cc is)
-
+-- A list whose image has one item.
 pub map-one : {X Y : Type 0} (f : X → Y) (xs : List X) (y : Y) → map f xs ≡ y ∷ []
     → (x : X) × (xs ≡ x ∷ []) × (f x ≡ y)
 map-one f [] y is = absurd (cc is)

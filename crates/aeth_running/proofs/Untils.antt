@@ -24,7 +24,8 @@ use Rattle.aeth_running.specs.Network.{first_network, played, until_with, untils
 use Rattle.aeth_stimuli.specs.Sessions.{SessionGoing, as_going, going_of}
 use Rattle.aeth_stimuli.specs.Stimuli.{is_over, stimuli_of}
 use Rattle.aeth_running.proofs.Accepting.{accepts, last-accepts, last_until, written-last}
-use Rattle.aeth_running.proofs.InOrder.{below, below-next, below-wider, filter-filter, none-below}
+use Rattle.aeth_base.proofs.Filters.{filter-swap}
+use Rattle.aeth_running.proofs.InOrder.{below, below-next, below-wider, none-below}
 use Rattle.aeth_running.proofs.Played.{untils-first, untils-next}
 use Rattle.aeth_running.proofs.Replaced.{go_of}
 
@@ -101,7 +102,7 @@ module _ (inputs : Inputs) (ordered : IsNonDecreasingBy (λ going. going.lane.go
           (filter (is_over number) (gone_by next)))
           (get_or-replicate (2 * length inputs.app.connections) number 0 0 within)
           ∙ ap (λ (list : List Going). fold (λ (last : ℕ) going. until going) 0 list)
-          (filter-filter (is_over number) (below go_of next) all)
+          (filter-swap (is_over number) (below go_of next) all)
           ∙ sym (last-shown as_going (λ (going : SessionGoing). going.lane.go)
           (λ (going : SessionGoing). going.until) t 0 (goings_over number all))
           ∙ ap (λ (list : List SessionGoing). last_until (λ (going : SessionGoing). going.lane.go)

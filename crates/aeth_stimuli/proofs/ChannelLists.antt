@@ -1,26 +1,19 @@
 -- Lists of channels: those of connections that pass a test, and of these the one of a number.
-use Rattle.std.proofs.Common.{◌≡◌, ◌≤◌, ◌<◌, ◌+◌, ◌*◌, ◌==◌, ◌&&◌, ◌∙◌, ◌++◌, ℕ, zero, suc, Bool, true}
-use Rattle.std.proofs.Common.{cond, false, List, [], ◌∷◌, ap, arith, filter, inl, inr, map, refl}
+use Rattle.std.proofs.Common.{◌≡◌, ◌≤◌, ◌<◌, ◌+◌, ◌==◌, ◌&&◌, ◌∙◌, ◌++◌, ℕ, zero, suc, Bool, true}
+use Rattle.std.proofs.Common.{false, List, [], ◌∷◌, ap, arith, filter, inl, inr, map, refl}
 use Rattle.std.proofs.Common.{subst, sym}
 use Rattle.std.specs.Prelude.{flat_map}
 use Rattle.std.specs.List.{range_with_len}
 use Rattle.std.proofs.lemmas.Bool.{and_left, cases_Bool, cases_eq, ne_eqb}
-use Rattle.std.proofs.lemmas.Bool.Decides.{nat_tests}
 use Rattle.aeth_base.specs.declared.ids.Channel.{Channel}
 use Rattle.aeth_base.specs.declared.ids.Side.{Side}
 use Rattle.aeth_base.specs.declared.ids.Side.TheVariants.{Back, Fwd}
 use Rattle.aeth_base.specs.Sides.{same_side}
-use Rattle.aeth_trace.specs.Channels.{channel_number, is_channel, side_number}
+use Rattle.aeth_base.proofs.Filters.{filter-no, filter-yes}
+use Rattle.aeth_trace.specs.Channels.{channel_number, is_channel}
+use Rattle.aeth_trace.proofs.IndexLemmas.{same_sides}
 use Rattle.aeth_report.specs.Channels.{channels_with}
 use Rattle.aeth_report.proofs.ChannelLemmas.{is_channel-itself}
-
--- Numbers of sides differ as sides do, also beside twice a number.
-same_sides : (a b : ℕ) (one other : Side)
-    → (2 * a + side_number one == 2 * b + side_number other) ≡ (a == b && same_side one other)
-same_sides a b Fwd Fwd = grind (arith, nat_tests)
-same_sides a b Fwd Back = grind (arith, nat_tests)
-same_sides a b Back Fwd = grind (arith, nat_tests)
-same_sides a b Back Back = grind (arith, nat_tests)
 
 -- Channels have one number where they are one.
 pub same_numbers : (one other : Channel)
@@ -37,43 +30,6 @@ pub one_where-map : {X Y : Type 0} (f : X → Y) (test : Bool) (x : X)
     → map f (one_where test x) ≡ one_where test (f x)
 one_where-map f true x = refl
 one_where-map f false x = refl
-
--- A filter keeps a first item that passes, and drops one that fails.
-pub filter-yes : {X : Type 0} (test : X → Bool) (x : X) (xs : List X) → test x ≡ true
-    → filter test (x ∷ xs) ≡ x ∷ filter test xs
-filter-yes test x xs is = ap (λ b. cond b (x ∷ filter test xs) (filter test xs)) is
-
-pub filter-no : {X : Type 0} (test : X → Bool) (x : X) (xs : List X) → test x ≡ false
-    → filter test (x ∷ xs) ≡ filter test xs
-filter-no test x xs is = ap (λ b. cond b (x ∷ filter test xs) (filter test xs)) is
-
--- A filter behind a filter may come before it.
-pub filter-swap : {X : Type 0} (one two : X → Bool) (xs : List X)
-    → filter one (filter two xs) ≡ filter two (filter one xs)
-filter-swap one two [] = refl
-filter-swap {X} one two (x ∷ xs) =
-    let rest = filter-swap one two xs in
-    elim (cases_Bool (one x)) [
-      | inl passes ↦ elim (cases_Bool (two x)) [
-        | inl both ↦
-            ap (filter one) (filter-yes two x xs both) ∙ filter-yes one x (filter two xs) passes
-            ∙ ap (λ (ys : List X). x ∷ ys) rest
-            ∙ sym (filter-yes two x (filter one xs) both)
-            ∙ sym (ap (filter two) (filter-yes one x xs passes))
-        | inr half ↦
-            ap (filter one) (filter-no two x xs half) ∙ rest
-            ∙ sym (filter-no two x (filter one xs) half)
-            ∙ sym (ap (filter two) (filter-yes one x xs passes))
-      ]
-      | inr fails ↦ elim (cases_Bool (two x)) [
-        | inl half ↦
-            ap (filter one) (filter-yes two x xs half) ∙ filter-no one x (filter two xs) fails
-            ∙ rest ∙ sym (ap (filter two) (filter-no one x xs fails))
-        | inr none ↦
-            ap (filter one) (filter-no two x xs none) ∙ rest
-            ∙ sym (ap (filter two) (filter-no one x xs fails))
-      ]
-    ]
 
 -- Of the channels of connections a test on these keeps those of the connections that pass it.
 pub channels-passing : (has test : ℕ → Bool) (cs : List ℕ)

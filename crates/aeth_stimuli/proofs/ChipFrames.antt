@@ -27,9 +27,9 @@ use Rattle.aeth_components.specs.Making.{made_interface, made_router, made_stage
 use Rattle.aeth_report.specs.Routes.{port_of}
 use Rattle.aeth_fabric.proofs.WiredLemmas.{port_at}
 use Rattle.aeth_fabric.proofs.WireEnds.{first-starts, further-starts}
-use Rattle.aeth_fabric.proofs.WirePlaces.{place_of-is}
+use Rattle.aeth_fabric.proofs.WirePlaces.{wire_place-is}
 use Rattle.aeth_refinement.specs.Fabric.{AtInterface, AtRouter, AtStage, Fabric, Passage}
-use Rattle.aeth_fabric.specs.Wiring.{fabric_on, node_end, place_of, start_in, start_of}
+use Rattle.aeth_fabric.specs.Wiring.{fabric_on, node_end, wire_place, start_in, start_of}
 use Rattle.aeth_stimuli.specs.OnChip.{IsOver}
 use Rattle.aeth_invariant.specs.Framed.{HasSession, IsFramed, IsFrom, IsFromRouter, IsFromStage}
 
@@ -184,17 +184,17 @@ module _ (chip : ChipData) (is_chip : IsChip chip) (rooms : List ℕ)
   past-wires : (l : ℕ) → wires_of links ≤ l → start_of links l ≡ AtStage l
   past-wires l past =
       let delays = have_delays chip is_chip in
-      let cases : (o : Option (ℕ × ℕ)) → place_of links l ≡ o → start_of links l ≡ AtStage l = elim [
+      let cases : (o : Option (ℕ × ℕ)) → wire_place links l ≡ o → start_of links l ≡ AtStage l = elim [
         | None ↦ λ is. ap (start_in links l) is
         | Some p ↦ λ is.
-            let of = place_of-is links delays l p is in
+            let of = wire_place-is links delays l p is in
             let below = wire_at-below links delays p.0 p.1 of.link of.is_link
             (slice_get_within links p.0 of.link of.is_link) of.short in
             let wire = of.is in
             let split = wires_of-split links delays in
             absurd (omega (arith, past, below, wire, split))
       ] in
-      cases (place_of links l) refl
+      cases (wire_place links l) refl
 
   -- As many queues as an interface has.
   pub queues-are : (n : ℕ) → n < length chip.nis → length (rooms-of n) ≡ queues_of_interface

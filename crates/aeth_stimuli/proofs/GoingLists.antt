@@ -1,6 +1,6 @@
 -- The sessions of a run: what holds of all that lines give holds of each, and they go one after the
 -- other.
-use Rattle.std.proofs.Common.{◌≡◌, ◌≤◌, ◌<◌, ◌++◌, ℕ, zero, suc, All, List, [], ◌∷◌, Option, Some}
+use Rattle.std.proofs.Common.{◌≡◌, ◌≤◌, ◌<◌, ◌++◌, ℕ, All, List, [], ◌∷◌, Option, Some}
 use Rattle.std.proofs.Common.{None, arith, length, map, not, refl}
 use Rattle.std.specs.Prelude.{Ok, nat_lt}
 use Rattle.std.specs.List.Sorted.{IsNonDecreasingBy}
@@ -10,7 +10,7 @@ use Rattle.aeth_group.specs.Members.{GroupsData, groups_of, is_kept}
 use Rattle.aeth_trace.specs.Spans.{SpanData}
 use Rattle.aeth_trace.specs.Switches.{are_apart}
 use Rattle.aeth_trace.specs.declared.switches.SwitchRow.{SwitchRow}
-use Rattle.aeth_trace.proofs.OrderLemmas.{rise-filter}
+use Rattle.aeth_trace.proofs.OrderLemmas.{rise-cons, rise-filter}
 use Rattle.aeth_report.specs.Sessions.{Switch, go_by, go_of}
 use Rattle.aeth_report.proofs.SessionMeetings.{AreInTime, in_time}
 use Rattle.aeth_report.proofs.Stays.{switch_of}
@@ -21,14 +21,6 @@ use Rattle.aeth_schedule.specs.declared.going.Going.{Going}
 use Rattle.aeth_schedule.specs.declared.lines.Line.{Line}
 
 -- ---- lists whose numbers don't fall
-
--- One number before others that aren't less.
-rise-cons : {X : Type 0} (n : X → ℕ) (x : X) (xs : List X) → All (λ y. n x ≤ n y) xs
-    → IsNonDecreasingBy n xs → IsNonDecreasingBy n (x ∷ xs)
-rise-cons n x xs least rises zero zero d le within = omega arith
-rise-cons n x xs least rises zero (suc j) d le within = least j d (omega arith)
-rise-cons n x xs least rises (suc i) zero d le within = absurd (omega arith)
-rise-cons n x xs least rises (suc i) (suc j) d le within = rises i j d (omega arith) (omega arith)
 
 -- Those of one number, before others that aren't less.
 rise-level : {X : Type 0} (n : X → ℕ) (level : ℕ) (xs ys : List X) → All (λ x. n x ≡ level) xs

@@ -13,7 +13,8 @@ use Rattle.aeth_trace.specs.declared.words.WordRow.{WordRow}
 use Rattle.aeth_report.specs.Flows.{is_within}
 use Rattle.aeth_schedule.specs.declared.going.Going.{Going}
 use Rattle.aeth_stimuli.specs.Stimuli.{is_offered_in, offer_of}
-use Rattle.aeth_stimuli.proofs.ChannelLists.{filter-no, filter-yes, same_numbers}
+use Rattle.aeth_base.proofs.Filters.{filter-no, filter-yes}
+use Rattle.aeth_stimuli.proofs.ChannelLists.{same_numbers}
 
 -- Mapped items are in order where their numbers are.
 pub rise-map : {X Y : Type 0} (n : Y → ℕ) (f : X → Y) (xs : List X)

@@ -29,7 +29,8 @@ use Rattle.aeth_schedule.specs.declared.lines.Line.{Line}
 use Rattle.aeth_stimuli.specs.Stimuli.{goings_over}
 use Rattle.aeth_stimuli.specs.Sessions.{SessionGoing, as_going, going_of}
 use Rattle.aeth_stimuli.specs.Stimuli.{is_over}
-use Rattle.aeth_stimuli.proofs.ChannelLists.{filter-swap, is_it, one-of, one_where, one_where-map}
+use Rattle.aeth_base.proofs.Filters.{filter-swap}
+use Rattle.aeth_stimuli.proofs.ChannelLists.{is_it, one-of, one_where, one_where-map}
 use Rattle.aeth_stimuli.proofs.UseLines.{ShapedLine, changed-shaped, line_of, lines-shaped, shaped}
 use Rattle.std.specs.Prelude.{◌-◌, ◌+◌, min}
 

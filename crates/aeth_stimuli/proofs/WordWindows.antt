@@ -13,7 +13,7 @@ use Rattle.aeth_base.specs.declared.ids.Channel.{Channel}
 use Rattle.aeth_trace.specs.Words.{words_on}
 use Rattle.aeth_trace.specs.declared.words.WordRow.{WordRow}
 use Rattle.aeth_schedule.specs.Values.{before_of}
-use Rattle.aeth_stimuli.proofs.ChannelLists.{filter-no, filter-yes}
+use Rattle.aeth_base.proofs.Filters.{filter-no, filter-yes}
 
 module _ {X : Type 0} (n : X → ℕ) where
   -- The items before a number, and those from one on and before another.

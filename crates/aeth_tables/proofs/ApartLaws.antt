@@ -26,7 +26,7 @@ use Rattle.aeth_tables.specs.Granted.{sending_seat}
 use Rattle.aeth_tables.specs.Reserved.{IsDesign, IsPlanned, IsReserved}
 use Rattle.aeth_tables.specs.Tables.{queue_at}
 use Rattle.aeth_tables.specs.declared.granted.GrantedConnection.{GrantedConnection}
-use Rattle.aeth_tables.proofs.ListLaws.{place_of}
+use Rattle.aeth_tables.proofs.ListLaws.{place_in}
 
 -- ---- No two items
 
@@ -35,8 +35,8 @@ pub one_item : {X : Type 0} (Related : X → X → Type 0) (xs : List X)
     → ((a b : X) → Related a b → Related b a) → NoTwo Related xs → (a b : X)
     → Contains xs a → Contains xs b → Related a b → a ≡ b
 one_item Related xs back clear a b has_a has_b related =
-    let (i, at_i) = place_of xs a has_a in
-    let (j, at_j) = place_of xs b has_b in
+    let (i, at_i) = place_in xs a has_a in
+    let (j, at_j) = place_in xs b has_b in
     let place : i ≡ j = elim (cases_lt i j) [
       | inl less ↦ absurd (clear i j a b less at_i at_j related)
       | inr least ↦ elim (cases_lt j i) [
@@ -81,7 +81,7 @@ pub ends_there : (app : AppData) (granted : GrantedConnection) (core : CoreId)
 ends_there app granted core at ends = rw at ends
 
 -- Sides of a connection with one sender are one.
-one_sender : (cores : ℕ) (connection : Connection) → IsConnection cores connection → (s t : Side)
+pub one_sender : (cores : ℕ) (connection : Connection) → IsConnection cores connection → (s t : Side)
     → sender connection s ≡ sender connection t → s ≡ t
 one_sender cores connection is Fwd Fwd same = refl
 one_sender cores connection is Fwd Back same = absurd (is.apart (ap (λ (c : CoreId). c.0) same))

@@ -1,10 +1,10 @@
 -- Elements of lists, by their places and as they are contained.
-use Rattle.std.proofs.Common.{◌≡◌, ◌∙◌, ℕ, List, All, Contains, Some, slice_get, ap, subst}
+use Rattle.std.proofs.Common.{◌≡◌, ℕ, List, All, Contains, Some, slice_get, subst}
 use Rattle.std.specs.List.{AllByRecursion}
 use Rattle.std.proofs.lemmas.List.Elements.{All-from_recursion}
 use Rattle.std.proofs.lemmas.Option.{slice_get-get_or}
 pub use Rattle.aeth_base.proofs.Members.{Contains-slice_get as has_place}
-pub use Rattle.aeth_base.proofs.Members.{slice_get-Contains as place_of}
+pub use Rattle.aeth_base.proofs.Members.{slice_get-Contains as place_in}
 
 -- What holds of the element at each place holds of all.
 pub all_from_places : {X : Type 0} (P : X → Type 0) (xs : List X)

@@ -35,7 +35,7 @@ use Rattle.aeth_tables.specs.TableText.{IsPrintable, IsRowOf}
 use Rattle.aeth_tables.specs.Tables.{queue_at, row_on, shape_on, tables_of}
 use Rattle.aeth_tables.specs.declared.granted.GrantedConnection.{GrantedConnection}
 use Rattle.aeth_tables.proofs.ApartLaws.{ends_there, queues_apart, sender_ends}
-use Rattle.aeth_tables.proofs.ListLaws.{has_place, place_of}
+use Rattle.aeth_tables.proofs.ListLaws.{has_place, place_in}
 use Rattle.aeth_tables.proofs.PlaceLaws.{IsGivenAt, all_given, ascends_once, channels_of_rows}
 use Rattle.aeth_tables.proofs.PlaceLaws.{given_at, length-pairs, pairs, there_given}
 use Rattle.aeth_tables.proofs.PortLaws.{at_port, digit_at, route_fits}
@@ -124,7 +124,7 @@ module _ (chip : ChipData) (app : AppData) (plan : PlanData) (design : IsDesign 
   has_opposite : (one : GrantedConnection) (side : Side) → Contains ones one
       → HasOpposite chip app plan (pairs (row_on chip app) ones) (row_on chip app one side)
   has_opposite one side has =
-      let (place, at) = place_of ones one has in
+      let (place, at) = place_in ones one has in
       record {
         opposite = row_on chip app one (other_side side);
         is_in = has_place (pairs (row_on chip app) ones) (2 * place + side_number (other_side side))

@@ -3,7 +3,7 @@ use Rattle.std.proofs.Common.{◌≡◌, ◌∙◌, ◌<◌, ℕ, true, eqb, Lis
 use Rattle.std.proofs.Common.{Some, None, slice_get, length, refl, sym, ap}
 use Rattle.std.proofs.Common.{inl, inr}
 use Rattle.std.specs.Prelude.{option_and_then, option_map}
-use Rattle.std.proofs.lemmas.Bool.{and_parts, cases_Bool, eq-eqb, eqb-true, false≢true}
+use Rattle.std.proofs.lemmas.Bool.{and_parts, cases_Bool, eq-eqb, eqb-true}
 use Rattle.std.proofs.lemmas.List.Elements.{All-from_recursion}
 use Rattle.std.proofs.lemmas.Option.{none-some, same_Some}
 use Rattle.aeth_base.specs.declared.ids.CoreId.{CoreId}
@@ -18,7 +18,8 @@ use Rattle.aeth_group.specs.Members.{groups_of}
 use Rattle.aeth_group.specs.declared.grant.Grant.{Grant}
 use Rattle.aeth_group.specs.declared.grant.SeatLine.{SeatLine}
 use Rattle.aeth_plan.specs.Plan.{IsGrantOf, IsSeatOf, PlanData}
-use Rattle.aeth_check.specs.Channels.{is_for, receiver, same_side, sender}
+use Rattle.aeth_base.proofs.SideLemmas.{same_side-is, same_side-itself}
+use Rattle.aeth_check.specs.Channels.{is_for, receiver, sender}
 use Rattle.aeth_check.specs.Seats.{ni_of}
 use Rattle.aeth_tables.specs.Granted.{grant_of, granted_of, granted_with, line_of}
 use Rattle.aeth_tables.specs.Granted.{unit_in}
@@ -155,16 +156,6 @@ pub record IsOf (group conn : ℕ) (side : Side) (grant : Grant) : Type 0 where
   pub unit_is : grant.unit ≡ unit_in group conn
   pub side_is : grant.side ≡ side
 
-same_sides : (a b : Side) → same_side a b ≡ true → a ≡ b
-same_sides Fwd Fwd same = refl
-same_sides Fwd Back same = absurd (false≢true same)
-same_sides Back Fwd same = absurd (false≢true same)
-same_sides Back Back same = refl
-
-side_is_itself : (side : Side) → same_side side side ≡ true
-side_is_itself Fwd = refl
-side_is_itself Back = refl
-
 pub of_from : (group conn : ℕ) (side : Side) (grant : Grant)
     → is_for (unit_in group conn) side grant ≡ true → IsOf group conn side grant
 of_from group conn side grant passes =
@@ -172,7 +163,7 @@ of_from group conn side grant passes =
     let (two, same) = and_parts (eqb grant.unit.group.0 group) _ onward in
     record {
       unit_is = unit_from grant.unit group conn (eqb-true _ _ one) (eqb-true _ _ two);
-      side_is = same_sides grant.side side same;
+      side_is = same_side-is grant.side side same;
     }
 
 pub for_from : (group conn : ℕ) (side : Side) (grant : Grant) → grant.unit ≡ unit_in group conn
@@ -182,7 +173,7 @@ for_from group conn side grant unit_is side_is =
       eq-eqb grant.unit.conn.0 conn (ap (λ (unit : GroupUnit). unit.conn.0) unit_is),
       eq-eqb grant.unit.group.0 group (ap (λ (unit : GroupUnit). unit.group.0) unit_is),
       side_is,
-    ) (side_is_itself side)
+    ) (same_side-itself side)
 
 module _ (chip : ChipData) (app : AppData) (plan : PlanData) (design : IsDesign chip app plan)
   where

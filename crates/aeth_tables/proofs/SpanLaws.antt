@@ -1,12 +1,10 @@
 -- The lag and the writes of switches, by what each connection adds.
 use Rattle.std.proofs.Common.{◌≡◌, ◌<◌, ◌≤◌, ◌+◌, ◌++◌, ◌∙◌, ℕ, zero, suc, Bool, true, false, cond}
 use Rattle.std.proofs.Common.{List, [], ◌∷◌, length, map, max, not, refl, sym, ap, inl, inr}
-use Rattle.std.proofs.Common.{Some, append_assoc, arith, drop, get_or, nat_cmp}
+use Rattle.std.proofs.Common.{Some, append_assoc, arith, drop, get_or}
 use Rattle.std.specs.Prelude.{flat_map, sum_by}
-use Rattle.std.specs.Ordering.{ord_max}
 use Rattle.std.specs.List.{range_with_len}
 use Rattle.std.proofs.lemmas.Bool.{cases_Bool}
-use Rattle.std.proofs.lemmas.Bool.Decides.{nat_tests}
 use Rattle.std.proofs.lemmas.List.{drop_more}
 use Rattle.std.proofs.lemmas.List.Concat.{flat_map-cons}
 use Rattle.std.proofs.lemmas.List.Sums.{sum_by-append, sum_by-cons}
@@ -114,10 +112,6 @@ module _ (chip : ChipData) (app : AppData) (groups : GroupsData) (u v : ℕ) whe
   ]
 
 -- ---- Change by change
-
--- The greater of two numbers, as `max` answers it.
-pub ord_max-nat : (a b : ℕ) → ord_max nat_cmp a b ≡ max a b
-ord_max-nat a b = grind (arith, nat_tests)
 
 -- The greatest lag, once one more change was seen.
 module _ (groups : GroupsData) (u v : ℕ) where

@@ -15,7 +15,6 @@ use aeth_ni::QUEUES_OF_INTERFACE;
 use std::alloc::Global;
 
 /// Appends the line of a row, of an interface that has this name.
-#[tactic(auto, unfolding(aeth_plan::specs::Plan::connection_names))]
 fn push_row(out: &mut Vec<u8>, app: &App, name: &[u8], one: &PromisedRow) -> Result<(), NoMemory>
     requires { NamesConnection app.now one.now }
     ensures { OnOk result (out.new.items ≡ out.old.items ++ ended_line (queue_line name.now

@@ -3,7 +3,7 @@ use Rattle.std.proofs.lemmas.List.{take_all}
 use Rattle.aeth_group.specs.Members.{has_unit}
 use Rattle.aeth_slots.specs.SlotSet.{Slots}
 use Rattle.aeth_book.specs.Book.{BookData}
-use Rattle.aeth_book.proofs.FilterLemmas.{ord_max-nat}
+use Rattle.aeth_base.proofs.ExtremeLemmas.{ord_max-nat}
 use Rattle.aeth_book.proofs.UseLemmas.{used_slots-within, used_by, used_by-all, used_by-more}
 use Rattle.aeth_book.proofs.UseLemmas.{used_by-same, uses_of-below}
 use Rattle.aeth_book.proofs.book.Book.used.Goals as goal
