@@ -97,7 +97,7 @@ are_switches app spans records rows known order parted small begun told names cy
 -- ---- from a file's bytes
 
 -- A rule before others, or a value that they use, comes to a value where all do.
-kept : {A B : Type 0} (first : Result A BrokenRule) (next : A → Result B BrokenRule) (value : B)
+pub kept : {A B : Type 0} (first : Result A BrokenRule) (next : A → Result B BrokenRule) (value : B)
     → (first >>= next) ≡ Ok value → (one : A) × (first ≡ Ok one) × (next one ≡ Ok value)
 kept (Ok one) next value is = (one, refl, is)
 kept (Err broken) next value is = absurd (cc is)

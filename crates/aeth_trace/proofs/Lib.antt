@@ -1,7 +1,7 @@
 mod Steps
 mod Lefts
-mod RowLemmas
-mod ToldLemmas
+pub mod RowLemmas
+pub mod ToldLemmas
 pub mod FileLemmas
 pub mod IndexLemmas
 mod PullLemmas

@@ -68,7 +68,7 @@ at_most-within : (most : ℕ) (one : Option ℕ) (number : ℕ) → at_most most
 at_most-within most None number is = absurd (cc is)
 at_most-within most (Some other) number is = grind (arith, nat_tests)
 
-number_to-within : (most : ℕ) (text : List ℕ) (number : ℕ) → number_to most text ≡ Some number
+pub number_to-within : (most : ℕ) (text : List ℕ) (number : ℕ) → number_to most text ≡ Some number
     → number ≤ most
 number_to-within most text number is = at_most-within most (number_of text) number is
 

@@ -65,8 +65,9 @@ pub(crate) fn four_of(fields: &ByteRecord) -> Option<(&[u8], &[u8], &[u8], &[u8]
     }
 }
 
-// The number, at most so great, whose canonical decimal a text is.
-pub(crate) fn number_to(most: u32, text: &[u8]) -> Option<u32>
+/// The number, at most so great, whose canonical decimal text this is: digits alone, with no leading
+/// zero but in `0`. `None` exactly where the text is no such decimal.
+pub fn number_to(most: u32, text: &[u8]) -> Option<u32>
     ensures { result ≡ number_to most text.now }
 {
     match read_number(text) {

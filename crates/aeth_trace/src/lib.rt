@@ -7,7 +7,7 @@ mod fields;
 mod judging;
 pub mod laws;
 mod receivers;
-mod records;
+pub mod records;
 mod row;
 mod spans;
 mod switches;
@@ -15,6 +15,7 @@ mod table;
 mod words;
 
 pub use fault::TraceFault;
+pub use fields::number_to;
 pub use receivers::{MAX_PULL, PullRow, Receivers, pull, read_receivers};
 pub use spans::Spans;
 pub use switches::{MAX_SWITCH_ROWS, SwitchRow, Switches, go_after, read_switches};

@@ -1,5 +1,5 @@
-// The records of a file, one after the other.
-ghost use Rattle.std.specs.Prelude.{◌≡◌, ◌∷◌, [], true, IfOk, MatchBool};
+//! The records of a file in CSV, one after the other.
+ghost use Rattle.std.specs.Prelude.{◌≡◌, ◌≤◌, ◌+◌, ◌∷◌, [], true, IfOk, MatchBool};
 ghost use Rattle.csv.specs.Records.{fields_of};
 ghost use Rattle.aeth_trace.specs.Left.{IsReading, left};
 ghost use Rattle.aeth_trace.specs.Records.{records_of};
@@ -7,9 +7,9 @@ ghost use Rattle.aeth_trace.specs.Records.{records_of};
 use csv::{ByteRecord, ErrorKind, Reader, ReaderBuilder};
 use std::alloc::{AllocError, Global};
 
-// A reader of all records, the header among them. It takes records of any number of fields: whether
-// a row has as many as there are columns is for the row to say.
-pub(crate) fn open(alloc: Global, bytes: &[u8]) -> Reader<&[u8]>
+/// A reader of all records of a file's bytes, the header among them. It takes records of any number
+/// of fields: whether a row has as many as there are columns is for the row to say.
+pub fn open(alloc: Global, bytes: &[u8]) -> Reader<&[u8]>
     ensures reading { IsReading result }
     ensures all { left result ≡ records_of bytes.now }
 {
@@ -19,10 +19,10 @@ pub(crate) fn open(alloc: Global, bytes: &[u8]) -> Reader<&[u8]>
         .from_reader(alloc, bytes)
 }
 
-// Takes the next record, and says whether there is one. The settings leave no cause to refuse one:
-// any number of fields is taken, and no text is asked for. So a failure is want of memory, or of the
-// reader underneath, which is of bytes in memory.
-pub(crate) fn next_row(reader: &mut Reader<&[u8]>, row: &mut ByteRecord) -> Result<bool, AllocError>
+/// Takes the next record, and says whether there is one. `Err` where there was no memory; the reader
+/// isn't to be used behind it. The settings leave no other cause to refuse a record: any number of
+/// fields is taken, no text is asked for, and the reader underneath is of bytes in memory.
+pub fn next_row(reader: &mut Reader<&[u8]>, row: &mut ByteRecord) -> Result<bool, AllocError>
     requires { IsReading reader.old }
     ensures reading { IfOk result (λ found. found ≡ true → IsReading reader.new) }
     ensures row { IfOk result (λ found.
@@ -36,4 +36,14 @@ pub(crate) fn next_row(reader: &mut Reader<&[u8]>, row: &mut ByteRecord) -> Resu
             Err(AllocError)
         }
     }
+}
+
+/// How many rows a list begins with room for: one for each line of the file, and no more than these
+/// and one. So the list needn't grow where each row has a line of its own.
+pub fn room_for(bytes: &[u8], most: u32) -> usize
+    ensures { result ≤ most + 1 }
+{
+    let lines = bytes.iter().filter(|byte| **byte == b'\n').count();
+    let all = most as usize + 1;
+    if lines < all { lines } else { all }
 }

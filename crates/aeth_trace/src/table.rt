@@ -8,19 +8,12 @@ ghost use Rattle.aeth_trace.specs.Rules.{rows_from, table_of};
 ghost use Rattle.aeth_trace.specs.SwitchFaults.{IsPlain};
 
 use crate::fault::TraceFault;
-use crate::records::{next_row, open};
+use crate::records::{next_row, open, room_for};
 use crate::row::Row;
 use crate::words::MAX_ROWS;
 use aeth_app::App;
 use csv::{ByteRecord, Reader};
 use std::alloc::Global;
-
-// Room for as many rows as a file has lines, and for no more than are allowed and one: so a list of
-// rows needn't grow where each has a line of its own.
-fn room_for(bytes: &[u8]) -> usize {
-    let lines = bytes.iter().filter(|byte| **byte == b'\n').count();
-    lines.min(MAX_ROWS as usize + 1)
-}
 
 // The rows under the header, in a list that begins with so much room.
 fn rows_of<R: Row>(
@@ -81,5 +74,5 @@ pub(crate) fn read_table<R: Row>(
     ensures plain { IfErr result IsPlain }
 {
     let mut reader = open(alloc, bytes);
-    table_in(alloc, app, room_for(bytes), &mut reader)
+    table_in(alloc, app, room_for(bytes, MAX_ROWS), &mut reader)
 }
