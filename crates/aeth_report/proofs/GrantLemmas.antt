@@ -41,7 +41,22 @@ module _ (design : Design) where
     pub group : grant.unit.group.0 ≡ g
     pub side : grant.side ≡ channel.side
 
-  -- A channel's grant in a group is such a one, where it has a link.
+  -- A grant of the plan that passes the test is one.
+  pub grant-for : (channel : Channel) (g : ℕ) (grant : Grant) → Contains design.grants grant
+      → is_for channel g grant ≡ true → IsGrantFor channel g grant
+  grant-for channel g grant has passes =
+      let group = grant.unit.group.0 == g in
+      let side = same_side grant.side channel.side in
+      let outer = and_parts (grant.unit.conn.0 == channel.conn.0) (group && side) passes in
+      let inner = and_parts group side outer.1 in
+      record {
+        has = has;
+        conn = eqb-true grant.unit.conn.0 channel.conn.0 outer.0;
+        group = eqb-true grant.unit.group.0 g inner.0;
+        side = same_side-is grant.side channel.side inner.1;
+      }
+
+  -- A channel's grant in a group is one, where it has a link.
   pub grant_at-is : (channel : Channel) (g i : ℕ) (l : LinkId)
       → slice_get (grant_at design channel g).path i ≡ Some l
       → IsGrantFor channel g (grant_at design channel g)
@@ -52,17 +67,7 @@ module _ (design : Design) where
       → slice_get (unwrap_or found missing).path i ≡ Some l
       → IsGrantFor channel g (unwrap_or found missing) = elim [
         | None ↦ λ none there. absurd (cc there)
-        | Some grant ↦ λ some there.
-            let group = grant.unit.group.0 == g in
-            let side = same_side grant.side channel.side in
-            let outer = and_parts (grant.unit.conn.0 == channel.conn.0) (group && side) some.1 in
-            let inner = and_parts group side outer.1 in
-            record {
-              has = some.0;
-              conn = eqb-true grant.unit.conn.0 channel.conn.0 outer.0;
-              group = eqb-true grant.unit.group.0 g inner.0;
-              side = same_side-is grant.side channel.side inner.1;
-            }
+        | Some grant ↦ λ some there. grant-for channel g grant some.0 some.1
       ] in
       cases (find (is_for channel g) design.grants)
       (find-passes (is_for channel g) design.grants) at

@@ -9,6 +9,7 @@ pub mod SessionOrder
 pub mod ClosingLemmas
 pub mod GrantLemmas
 pub mod FlowPlaces
+pub mod SessionsGone
 pub mod OneFlit
 pub mod CarriesLemmas
 pub mod FlitLemmas

@@ -1,4 +1,4 @@
--- On one link in one cycle there is one flit at most.
+-- A link is reserved in a cycle for one session at most, so there is one flit on it at most.
 use Rattle.std.proofs.Common.{◌≡◌, ◌≤◌, ◌<◌, ◌∙◌, ℕ, suc, ◌+◌, ◌-◌, ◌%◌, ◌&&◌, Bool, true, false, cond}
 use Rattle.std.proofs.Common.{Contains, Option, Some, None, slice_get, refl, sym, ap, subst, inl, inr}
 use Rattle.std.proofs.Common.{arith}
@@ -149,15 +149,72 @@ module _ (run : Run) (sound : IsSound run) where
       record { goes = way.goes; unfinished = cases session.close way.unfinished }
 
   module _ (l t : ℕ) where
-    -- What is known of a carried flit: its channel and session, where it is injected, and that it
-    -- enters the link in the slot of the cycle.
+    -- The link is reserved in the cycle for a session, at a place of its path: it may inject a flit in
+    -- cycle u, which would enter the link then.
+    pub record IsReservedFor (channel : Channel) (number : ℕ) (session : Session) (i u : ℕ)
+        : Type 0 where
+      pub session_at : slice_get (sessions_in run channel.conn.0) number ≡ Some session
+      pub injected : IsInjected channel session u
+      pub place : slice_get (grant_at run.design channel session.group.0).path i
+          ≡ Some (record { 0 = l })
+      pub time : u + offset run.design.chip.links
+          (grant_at run.design channel session.group.0).path i ≡ t
+
+    -- It would enter it in the slot of the cycle.
+    enters : (channel : Channel) (number : ℕ) (session : Session) (i u : ℕ)
+        → IsReservedFor channel number session i u
+        → EntersIn run.design sound.granted channel session.group.0 l i
+        (t % run.design.chip.slots)
+    enters channel number session i u reserved =
+        let size = run.design.chip.slots in
+        let ahead = offset run.design.chip.links
+        (grant_at run.design channel session.group.0).path i in
+        record {
+          start = u % size;
+          place = reserved.place;
+          starts = reserved.injected.slot;
+          slot = mod-add-mod u size ahead ∙ ap (λ n. n % size) reserved.time;
+        }
+
+    -- A session of which that holds is in use.
+    in_use : (channel : Channel) (number : ℕ) (session : Session) (i u : ℕ)
+        → IsReservedFor channel number session i u → IsInUse session t
+    in_use channel number session i u reserved =
+        let has = at-Contains (sessions_in run channel.conn.0) number session
+        reserved.session_at in
+        used channel session t (on_its_way channel session i u t has reserved.injected reserved.time)
+
+    -- A link is reserved in a cycle for one session alone, at one place.
+    pub reserved_once : (channel other : Channel) (m n i j u v : ℕ) (s e : Session)
+        → IsReservedFor channel m s i u → IsReservedFor other n e j v
+        → (channel ≡ other) × (m ≡ n) × (i ≡ j)
+    reserved_once channel other m n i j u v s e one two =
+        let groups = run.design.groups in
+        let has_s = at-Contains (sessions_in run channel.conn.0) m s one.session_at in
+        let has_e = at-Contains (sessions_in run other.conn.0) n e two.session_at in
+        let used_s = in_use channel m s i u one in
+        let used_e = in_use other n e j v two in
+        let slot = t % run.design.chip.slots in
+        let meet = sessions_meet groups run.spans run.switches channel.conn.0 other.conn.0 t
+        sound.apart s e has_s has_e used_s used_e in
+        let enters_too : EntersIn run.design sound.granted other s.group.0 l j slot =
+        subst (λ (g : ℕ). EntersIn run.design sound.granted other g l j slot) (sym meet.group)
+        (enters other n e j v two) in
+        let same = entered_once run.design sound.granted channel other s.group.0 l i j slot
+        meet.together (enters channel m s i u one) enters_too in
+        let there : slice_get (sessions_in run channel.conn.0) n ≡ Some e =
+        subst (λ (ch : Channel). slice_get (sessions_in run ch.conn.0) n ≡ Some e) (sym same.0)
+        two.session_at in
+        let numbers = sessions_alone groups run.spans run.switches channel.conn.0 t sound.apart m n
+        s e one.session_at there used_s used_e in
+        (same.0, numbers, same.1)
+
+    -- What is known of a carried flit: its channel and session, for which the link is reserved, and
+    -- that it lands before the session finishes.
     pub record IsKnown (c i u : ℕ) (flow : Flow) : Type 0 where
       pub of : IsFlowOf run c flow
-      pub has : Contains (sessions_in run of.channel.conn.0) of.session
-      pub injected : IsInjected of.channel of.session u
+      pub reserved : IsReservedFor of.channel of.number of.session i u
       pub way : IsOnItsWay of.channel of.session t
-      pub enters : EntersIn run.design sound.granted of.channel of.session.group.0 l i
-          (t % run.design.chip.slots)
 
     pub carried-known : (c i u : ℕ) (flow : Flow) → IsCarried run l t c i u flow
         → IsKnown c i u flow
@@ -165,10 +222,8 @@ module _ (run : Run) (sound : IsSound run) where
         let of = flows_of-place run c flow carried.flow_is in
         let channel = of.channel in
         let session = of.session in
-        let sessions = sessions_in run channel.conn.0 in
-        let has = at-Contains sessions of.number session of.session_at in
+        let has = at-Contains (sessions_in run channel.conn.0) of.number session of.session_at in
         let links = run.design.chip.links in
-        let size = run.design.chip.slots in
         let own = flow_of run channel session in
         let is = sym of.is in
         let place : slice_get own.path i ≡ Some (record { 0 = l }) =
@@ -180,41 +235,23 @@ module _ (run : Run) (sound : IsSound run) where
         let injected = injected-is channel session u has given in
         record {
           of = of;
-          has = has;
-          injected = injected;
-          way = on_its_way channel session i u t has injected time;
-          enters = record {
-            start = u % size;
+          reserved = record {
+            session_at = of.session_at;
+            injected = injected;
             place = place;
-            starts = injected.slot;
-            slot = mod-add-mod u size (offset links own.path i) ∙ ap (λ n. n % size) time;
+            time = time;
           };
+          way = on_its_way channel session i u t has injected time;
         }
 
     -- One flow alone has a flit on the link in this cycle, at one place.
     pub one_flit : (c i u d j v : ℕ) (flow other : Flow) → IsCarried run l t c i u flow
         → IsCarried run l t d j v other → (c ≡ d) × (i ≡ j)
     one_flit c i u d j v flow other carried too =
-        let groups = run.design.groups in
         let known = carried-known c i u flow carried in
         let again = carried-known d j v other too in
         let one = known.of in
         let two = again.of in
-        let slot = t % run.design.chip.slots in
-        let used_one = used one.channel one.session t known.way in
-        let used_two = used two.channel two.session t again.way in
-        let meet = sessions_meet groups run.spans run.switches one.channel.conn.0
-        two.channel.conn.0 t sound.apart one.session two.session known.has again.has used_one
-        used_two in
-        let enters : EntersIn run.design sound.granted two.channel one.session.group.0 l j slot =
-        subst (λ (g : ℕ). EntersIn run.design sound.granted two.channel g l j slot)
-        (sym meet.group) again.enters in
-        let same = entered_once run.design sound.granted one.channel two.channel
-        one.session.group.0 l i j slot meet.together known.enters enters in
-        let there : slice_get (sessions_in run one.channel.conn.0) two.number ≡ Some two.session =
-        subst (λ (ch : Channel). slice_get (sessions_in run ch.conn.0) two.number
-        ≡ Some two.session) (sym same.0) two.session_at in
-        let numbers = sessions_alone groups run.spans run.switches one.channel.conn.0 t
-        sound.apart one.number two.number one.session two.session one.session_at there used_one
-        used_two in
-        (same_flow run c d flow other one two same.0 numbers, same.1)
+        let same = reserved_once one.channel two.channel one.number two.number i j u v one.session
+        two.session known.reserved again.reserved in
+        (same_flow run c d flow other one two same.0 same.1, same.2)

@@ -83,7 +83,7 @@ module _ (groups : GroupsData) (spans : SpanData) where
       ]
 
   -- Those that rows open go at `low` or later.
-  behind-goes : (c : ℕ) (rows : List SwitchRow) (u low : ℕ) → AreInTime spans u low rows
+  pub behind-goes : (c : ℕ) (rows : List SwitchRow) (u low : ℕ) → AreInTime spans u low rows
       → (s : Stay) → Contains (stays_behind groups c u rows) s → low ≤ go_of spans s.opening
   behind-goes c [] u low times s has = Contains-nil has
   behind-goes c (row ∷ rows) u low times s has =

@@ -10,7 +10,7 @@
 --   closing_in, stay_with      the switch that closes it, and a stay before others
 --   stays_behind, stays_from, stays_of      the stays over a list of rows
 --   session_of, sessions_of      their sessions
---   IsInUse, AreTogether      what holds of a session in a cycle, and of two connections
+--   IsInUse, MayInject, AreTogether      what holds of a session in a cycle, and of two connections
 -- Slot tables that are written while the network runs: after Æthereal (2005). Channels that go on
 -- through a switch: this project's own.
 use Rattle.std.specs.Prelude.{◌≡◌, ◌≤◌, ◌<◌, ℕ, ◌+◌, ◌&&◌, not, Bool, IsTrue, if◌then◌else◌}
@@ -109,6 +109,11 @@ sessions_of groups spans c rows = map (session_of spans) (stays_of groups c rows
 pub record IsInUse (session : Session) (t : ℕ) : Type 0 where
   pub goes : session.go ≤ t
   pub unfinished : IfSome session.close (λ close. t < close.fin)
+
+-- A session may inject a flit in a cycle: it goes, and hasn't stopped.
+pub record MayInject (session : Session) (u : ℕ) : Type 0 where
+  pub goes : session.go ≤ u
+  pub unstopped : IfSome session.close (λ close. u < close.stop)
 
 -- Two connections are together in a group: one of its use cases has both.
 pub record AreTogether (groups : GroupsData) (group c d : ℕ) : Type 0 where
