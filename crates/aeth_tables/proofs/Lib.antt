@@ -1,5 +1,5 @@
 pub mod ListLaws
-mod FindLaws
+pub mod FindLaws
 mod FoundGrants
 pub mod SentLinks
 pub mod PortLaws

@@ -18,5 +18,6 @@ mod table;
 
 pub use making::tables;
 pub use printing::table_text;
+pub use route::route_along;
 pub use switching::spans;
 pub use table::Tables;

@@ -18,8 +18,9 @@ fn port_of(chip: &Chip, link: LinkId) -> u32
     chip.port(link) as u32
 }
 
-/// The route along a path: the ports of its links after the first, the first of them lowest.
-pub(crate) fn route_along(chip: &Chip, path: &Path) -> u32
+/// The route along a path, as a header has it: the ports of its links after the first, three bits
+/// each, the first of them lowest. Routers send on these links.
+pub fn route_along(chip: &Chip, path: &Path) -> u32
     requires chip { IsChip chip.now }
     requires sent { All (IsSent chip.now.links) (drop 1 path.now) }
     ensures { result ≡ route_along chip.now.links path.now }
