@@ -1,5 +1,6 @@
 pub mod PathPlaces
 pub mod GivenGrants
+pub mod OwnGrants
 pub mod SoundRuns
 pub mod TableFlows
 pub mod SessionRows

@@ -88,7 +88,8 @@ map-same : {X Y : Type 0} (f g : X → Y) (xs : List X) → ((x : X) → f x ≡
     → map f xs ≡ map g xs
 map-same {X = X} {Y = Y} f g xs same = ap (λ (h : X → Y). map h xs) (λ i x. same x i)
 
-routes-same : (chip : ChipData) → IsChip chip → (path : List LinkId)
+-- Two words for the route along a path are one.
+pub routes-same : (chip : ChipData) → IsChip chip → (path : List LinkId)
     → route_named chip.links path ≡ route_along chip.links path
 routes-same chip is_chip path = ap route_of
     (map-same (port_named chip.links) (port_of chip.links) (drop 1 path) (ports-same chip is_chip))

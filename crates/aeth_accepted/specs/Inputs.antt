@@ -2,7 +2,7 @@
 -- read for them.
 --
 --   Inputs, AreAccepted      the inputs, and what holds of accepted ones
---   design_of, run_of      the design of a plan, and the run of inputs
+--   design_on, design_of, run_of      the design of a plan, that of inputs, and the run of inputs
 --   row_at      the row of a channel in a group
 --   IsTabled      a flow has what a row says
 -- This project's own.
@@ -39,15 +39,19 @@ pub record Inputs : Type 0 where
   pub switches : List SwitchRow
   pub cycles : ℕ
 
--- The design of a plan: with its seats and its grants.
-abbrev pub design_of : Inputs → Design
-design_of inputs = record {
-  chip = inputs.chip;
-  app = inputs.app;
-  groups = groups_of inputs.app;
-  seats = inputs.plan.seats;
-  grants = inputs.plan.grants;
+-- The design of a plan for a chip and an application: with its seats and its grants.
+abbrev pub design_on : ChipData → AppData → PlanData → Design
+design_on chip app plan = record {
+  chip = chip;
+  app = app;
+  groups = groups_of app;
+  seats = plan.seats;
+  grants = plan.grants;
 }
+
+-- The design of inputs.
+abbrev pub design_of : Inputs → Design
+design_of inputs = design_on inputs.chip inputs.app inputs.plan
 
 -- The run of inputs: by the plan's design, with switches that take what the plan says.
 abbrev pub run_of : Inputs → Run
