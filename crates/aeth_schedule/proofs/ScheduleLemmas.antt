@@ -13,9 +13,11 @@ use Rattle.aeth_base.proofs.Members.{filter-Contains, flat_map-Contains}
 use Rattle.aeth_slots.specs.SlotSet.{greatest}
 use Rattle.aeth_chip.specs.Paths.{path_delay}
 use Rattle.aeth_ni.specs.Limits.{queues_of_interface}
-use Rattle.aeth_group.specs.Members.{group_at, groups_of, has_at, is_kept}
+use Rattle.aeth_group.specs.Members.{GroupsData, group_at, groups_of, has_at, is_kept}
 use Rattle.aeth_ni.specs.declared.row.ChannelRow.{ChannelRow}
+use Rattle.aeth_trace.specs.Spans.{SpanData, span_of}
 use Rattle.aeth_trace.specs.declared.switches.SwitchRow.{SwitchRow}
+use Rattle.aeth_trace.specs.declared.words.WordRow.{WordRow}
 use Rattle.aeth_report.specs.Channels.{channels_with}
 use Rattle.aeth_reconf.specs.Rows.{rows_that}
 use Rattle.aeth_tables.specs.Tables.{tables_of}
@@ -33,7 +35,9 @@ use Rattle.aeth_tables.proofs.UseLaws.{is_reserved}
 use Rattle.aeth_schedule.specs.Rooms.{queue_number}
 use Rattle.aeth_schedule.specs.declared.lines.Line.{Line}
 use Rattle.std.proofs.lemmas.List.FromFn.{get_or-map-range_with_len, length-map-range_with_len}
-use Rattle.aeth_schedule.specs.Made.{AreRows, events_over, loaded_over, timed_over}
+use Rattle.aeth_schedule.specs.Made.{AreRows, IsSetting, IsTask, events_over, loaded_over}
+use Rattle.aeth_schedule.specs.Made.{timed_over}
+use Rattle.aeth_schedule.specs.Values.{values_of}
 use Rattle.aeth_schedule.specs.Switching.{events_by, loaded_of, switches_from, timed_of}
 use Rattle.aeth_schedule.specs.Timed.{within}
 use Rattle.aeth_schedule.proofs.LineLemmas.{changed-of, line-at, lines-all, rows-with}
@@ -191,3 +195,39 @@ module _ (inputs : Inputs) (accepted : AreAccepted inputs) where
           | inr none ↦ Contains-nil none
         ]
       ])
+
+  -- What events and sessions are made from.
+  module _ (groups : GroupsData) (spans : SpanData) (all : List (List Line))
+      (groups_are : groups ≡ groups_of inputs.app) (spans_are : spans ≡ (run_of inputs).spans)
+      (all_are : all ≡ all_lines inputs) where
+    setting-of : IsSetting groups spans all
+    setting-of =
+        rw (groups_are, spans_are, all_are) (record { spans_are = spans-are; lines_are = lines-are })
+
+    pub task-of : (words : List WordRow) (starts : List ℕ) (cycles : ℕ) → words ≡ inputs.words
+        → starts ≡ map (λ c. length (values_of inputs.words c))
+        (range_with_len 0 (length inputs.app.connections))
+        → cycles ≡ inputs.cycles
+        → ((u v : ℕ) → u < length (groups_of inputs.app).uses
+        → v < length (groups_of inputs.app).uses
+        → (span_of (run_of inputs).spans u v).0
+        ≡ lag_of inputs.chip inputs.app (groups_of inputs.app) inputs.plan u v)
+        → IsTask groups spans all words starts cycles
+    task-of words starts cycles words_are starts_are cycles_are lags =
+        let count : length starts ≡ length inputs.app.connections =
+        ap (λ (list : List ℕ). length list) starts_are
+        ∙ length-map-range_with_len (λ c. length (values_of inputs.words c)) 0
+        (length inputs.app.connections) in
+        let size = length-groups_of inputs.app in
+        let fit = all-fit in
+        record {
+          setting = setting-of;
+          lags = rw (groups_are, spans_are) (λ u v from to.
+              rw (lags u v from to) (lag-short u v (omega (arith, size, from))));
+          few = rw words_are accepted.words.few;
+          order = rw words_are accepted.words.order;
+          connections = rw count accepted.design.app_is.connections;
+          starts_are = rw (words_are, count) starts_are;
+          known = rw (count, all_are) (λ k d within i e inside. (fit k d within i e inside).0);
+          short = rw cycles_are accepted.cycles;
+        }

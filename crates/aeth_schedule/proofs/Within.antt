@@ -1,5 +1,6 @@
 -- Events below the end of a run.
-use Rattle.std.proofs.Common.{◌≡◌, ◌≤◌, ◌<◌, ◌+◌, ◌++◌, ℕ, List, [], ◌∷◌, arith, map, refl}
+use Rattle.std.proofs.Common.{◌≡◌, ◌≤◌, ◌<◌, ◌+◌, ◌++◌, ◌∙◌, ℕ, List, [], ◌∷◌, append_assoc, arith}
+use Rattle.std.proofs.Common.{map, refl}
 use Rattle.std.specs.Prelude.{nat_lt}
 use Rattle.std.proofs.lemmas.Bool.Decides.{nat_tests}
 use Rattle.std.proofs.lemmas.List.Elements.{filter-append}
@@ -59,3 +60,13 @@ switch-late end close closing opening late behind =
       finishes,
       writes,
     ) refl
+
+-- The halts, the finishes and the writes, one behind the other.
+pub three-within : (end : ℕ) (before halts finishes writes : List Timed)
+    → ((before ++ within end halts) ++ within end finishes) ++ within end writes
+    ≡ before ++ within end (halts ++ (finishes ++ writes))
+three-within end before halts finishes writes =
+    let below = λ (one : Timed). nat_lt one.cycle end in
+    rw (filter-append below halts (finishes ++ writes), filter-append below finishes writes)
+    (append_assoc (before ++ within end halts) (within end finishes) (within end writes)
+    ∙ append_assoc before (within end halts) (within end finishes ++ within end writes))

@@ -4,5 +4,6 @@ pub mod Made
 pub mod Rooms
 pub mod Schedule
 pub mod Switching
+pub mod Tasks
 pub mod Timed
 pub mod Values

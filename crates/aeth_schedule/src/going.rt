@@ -3,25 +3,23 @@
 ghost use Rattle.std.specs.Prelude.{◌≡◌, ◌≤◌, ◌<◌, ◌++◌, ◌∷◌, ◌^◌, [], None, Some, All, OnOk, IfOk, length};
 ghost use Rattle.std.specs.Prelude.{map};
 ghost use Rattle.aeth_report.specs.Flows.{close_at};
-ghost use Rattle.aeth_report.specs.Sessions.{close_by, go_by};
 ghost use Rattle.aeth_schedule.specs.Goings.{going_by, going_in, going_within, goings_behind};
 ghost use Rattle.aeth_schedule.specs.Goings.{goings_from, session_by};
 ghost use Rattle.aeth_schedule.specs.Lines.{changed_lines, end_of, lines_at};
-ghost use Rattle.aeth_schedule.specs.Made.{AreRows, IsTask};
+ghost use Rattle.aeth_schedule.specs.Made.{AreRows};
 
 use crate::lines::{Line, end_of, lines_in};
 use crate::placing::{before, start};
-use crate::switching::Setting;
+use crate::task::Task;
 use aeth_base::{Channel, ConnId, MAX_PATH_DELAY, NoMemory, UseId};
 use aeth_components::Lane;
-use aeth_group::Groups;
-use aeth_reconf::Close;
+use aeth_reconf::{Close, close_by, go_by};
 use aeth_server::ChannelShape;
-use aeth_trace::{Spans, SwitchRow, Words};
+use aeth_trace::SwitchRow;
 use std::alloc::Global;
 
 /// A session of a channel, which goes in the cycle of its lane.
-#[derive(Clone, Copy, Debug)]
+#[derive(Clone, Copy)]
 pub struct Going {
     /// The channel.
     pub channel: Channel,
@@ -37,15 +35,6 @@ pub struct Going {
     pub lane: Lane,
 }
 
-// What sessions are made from.
-#[derive(Clone, Copy)]
-pub(crate) struct Task<'a> {
-    pub setting: Setting<'a>,
-    pub words: &'a Words,
-    pub starts: &'a [u32],
-    pub cycles: u32,
-}
-
 // The sessions that go within the run, in the order in which they go, and those that go in one cycle
 // in channel order.
 pub(crate) fn goings_of(
@@ -53,11 +42,9 @@ pub(crate) fn goings_of(
     task: &Task,
     rows: &[SwitchRow],
 ) -> Result<Vec<Going>, NoMemory>
-    requires task { IsTask task.now.setting.groups.now task.now.setting.spans.now
-        task.now.setting.all.now task.now.words.now task.now.starts.now task.now.cycles }
-    requires rows { AreRows (length task.now.setting.groups.now.uses) rows.now }
+    requires { AreRows (length task.now.groups.now.uses) rows.now }
     ensures { IfOk result (λ goings. goings.items ≡ going_within task.now.cycles (goings_from
-        task.now.setting.groups.now task.now.setting.spans.now task.now.setting.all.now
+        task.now.groups.now task.now.spans.now task.now.all.now
         task.now.words.now task.now.cycles rows.now)) }
 {
     let mut list = Vec::new(alloc);
@@ -75,19 +62,17 @@ fn push_first(
     to: UseId,
     later: &[SwitchRow],
 ) -> Result<(), NoMemory>
-    requires task { IsTask task.now.setting.groups.now task.now.setting.spans.now
-        task.now.setting.all.now task.now.words.now task.now.starts.now task.now.cycles }
-    requires to { to.0 < length task.now.setting.groups.now.uses }
-    requires rows { AreRows (length task.now.setting.groups.now.uses) later.now }
+    requires to { to.0 < length task.now.groups.now.uses }
+    requires rows { AreRows (length task.now.groups.now.uses) later.now }
     ensures { OnOk result (list.new.items ≡ list.old.items ++ going_within task.now.cycles
-        (map (going_by task.now.setting.groups.now task.now.setting.spans.now
-        task.now.setting.all.now task.now.words.now task.now.cycles None to.0 later.now)
-        (lines_at task.now.setting.all.now to.0))) }
+        (map (going_by task.now.groups.now task.now.spans.now
+        task.now.all.now task.now.words.now task.now.cycles None to.0 later.now)
+        (lines_at task.now.all.now to.0))) }
 {
     if task.cycles == 0 {
         return Ok(());
     }
-    push_each(list, task, lines_in(task.setting.all, to), 0, to, later)
+    push_each(list, task, lines_in(task.all, to), 0, to, later)
 }
 
 // Appends the sessions of channels that go in a cycle with a use case.
@@ -99,13 +84,11 @@ fn push_each(
     to: UseId,
     later: &[SwitchRow],
 ) -> Result<(), NoMemory>
-    requires task { IsTask task.now.setting.groups.now task.now.setting.spans.now
-        task.now.setting.all.now task.now.words.now task.now.starts.now task.now.cycles }
     requires lines { All (λ line. line.row.channel.conn.0 < length task.now.starts.now) lines.now }
-    requires to { to.0 < length task.now.setting.groups.now.uses }
-    requires rows { AreRows (length task.now.setting.groups.now.uses) later.now }
+    requires to { to.0 < length task.now.groups.now.uses }
+    requires rows { AreRows (length task.now.groups.now.uses) later.now }
     ensures { OnOk result (list.new.items ≡ list.old.items ++ map
-        (going_in task.now.setting.groups.now task.now.setting.spans.now task.now.words.now
+        (going_in task.now.groups.now task.now.spans.now task.now.words.now
         task.now.cycles go to.0 later.now) lines.now) }
 {
     for line in lines {
@@ -121,13 +104,11 @@ fn push_later(
     first: UseId,
     rows: &[SwitchRow],
 ) -> Result<(), NoMemory>
-    requires task { IsTask task.now.setting.groups.now task.now.setting.spans.now
-        task.now.setting.all.now task.now.words.now task.now.starts.now task.now.cycles }
-    requires first { first.0 < length task.now.setting.groups.now.uses }
-    requires rows { AreRows (length task.now.setting.groups.now.uses) rows.now }
+    requires first { first.0 < length task.now.groups.now.uses }
+    requires rows { AreRows (length task.now.groups.now.uses) rows.now }
     ensures { OnOk result (list.new.items ≡ list.old.items ++ going_within task.now.cycles
-        (goings_behind task.now.setting.groups.now task.now.setting.spans.now
-        task.now.setting.all.now task.now.words.now task.now.cycles first.0 rows.now)) }
+        (goings_behind task.now.groups.now task.now.spans.now
+        task.now.all.now task.now.words.now task.now.cycles first.0 rows.now)) }
 {
     let mut from = first;
     for place in 0..rows.len() {
@@ -146,23 +127,21 @@ fn push_opened(
     row: &SwitchRow,
     later: &[SwitchRow],
 ) -> Result<(), NoMemory>
-    requires task { IsTask task.now.setting.groups.now task.now.setting.spans.now
-        task.now.setting.all.now task.now.words.now task.now.starts.now task.now.cycles }
-    requires from { from.0 < length task.now.setting.groups.now.uses }
-    requires to { row.now.to.0 < length task.now.setting.groups.now.uses }
-    requires rows { AreRows (length task.now.setting.groups.now.uses) later.now }
+    requires from { from.0 < length task.now.groups.now.uses }
+    requires to { row.now.to.0 < length task.now.groups.now.uses }
+    requires rows { AreRows (length task.now.groups.now.uses) later.now }
     ensures { OnOk result (list.new.items ≡ list.old.items ++ going_within task.now.cycles
-        (map (going_by task.now.setting.groups.now task.now.setting.spans.now
-        task.now.setting.all.now task.now.words.now task.now.cycles
+        (map (going_by task.now.groups.now task.now.spans.now
+        task.now.all.now task.now.words.now task.now.cycles
         (Some (record { leaves = from.0; row = row.now })) row.now.to.0 later.now)
-        (changed_lines task.now.setting.groups.now from.0 row.now.to.0
-        (lines_at task.now.setting.all.now row.now.to.0)))) }
+        (changed_lines task.now.groups.now from.0 row.now.to.0
+        (lines_at task.now.all.now row.now.to.0)))) }
 {
-    let go = go_by(task.setting.spans, from, row);
+    let go = go_by(task.spans, from, row);
     if go >= u64::from(task.cycles) {
         return Ok(());
     }
-    let lines = lines_in(task.setting.all, row.to);
+    let lines = lines_in(task.all, row.to);
     push_changed(list, task, from, lines, go as u32, row.to, later)
 }
 
@@ -176,19 +155,17 @@ fn push_changed(
     to: UseId,
     later: &[SwitchRow],
 ) -> Result<(), NoMemory>
-    requires task { IsTask task.now.setting.groups.now task.now.setting.spans.now
-        task.now.setting.all.now task.now.words.now task.now.starts.now task.now.cycles }
-    requires from { from.0 < length task.now.setting.groups.now.uses }
+    requires from { from.0 < length task.now.groups.now.uses }
     requires lines { All (λ line. line.row.channel.conn.0 < length task.now.starts.now) lines.now }
-    requires to { to.0 < length task.now.setting.groups.now.uses }
-    requires rows { AreRows (length task.now.setting.groups.now.uses) later.now }
+    requires to { to.0 < length task.now.groups.now.uses }
+    requires rows { AreRows (length task.now.groups.now.uses) later.now }
     ensures { OnOk result (list.new.items ≡ list.old.items ++ map
-        (going_in task.now.setting.groups.now task.now.setting.spans.now task.now.words.now
+        (going_in task.now.groups.now task.now.spans.now task.now.words.now
         task.now.cycles go to.0 later.now)
-        (changed_lines task.now.setting.groups.now from.0 to.0 lines.now)) }
+        (changed_lines task.now.groups.now from.0 to.0 lines.now)) }
 {
     for line in lines {
-        if !task.setting.groups.kept(from, to, line.row.channel.conn) {
+        if !task.groups.kept(from, to, line.row.channel.conn) {
             push_going(list, task, line, go, to, later)?;
         }
     }
@@ -204,13 +181,11 @@ fn push_going(
     to: UseId,
     later: &[SwitchRow],
 ) -> Result<(), NoMemory>
-    requires task { IsTask task.now.setting.groups.now task.now.setting.spans.now
-        task.now.setting.all.now task.now.words.now task.now.starts.now task.now.cycles }
     requires line { line.now.row.channel.conn.0 < length task.now.starts.now }
-    requires to { to.0 < length task.now.setting.groups.now.uses }
-    requires rows { AreRows (length task.now.setting.groups.now.uses) later.now }
+    requires to { to.0 < length task.now.groups.now.uses }
+    requires rows { AreRows (length task.now.groups.now.uses) later.now }
     ensures { OnOk result (list.new.items ≡ list.old.items
-        ++ going_in task.now.setting.groups.now task.now.setting.spans.now task.now.words.now
+        ++ going_in task.now.groups.now task.now.spans.now task.now.words.now
         task.now.cycles go to.0 later.now line.now ∷ []) }
 {
     let close = close_in(task, line.row.channel.conn, to, later);
@@ -265,20 +240,18 @@ fn fresh_lane(line: &Line, go: u32, fin: u32, first: u32) -> Lane
 
 // How the sessions of a connection close that come with a use case, over the switches that follow.
 fn close_in(task: &Task, conn: ConnId, to: UseId, rows: &[SwitchRow]) -> Close
-    requires task { IsTask task.now.setting.groups.now task.now.setting.spans.now
-        task.now.setting.all.now task.now.words.now task.now.starts.now task.now.cycles }
-    requires to { to.0 < length task.now.setting.groups.now.uses }
-    requires rows { AreRows (length task.now.setting.groups.now.uses) rows.now }
-    ensures close { result ≡ close_at task.now.cycles (session_by task.now.setting.groups.now
-        task.now.setting.spans.now None to.0 rows.now conn.0) }
+    requires to { to.0 < length task.now.groups.now.uses }
+    requires rows { AreRows (length task.now.groups.now.uses) rows.now }
+    ensures close { result ≡ close_at task.now.cycles (session_by task.now.groups.now
+        task.now.spans.now None to.0 rows.now conn.0) }
     ensures until { result.until < 2 ^ 32 }
     ensures fin { result.fin < 2 ^ 32 }
 {
     let mut from = to;
     let mut rest = rows;
     'rows: while let [row, more @ ..] = rest {
-        if !task.setting.groups.kept(from, row.to, conn) {
-            return close_by(task.setting.spans, from, row);
+        if !task.groups.kept(from, row.to, conn) {
+            return close_by(task.spans, from, row);
         }
         from = row.to;
         rest = more;
@@ -289,28 +262,4 @@ fn close_in(task: &Task, conn: ConnId, to: UseId, rows: &[SwitchRow]) -> Close
         stop: end,
         fin: end + u64::from(MAX_PATH_DELAY),
     }
-}
-
-// How the channels close that a switch closes, which leaves this use case.
-fn close_by(spans: &Spans, from: UseId, row: &SwitchRow) -> Close
-    requires from { from.0 < spans.now.uses }
-    requires to { row.now.to.0 < spans.now.uses }
-    ensures { result ≡ close_by spans.now (record { leaves = from.0; row = row.now }) }
-{
-    let until = u64::from(row.cycle);
-    let stop = until + u64::from(row.drain);
-    let fin = stop + u64::from(spans.lag(from, row.to));
-    Close { until, stop, fin }
-}
-
-// The cycle in which the sessions go that a switch opens.
-fn go_by(spans: &Spans, from: UseId, row: &SwitchRow) -> u64
-    requires from { from.0 < spans.now.uses }
-    requires to { row.now.to.0 < spans.now.uses }
-    ensures { result ≡ go_by spans.now (record { leaves = from.0; row = row.now }) }
-{
-    u64::from(row.cycle)
-        + u64::from(row.drain)
-        + u64::from(spans.lag(from, row.to))
-        + u64::from(spans.writes(from, row.to))
 }

@@ -8,6 +8,7 @@ mod placing;
 mod rooms;
 mod schedule;
 mod switching;
+mod task;
 mod timed;
 
 pub use going::Going;

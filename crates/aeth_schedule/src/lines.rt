@@ -12,7 +12,7 @@ use std::alloc::Global;
 use std::marker::Model;
 
 /// A channel of a use case: its row, what it is granted and asks for, and the end at which it lands.
-#[derive(Clone, Copy, Debug)]
+#[derive(Clone, Copy)]
 pub struct Line {
     pub row: ChannelRow,
     pub shape: ChannelShape,

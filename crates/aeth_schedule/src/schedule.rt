@@ -1,28 +1,20 @@
 // What a run does, cycle by cycle.
 
-ghost use Rattle.std.specs.Prelude.{◌≡◌, ◌≤◌, ◌<◌, IfOk, length, map, slice_range};
-ghost use Rattle.std.specs.List.{range_with_len};
-ghost use Rattle.aeth_group.specs.Members.{groups_of};
-ghost use Rattle.aeth_plan.specs.Plan.{IsPlanOf};
-ghost use Rattle.aeth_check.specs.Accepted.{IsAccepted};
-ghost use Rattle.aeth_accepted.specs.Inputs.{AreAccepted};
-ghost use Rattle.aeth_schedule.specs.Lines.{lines_in_use};
+ghost use Rattle.std.specs.Prelude.{◌≡◌, ◌≤◌, ◌<◌, IfOk, length, slice_range};
+ghost use Rattle.aeth_schedule.specs.Lines.{all_lines, lines_of};
 ghost use Rattle.aeth_schedule.specs.Schedule.{schedule_of};
+ghost use Rattle.aeth_schedule.specs.Tasks.{IsTaskOf};
 
-use crate::going::{Going, Task, goings_of};
+use crate::going::{Going, goings_of};
 use crate::lines::Lines;
 use crate::placing::starts;
 use crate::rooms::rooms_of;
-use crate::switching::{Setting, events_of, loaded_of};
-use crate::timed::Timed;
-use aeth_app::App;
+use crate::switching::{TimedEvents, loaded_of, timed_events};
+use crate::task::Task;
+use aeth_accepted::RunInputs;
 use aeth_base::{NoMemory, UseId};
-use aeth_chip::Chip;
 use aeth_components::Event;
-use aeth_group::Groups;
-use aeth_plan::Plan;
 use aeth_tables::{spans, tables};
-use aeth_trace::{Receivers, Switches, Words};
 use std::alloc::Global;
 use std::marker::Model;
 
@@ -31,8 +23,7 @@ use std::marker::Model;
 #[derive(Drop)]
 pub struct Schedule {
     loaded: Vec<Event>,
-    events: Vec<Event>,
-    cycles: Vec<u32>,
+    timed: TimedEvents,
     goings: Vec<Going>,
     rooms: Vec<u32>,
 }
@@ -45,71 +36,41 @@ impl Model for Schedule {
 
     ghost view = { λ schedule. record {
       loaded = schedule.loaded.items;
-      events = schedule.events.items;
-      cycles = schedule.cycles.items;
+      events = schedule.timed.events.items;
+      cycles = schedule.timed.cycles.items;
       goings = schedule.goings.items;
       rooms = schedule.rooms.items;
     } };
 
-    ghost invariant = { λ schedule. length schedule.events.items ≡ length schedule.cycles.items };
+    ghost invariant = { λ schedule. length schedule.timed.events.items
+        ≡ length schedule.timed.cycles.items };
 }
 
 impl Schedule {
-    /// The schedule of accepted inputs, over so many cycles. `Err` where there was no memory.
-    pub fn of(
-        alloc: Global,
-        chip: &Chip,
-        app: &App,
-        groups: &Groups,
-        plan: &Plan,
-        words: &Words,
-        receivers: &Receivers,
-        switches: &Switches,
-        cycles: u32,
-    ) -> Result<Schedule, NoMemory>
-        requires groups { groups.now ≡ groups_of app.now }
-        requires accepted { AreAccepted (record {
-          chip = chip.now;
-          app = app.now;
-          plan = plan.now;
-          words = words.now;
-          pulls = receivers.now;
-          switches = switches.now;
-          cycles = cycles;
-        }) }
-        ensures { IfOk result (λ schedule. schedule ≡ schedule_of (record {
-          chip = chip.now;
-          app = app.now;
-          plan = plan.now;
-          words = words.now;
-          pulls = receivers.now;
-          switches = switches.now;
-          cycles = cycles;
-        })) }
+    /// The schedule of accepted inputs. `Err` where there was no memory.
+    pub fn of(alloc: Global, inputs: &RunInputs) -> Result<Schedule, NoMemory>
+        ensures { IfOk result (λ schedule. schedule ≡ schedule_of inputs.now) }
     {
         aeth_tables::laws::switches();
-        let all = lines_of_uses(alloc, chip, app, groups, plan)?;
-        let spans = spans(alloc, chip, app, groups, plan)?;
-        let setting = Setting {
-            groups,
+        inputs.are_accepted();
+        let all = lines_of_uses(alloc, inputs)?;
+        let spans = spans(
+            alloc,
+            inputs.chip(),
+            inputs.app(),
+            inputs.groups(),
+            inputs.plan(),
+        )?;
+        let starts = starts(alloc, inputs.app(), inputs.words())?;
+        let task = Task {
+            groups: inputs.groups(),
             spans: &spans,
             all: &all,
-        };
-        let starts = starts(alloc, app, words)?;
-        let task = Task {
-            setting,
-            words,
+            words: inputs.words(),
             starts: &starts,
-            cycles,
+            cycles: inputs.cycles(),
         };
-        let timed = events_of(alloc, &setting, switches.rows(), cycles)?;
-        Ok(Schedule {
-            loaded: loaded_of(alloc, &all, switches.rows())?,
-            events: events_in(alloc, &timed)?,
-            cycles: cycles_in(alloc, &timed)?,
-            goings: goings_of(alloc, &task, switches.rows())?,
-            rooms: rooms_of(alloc, chip, &all)?,
-        })
+        made(alloc, inputs, &task)
     }
 
     /// What is written before the first cycle.
@@ -138,7 +99,7 @@ impl Schedule {
     pub fn cycles(&self) -> &[u32]
         ensures { result.now ≡ self.now.cycles }
     {
-        &self.cycles
+        &self.timed.cycles
     }
 
     /// The events from a place on, before another.
@@ -147,69 +108,49 @@ impl Schedule {
         requires to { to ≤ length self.now.cycles }
         ensures { result.now ≡ slice_range self.now.events from to }
     {
-        &self.events[from..to]
+        &self.timed.events[from..to]
     }
 }
 
-// Events without their cycles.
-fn events_in(alloc: Global, timed: &[Timed]) -> Result<Vec<Event>, NoMemory>
-    ensures { IfOk result (λ events. events.items ≡ map (λ one. one.event) timed.now) }
+// The schedule of accepted inputs, of which this is the task.
+fn made(alloc: Global, inputs: &RunInputs, task: &Task) -> Result<Schedule, NoMemory>
+    requires { IsTaskOf inputs.now task.now }
+    ensures { IfOk result (λ schedule. schedule ≡ schedule_of inputs.now) }
 {
-    let mut events = Vec::new(alloc);
-    for one in timed {
-        events.push(one.event)?;
-    }
-    Ok(events)
-}
-
-// Their cycles.
-fn cycles_in(alloc: Global, timed: &[Timed]) -> Result<Vec<u32>, NoMemory>
-    ensures { IfOk result (λ cycles. cycles.items ≡ map (λ one. one.cycle) timed.now) }
-{
-    let mut cycles = Vec::new(alloc);
-    for one in timed {
-        cycles.push(one.cycle)?;
-    }
-    Ok(cycles)
+    inputs.are_accepted();
+    let rows = inputs.switches().rows();
+    Ok(Schedule {
+        loaded: loaded_of(alloc, task.all, rows)?,
+        timed: timed_events(alloc, task, rows)?,
+        goings: goings_of(alloc, task, rows)?,
+        rooms: rooms_of(alloc, inputs.chip(), task.all)?,
+    })
 }
 
 // The channels of all use cases.
-fn lines_of_uses(
-    alloc: Global,
-    chip: &Chip,
-    app: &App,
-    groups: &Groups,
-    plan: &Plan,
-) -> Result<Vec<Lines>, NoMemory>
-    requires groups { groups.now ≡ groups_of app.now }
-    requires plan { IsPlanOf chip.now app.now groups.now plan.now }
-    requires accepted { IsAccepted chip.now app.now groups.now plan.now }
-    ensures { IfOk result (λ all. all.items
-        ≡ map (lines_in_use chip.now app.now plan.now)
-        (range_with_len 0 (length app.now.uses))) }
+fn lines_of_uses(alloc: Global, inputs: &RunInputs) -> Result<Vec<Lines>, NoMemory>
+    ensures { IfOk result (λ all. all.items ≡ all_lines inputs.now) }
 {
     let mut all = Vec::new(alloc);
-    for u in 0..app.uses() {
-        all.push(lines_of_use(alloc, chip, app, groups, plan, UseId(u))?)?;
+    for u in 0..inputs.app().uses() {
+        all.push(lines_of_use(alloc, inputs, UseId(u))?)?;
     }
     Ok(all)
 }
 
 // The channels of a use case.
-fn lines_of_use(
-    alloc: Global,
-    chip: &Chip,
-    app: &App,
-    groups: &Groups,
-    plan: &Plan,
-    u: UseId,
-) -> Result<Lines, NoMemory>
-    requires groups { groups.now ≡ groups_of app.now }
-    requires plan { IsPlanOf chip.now app.now groups.now plan.now }
-    requires accepted { IsAccepted chip.now app.now groups.now plan.now }
-    requires use_case { u.0 < length app.now.uses }
-    ensures { IfOk result (λ lines. lines ≡ lines_in_use chip.now app.now plan.now u.0) }
+fn lines_of_use(alloc: Global, inputs: &RunInputs, u: UseId) -> Result<Lines, NoMemory>
+    requires { u.0 < length inputs.now.app.uses }
+    ensures { IfOk result (λ lines. lines ≡ lines_of inputs.now u.0) }
 {
-    let tables = tables(alloc, chip, app, groups, plan, u)?;
+    inputs.are_accepted();
+    let tables = tables(
+        alloc,
+        inputs.chip(),
+        inputs.app(),
+        inputs.groups(),
+        inputs.plan(),
+        u,
+    )?;
     Lines::of(alloc, &tables)
 }

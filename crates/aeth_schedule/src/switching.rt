@@ -1,45 +1,84 @@
 // What the switches of a run do to tables and queues.
 
 ghost use Rattle.std.specs.Prelude.{◌≡◌, ◌++◌, ◌<◌, All, IfOk, OnOk, [], flat_map, length, map};
-ghost use Rattle.aeth_schedule.specs.Made.{IsSetting, changed_rows, events_over};
+ghost use Rattle.aeth_schedule.specs.Lines.{lines_at};
+ghost use Rattle.aeth_schedule.specs.Made.{changed_rows, events_over};
 ghost use Rattle.aeth_schedule.specs.Made.{loaded_over, timed_over};
 ghost use Rattle.aeth_ni.specs.Program.{program_of};
 ghost use Rattle.aeth_schedule.specs.Switching.{changes, switches_from};
 ghost use Rattle.aeth_schedule.specs.Timed.{within};
 
-use crate::lines::{Line, Lines};
-use crate::timed::{Timed, push_finishes, push_halts, push_writes};
+use crate::lines::{Line, Lines, lines_in};
+use crate::task::Task;
+use crate::timed::{Timed, push_switching};
 use aeth_base::{NoMemory, UseId};
 use aeth_components::Event;
 use aeth_group::Groups;
 use aeth_ni::{ChannelRow, Write};
-use aeth_reconf::program;
-use aeth_trace::{Spans, SwitchRow};
+use aeth_reconf::{close_by, program};
+use aeth_trace::SwitchRow;
 use std::alloc::Global;
 
-// The groups of an application, how long its switches take, and the channels of all use cases.
-#[derive(Clone, Copy)]
-pub(crate) struct Setting<'a> {
-    pub groups: &'a Groups,
-    pub spans: &'a Spans,
-    pub all: &'a [Lines],
+// Events, and the cycle of each.
+#[derive(Drop)]
+pub(crate) struct TimedEvents {
+    pub events: Vec<Event>,
+    pub cycles: Vec<u32>,
 }
 
-// The events of all switches behind the first row, below so many cycles.
-pub(crate) fn events_of(
+// The events of all switches behind the first row, below the end of the run.
+pub(crate) fn timed_events(
     alloc: Global,
-    setting: &Setting,
+    task: &Task,
     rows: &[SwitchRow],
-    cycles: u32,
-) -> Result<Vec<Timed>, NoMemory>
-    requires setting { IsSetting setting.now.groups.now setting.now.spans.now setting.now.all.now }
-    requires known { All (λ row. row.to.0 < length setting.now.groups.now.uses) rows.now }
+) -> Result<TimedEvents, NoMemory>
+    requires { All (λ row. row.to.0 < length task.now.groups.now.uses) rows.now }
+    ensures events { IfOk result (λ all. all.events.items ≡ map (λ one. one.event)
+        (timed_over task.now.groups.now task.now.spans.now task.now.all.now rows.now
+        task.now.cycles)) }
+    ensures cycles { IfOk result (λ all. all.cycles.items ≡ map (λ one. one.cycle)
+        (timed_over task.now.groups.now task.now.spans.now task.now.all.now rows.now
+        task.now.cycles)) }
+{
+    let timed = events_of(alloc, task, rows)?;
+    Ok(TimedEvents {
+        events: events_in(alloc, &timed)?,
+        cycles: cycles_in(alloc, &timed)?,
+    })
+}
+
+// Events without their cycles.
+fn events_in(alloc: Global, timed: &[Timed]) -> Result<Vec<Event>, NoMemory>
+    ensures { IfOk result (λ events. events.items ≡ map (λ one. one.event) timed.now) }
+{
+    let mut events = Vec::new(alloc);
+    for one in timed {
+        events.push(one.event)?;
+    }
+    Ok(events)
+}
+
+// Their cycles.
+fn cycles_in(alloc: Global, timed: &[Timed]) -> Result<Vec<u32>, NoMemory>
+    ensures { IfOk result (λ cycles. cycles.items ≡ map (λ one. one.cycle) timed.now) }
+{
+    let mut cycles = Vec::new(alloc);
+    for one in timed {
+        cycles.push(one.cycle)?;
+    }
+    Ok(cycles)
+}
+
+// The same, each event with its cycle.
+fn events_of(alloc: Global, task: &Task, rows: &[SwitchRow]) -> Result<Vec<Timed>, NoMemory>
+    requires { All (λ row. row.to.0 < length task.now.groups.now.uses) rows.now }
     ensures { IfOk result (λ list. list.items
-        ≡ timed_over setting.now.groups.now setting.now.spans.now setting.now.all.now rows.now cycles) }
+        ≡ timed_over task.now.groups.now task.now.spans.now task.now.all.now rows.now
+        task.now.cycles) }
 {
     let mut list = Vec::new(alloc);
     if let [first, later @ ..] = rows {
-        push_events(alloc, &mut list, setting, first.to, later, cycles)?;
+        push_events(alloc, &mut list, task, first.to, later)?;
     }
     Ok(list)
 }
@@ -48,21 +87,19 @@ pub(crate) fn events_of(
 fn push_events(
     alloc: Global,
     list: &mut Vec<Timed>,
-    setting: &Setting,
+    task: &Task,
     first: UseId,
     rows: &[SwitchRow],
-    cycles: u32,
 ) -> Result<(), NoMemory>
-    requires setting { IsSetting setting.now.groups.now setting.now.spans.now setting.now.all.now }
-    requires first { first.0 < length setting.now.groups.now.uses }
-    requires known { All (λ row. row.to.0 < length setting.now.groups.now.uses) rows.now }
-    ensures { OnOk result (list.new.items ≡ list.old.items ++ within cycles (flat_map
-        (events_over setting.now.groups.now setting.now.spans.now setting.now.all.now)
+    requires first { first.0 < length task.now.groups.now.uses }
+    requires known { All (λ row. row.to.0 < length task.now.groups.now.uses) rows.now }
+    ensures { OnOk result (list.new.items ≡ list.old.items ++ within task.now.cycles (flat_map
+        (events_over task.now.groups.now task.now.spans.now task.now.all.now)
         (switches_from first.0 rows.now))) }
 {
     let mut from = first;
     for row in rows {
-        push_switch(alloc, list, setting, from, row, cycles)?;
+        push_switch(alloc, list, task, from, row)?;
         from = row.to;
     }
     Ok(())
@@ -72,31 +109,42 @@ fn push_events(
 fn push_switch(
     alloc: Global,
     list: &mut Vec<Timed>,
-    setting: &Setting,
+    task: &Task,
     from: UseId,
     row: &SwitchRow,
-    cycles: u32,
 ) -> Result<(), NoMemory>
-    requires setting { IsSetting setting.now.groups.now setting.now.spans.now setting.now.all.now }
-    requires from { from.0 < length setting.now.groups.now.uses }
-    requires to { row.now.to.0 < length setting.now.groups.now.uses }
-    ensures { OnOk result (list.new.items ≡ list.old.items ++ within cycles
-        (events_over setting.now.groups.now setting.now.spans.now setting.now.all.now
+    requires from { from.0 < length task.now.groups.now.uses }
+    requires to { row.now.to.0 < length task.now.groups.now.uses }
+    ensures { OnOk result (list.new.items ≡ list.old.items ++ within task.now.cycles
+        (events_over task.now.groups.now task.now.spans.now task.now.all.now
         (record { leaves = from.0; row = row.now }))) }
 {
-    let stop = u64::from(row.cycle) + u64::from(row.drain);
-    if stop >= u64::from(cycles) {
+    let close = close_by(task.spans, from, row);
+    if close.stop >= u64::from(task.cycles) {
         return Ok(());
     }
-    let fin = stop + u64::from(setting.spans.lag(from, row.to));
-    let left = &setting.all[from.0 as usize];
-    let entered = &setting.all[row.to.0 as usize];
-    let closing = rows_changed(alloc, setting.groups, from, row.to, left.list())?;
-    let opening = rows_changed(alloc, setting.groups, from, row.to, entered.list())?;
-    let writes = program(alloc, &closing, &opening)?;
-    push_halts(list, stop, &closing, cycles)?;
-    push_finishes(list, fin, &closing, cycles)?;
-    push_writes(list, fin, &writes, cycles)
+    let left = lines_in(task.all, from);
+    let closing = rows_changed(alloc, task.groups, from, row.to, left)?;
+    let writes = program_by(alloc, task, from, row.to, &closing)?;
+    push_switching(list, &close, &closing, &writes, task.cycles)
+}
+
+// The writes of a switch that closes these channels.
+fn program_by(
+    alloc: Global,
+    task: &Task,
+    from: UseId,
+    to: UseId,
+    closing: &[ChannelRow],
+) -> Result<Vec<Write>, NoMemory>
+    requires from { from.0 < length task.now.groups.now.uses }
+    requires to { to.0 < length task.now.groups.now.uses }
+    ensures { IfOk result (λ writes. writes.items ≡ program_of closing.now
+        (changed_rows task.now.groups.now from.0 to.0 (lines_at task.now.all.now to.0))) }
+{
+    let entered = lines_in(task.all, to);
+    let opening = rows_changed(alloc, task.groups, from, to, entered)?;
+    program(alloc, closing, &opening)
 }
 
 // The rows of those lines which a switch doesn't keep.

@@ -1,7 +1,6 @@
 // What a run gives a network, and what of it each cycle brings.
 
 ghost use Rattle.std.specs.Prelude.{◌≡◌, ◌+◌, IfOk};
-ghost use Rattle.aeth_schedule.specs.Schedule.{schedule_of};
 ghost use Rattle.aeth_events.specs.Events.{events_in};
 ghost use Rattle.aeth_running.specs.Network.{goings_in, offers_in, takes_in};
 ghost use Rattle.aeth_stimuli.specs.Stimuli.{stimuli_of};
@@ -50,7 +49,7 @@ impl Given {
         inputs.are_accepted();
         let cycles = inputs.cycles();
         Ok(Given {
-            schedule: schedule_of(alloc, inputs)?,
+            schedule: Schedule::of(alloc, inputs)?,
             offers: offers_of(alloc, inputs.words().rows(), cycles)?,
             takes: takes_of(alloc, inputs.receivers().rows(), cycles)?,
         })
@@ -84,22 +83,4 @@ impl Given {
             },
         }
     }
-}
-
-// Their schedule.
-fn schedule_of(alloc: Global, inputs: &RunInputs) -> Result<Schedule, NoMemory>
-    ensures { IfOk result (λ schedule. schedule ≡ schedule_of inputs.now) }
-{
-    inputs.are_accepted();
-    Schedule::of(
-        alloc,
-        inputs.chip(),
-        inputs.app(),
-        inputs.groups(),
-        inputs.plan(),
-        inputs.words(),
-        inputs.receivers(),
-        inputs.switches(),
-        inputs.cycles(),
-    )
 }

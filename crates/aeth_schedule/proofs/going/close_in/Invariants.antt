@@ -6,10 +6,10 @@ use Rattle.aeth_schedule.proofs.going.close_in.Given as goal
 -- No switch so far closes the connection, and those that are left are known.
 abbrev pub invariant-rows : goal.invariant-rows
 invariant-rows l = record {
-  from : l.from.0 < length l.task.setting.groups.now.uses;
-  rows : AreRows (length l.task.setting.groups.now.uses) l.rest;
-  closing : closing_in l.task.setting.groups.now l.conn.0 l.from.0 l.rest
-      ≡ closing_in l.task.setting.groups.now l.conn.0 l.fn.to.0 l.rows;
+  from : l.from.0 < length l.task.groups.now.uses;
+  rows : AreRows (length l.task.groups.now.uses) l.rest;
+  closing : closing_in l.task.groups.now l.conn.0 l.from.0 l.rest
+      ≡ closing_in l.task.groups.now l.conn.0 l.fn.to.0 l.rows;
 }
 
 -- Fewer are left.

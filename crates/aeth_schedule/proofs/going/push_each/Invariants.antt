@@ -5,5 +5,5 @@ use Rattle.aeth_schedule.proofs.going.push_each.Given as goal
 -- The sessions so far.
 abbrev pub invariant-loop-line : goal.invariant-loop-line
 invariant-loop-line l = l.list.items ≡ l.fn.list.items ++ map
-    (going_in l.task.setting.groups.now l.task.setting.spans.now l.task.words.now l.task.cycles l.go
+    (going_in l.task.groups.now l.task.spans.now l.task.words.now l.task.cycles l.go
     l.to.0 l.later) (take l.line-index l.lines)

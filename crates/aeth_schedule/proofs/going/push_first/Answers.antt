@@ -11,9 +11,9 @@ pub returns-then-task-eq0 : goal.returns-then-task-eq0
 returns-then-task-eq0 c =
     let task = c.args.task.now in
     rw (
-      going-late (going_by task.setting.groups.now task.setting.spans.now task.setting.all.now
+      going-late (going_by task.groups.now task.spans.now task.all.now
           task.words.now task.cycles None c.args.to.0 c.args.later.now) task.cycles 0
-          (lines_at task.setting.all.now c.args.to.0) (λ line. refl) (omega arith),
+          (lines_at task.all.now c.args.to.0) (λ line. refl) (omega arith),
       append-nil c.args.list.now.items,
     ) refl
 
@@ -21,7 +21,7 @@ returns-then-task-eq0 c =
 pub returns : goal.returns
 returns c =
     let task = c.args.task.now in
-    rw (going-early (going_by task.setting.groups.now task.setting.spans.now task.setting.all.now
+    rw (going-early (going_by task.groups.now task.spans.now task.all.now
     task.words.now task.cycles None c.args.to.0 c.args.later.now) task.cycles 0
-    (lines_at task.setting.all.now c.args.to.0) (λ line. refl) (omega arith))
+    (lines_at task.all.now c.args.to.0) (λ line. refl) (omega arith))
     (rw c.lines_in.ensures at c.push_each.ensures)

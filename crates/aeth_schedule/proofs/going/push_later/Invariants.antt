@@ -5,11 +5,11 @@ use Rattle.aeth_schedule.proofs.going.push_later.Given as goal
 -- The sessions of the switches that are left are still to be appended.
 abbrev pub invariant-loop-place : goal.invariant-loop-place
 invariant-loop-place l = record {
-  from : l.from.0 < length l.task.setting.groups.now.uses;
-  goings : l.list.items ++ going_within l.task.cycles (goings_behind l.task.setting.groups.now
-      l.task.setting.spans.now l.task.setting.all.now l.task.words.now l.task.cycles l.from.0
+  from : l.from.0 < length l.task.groups.now.uses;
+  goings : l.list.items ++ going_within l.task.cycles (goings_behind l.task.groups.now
+      l.task.spans.now l.task.all.now l.task.words.now l.task.cycles l.from.0
       (drop l.place l.rows))
-      ≡ l.fn.list.items ++ going_within l.task.cycles (goings_behind l.task.setting.groups.now
-      l.task.setting.spans.now l.task.setting.all.now l.task.words.now l.task.cycles l.fn.first.0
+      ≡ l.fn.list.items ++ going_within l.task.cycles (goings_behind l.task.groups.now
+      l.task.spans.now l.task.all.now l.task.words.now l.task.cycles l.fn.first.0
       l.rows);
 }

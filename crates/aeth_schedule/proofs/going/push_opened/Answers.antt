@@ -12,13 +12,13 @@ pub returns-then-go-from : goal.returns-then-go-from
 returns-then-go-from c =
     let task = c.args.task.now in
     let row = c.args.row.now in
-    let go = go_by task.setting.spans.now (record { leaves = c.args.from.0; row = row }) in
+    let go = go_by task.spans.now (record { leaves = c.args.from.0; row = row }) in
     let is = c.go_by-go.ensures in
     rw (
-      going-late (going_by task.setting.groups.now task.setting.spans.now task.setting.all.now
+      going-late (going_by task.groups.now task.spans.now task.all.now
           task.words.now task.cycles (Some (record { leaves = c.args.from.0; row = row })) row.to.0
           c.args.later.now) task.cycles go
-          (changed_lines task.setting.groups.now c.args.from.0 row.to.0 (lines_at task.setting.all.now row.to.0))
+          (changed_lines task.groups.now c.args.from.0 row.to.0 (lines_at task.all.now row.to.0))
           (λ line. refl) (omega arith),
       append-nil c.args.list.now.items,
     ) refl
@@ -28,10 +28,10 @@ pub returns : goal.returns
 returns c =
     let task = c.args.task.now in
     let row = c.args.row.now in
-    let go = go_by task.setting.spans.now (record { leaves = c.args.from.0; row = row }) in
+    let go = go_by task.spans.now (record { leaves = c.args.from.0; row = row }) in
     let is = c.go_by-go.ensures in
-    rw (going-early (going_by task.setting.groups.now task.setting.spans.now task.setting.all.now
+    rw (going-early (going_by task.groups.now task.spans.now task.all.now
     task.words.now task.cycles (Some (record { leaves = c.args.from.0; row = row })) row.to.0
     c.args.later.now) task.cycles go
-    (changed_lines task.setting.groups.now c.args.from.0 row.to.0 (lines_at task.setting.all.now row.to.0))
+    (changed_lines task.groups.now c.args.from.0 row.to.0 (lines_at task.all.now row.to.0))
     (λ line. refl) (omega arith)) (rw (is, c.lines_in-lines.ensures) at c.push_changed.ensures)

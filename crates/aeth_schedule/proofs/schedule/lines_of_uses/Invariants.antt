@@ -1,9 +1,8 @@
 use Rattle.std.proofs.Common.{◌≡◌, map}
 use Rattle.std.specs.List.{range_with_len}
-use Rattle.aeth_schedule.specs.Lines.{lines_in_use}
+use Rattle.aeth_schedule.specs.Lines.{lines_of}
 use Rattle.aeth_schedule.proofs.schedule.lines_of_uses.Given as goal
 
 -- Those of the use cases so far.
 abbrev pub invariant-loop-u : goal.invariant-loop-u
-invariant-loop-u l =
-    l.all.items ≡ map (lines_in_use l.chip l.app l.plan) (range_with_len 0 l.u)
+invariant-loop-u l = l.all.items ≡ map (lines_of l.inputs) (range_with_len 0 l.u)

@@ -8,11 +8,11 @@ use Rattle.aeth_schedule.proofs.switching.push_events.Given as goal
 -- The events of the switches that are left are still to be appended.
 abbrev pub invariant-loop-row : goal.invariant-loop-row
 invariant-loop-row l = record {
-  from : l.from.0 < length l.setting.groups.now.uses;
-  events : l.list.items ++ within l.cycles (flat_map
-      (events_over l.setting.groups.now l.setting.spans.now l.setting.all.now)
+  from : l.from.0 < length l.task.groups.now.uses;
+  events : l.list.items ++ within l.task.cycles (flat_map
+      (events_over l.task.groups.now l.task.spans.now l.task.all.now)
       (switches_from l.from.0 (drop l.row-index l.rows)))
-      ≡ l.fn.list.items ++ within l.cycles (flat_map
-      (events_over l.setting.groups.now l.setting.spans.now l.setting.all.now)
+      ≡ l.fn.list.items ++ within l.task.cycles (flat_map
+      (events_over l.task.groups.now l.task.spans.now l.task.all.now)
       (switches_from l.fn.first.0 l.rows));
 }

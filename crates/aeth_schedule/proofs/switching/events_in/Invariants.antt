@@ -1,5 +1,5 @@
 use Rattle.std.proofs.Common.{◌≡◌, map, take}
-use Rattle.aeth_schedule.proofs.schedule.events_in.Given as goal
+use Rattle.aeth_schedule.proofs.switching.events_in.Given as goal
 
 -- Those so far.
 abbrev pub invariant-loop-one : goal.invariant-loop-one
