@@ -82,6 +82,10 @@ else
 fi
 expect 'a file without the right to read it' 4 '' 'read fault chip' $?
 
+# The memory of a process is a file that opens, and of which no read succeeds where nothing is held.
+"$program" chip /proc/self/mem >out 2>err
+expect 'a file of which no read succeeds' 4 '' 'read fault chip' $?
+
 "$program" chip /dev/zero >out 2>err
 expect 'a file that never ends' 2 '' 'refused chip 0 TooLong 0 -' $?
 (cat pair.toml; head -c 33554433 /dev/zero | tr '\0' '#') >long
@@ -107,13 +111,34 @@ wait
 [ "$same" = 20 ]
 expect 'a file that grows while it is read, 20 times' 0 "$pair" '' $?
 
-# ---- Memory
-
 "$program" simulate pair.toml one.toml nothing nothing nothing nothing 20 >out 2>err
 expect 'the plan is the first file that is missing' 4 '' 'read fault plan' $?
+
+# ---- A long text, of which a part is written.
+
 mkdir large
 python3 "$home/bench/inputs.py" large
 "$program" allocate large/chip large/app_hops >large/plan
+
+# A file may have no more than 512 bytes: the signal that says so is ignored, so that the write fails.
+clear_texts
+(
+    trap '' XFSZ
+    ulimit -f 1
+    exec "$program" allocate large/chip large/app_hops >out 2>err
+)
+expect 'a device that is full in the middle' 5 "$(head -c 512 large/plan)" '' $?
+
+# The pipe holds less than the text, so its reader goes while the text is written.
+clear_texts
+head -c 100 <pipe >out &
+"$program" allocate large/chip large/app_hops >pipe 2>err
+status=$?
+wait
+expect 'a pipe whose reader goes in the middle' 5 "$(head -c 100 large/plan)" '' "$status"
+
+# ---- Memory
+
 for room in 24000 32000 48000 64000; do
     (
         ulimit -v "$room"

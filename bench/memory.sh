@@ -1,5 +1,5 @@
 #!/bin/sh
-# What `aeth` answers where memory is refused: at each allocation of three runs in turn, alone and with all later ones.
+# What `aeth` answers where memory is refused: at each allocation of four runs in turn, alone and with all later ones.
 # It prints for each run how it ended where one alone was refused, and ends with status 0 where all is as it must be. It
 # needs a C compiler and the C library of GNU. A word after the name of the script is the program; without one it is
 # that of `./aeth`.
@@ -29,20 +29,23 @@ run_refused() {
 }
 
 ended_for_memory() { [ "$status" = 6 ] && [ ! -s out ] && [ ! -s err ]; }
-ended_as_ever() { [ "$status" = 0 ] && cmp -s out whole && [ ! -s err ]; }
+ended_as_ever() { [ "$status" = "$ever" ] && cmp -s out whole_out && cmp -s err whole_err; }
 
 tell_failure() {
     failed=$((failed + 1))
     printf '%s: status %s without allocation %s: %s\n' "$name" "$status" "$refuse" "$(head -c 80 err)"
 }
 
-# Refuses each allocation of a run, up to the first number at which nothing is refused: there the run must end as ever.
+# Refuses each allocation of a run, up to the first number at which nothing is refused: there the run must end as ever,
+# with the status behind its name.
 # Where all later ones are refused too it must write nothing and end with status 6. So it must where one alone is; but
 # some the program does without, as room that is asked for ahead, and then it must end as ever.
 refuse_each() {
     name=$1
-    shift
-    "$program" "$@" >whole 2>err || failed=$((failed + 1))
+    ever=$2
+    shift 2
+    "$program" "$@" >whole_out 2>whole_err
+    [ $? = "$ever" ] || failed=$((failed + 1))
     number=1 ended=0 went_on=0
     while
         run_refused "$number.." "$@"
@@ -64,11 +67,13 @@ refuse_each() {
         "$name" "$ended" "$went_on" "$number"
 }
 
-refuse_each 'a plan' allocate pair.toml one.toml
-refuse_each 'a run in which five words land' \
+refuse_each 'a plan' 0 allocate pair.toml one.toml
+refuse_each 'a run in which five words land' 0 \
     simulate pair.toml one.toml one.plan one.words.csv two.receivers.csv main.switches.csv 20
-refuse_each 'a run through a switch' \
+refuse_each 'a run through a switch' 0 \
     simulate pair.toml two.toml two.plan two.words.csv two.receivers.csv two.switches.csv 24
+refuse_each 'a run whose last file is missing' 4 \
+    simulate pair.toml one.toml one.plan one.words.csv two.receivers.csv nothing 20
 
 printf '%s failed\n' "$failed"
 [ "$failed" -eq 0 ]
