@@ -14,6 +14,6 @@ pub mod SingleWord
 pub mod AloneStates
 pub mod LandingLemmas
 mod LastCounts
-mod StartSlots
 mod NextCycles
+mod SlotWalk
 mod LatencyWalk
