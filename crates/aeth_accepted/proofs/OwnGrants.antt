@@ -15,7 +15,7 @@ use Rattle.aeth_plan.proofs.MadePlans.{grants_apart}
 use Rattle.aeth_report.specs.Design.{grant_at, is_for, no_grant}
 use Rattle.aeth_report.proofs.GrantLemmas.{grant-for}
 use Rattle.aeth_tables.proofs.FindLaws.{found_is, found_some}
-use Rattle.aeth_tables.proofs.ListLaws.{place_of}
+use Rattle.aeth_tables.proofs.ListLaws.{place_in}
 use Rattle.aeth_accepted.specs.Inputs.{design_on}
 
 module _ (plan : PlanData) (is : IsPlan plan) where
@@ -34,8 +34,8 @@ module _ (plan : PlanData) (is : IsPlan plan) where
   pub same_grant : (a b : Grant) → Contains plan.grants a → Contains plan.grants b
       → a.unit ≡ b.unit → a.side ≡ b.side → a ≡ b
   same_grant a b has_a has_b units sides =
-      let (i, at_i) = place_of plan.grants a has_a in
-      let (j, at_j) = place_of plan.grants b has_b in
+      let (i, at_i) = place_in plan.grants a has_a in
+      let (j, at_j) = place_in plan.grants b has_b in
       elim (cases_lt i j) [
         | inl less ↦ absurd (not_behind i j a b less at_i at_j units sides)
         | inr past ↦ elim (cases_lt j i) [
