@@ -10,7 +10,7 @@ use Rattle.aeth_base.specs.declared.ids.LinkId.{LinkId}
 use Rattle.aeth_base.specs.declared.ids.NiId.{NiId}
 use Rattle.aeth_slots.specs.SlotSet.{Slots}
 use Rattle.aeth_slots.proofs.ChoiceLemmas.{chosen-whole, true-is_suitable}
-use Rattle.aeth_book.specs.Book.{BookData, IsBook}
+use Rattle.aeth_book.specs.Book.{BookData}
 use Rattle.aeth_book.specs.Free.{free_starts}
 use Rattle.aeth_group.proofs.ListLemmas.{any_from_passes, passes_from_any}
 use Rattle.aeth_paths.specs.declared.request.Found.{Found}
@@ -20,17 +20,18 @@ use Rattle.aeth_paths.specs.Candidates.{path_order, slots_of}
 use Rattle.aeth_paths.specs.Open.{is_crowded}
 use Rattle.aeth_paths.specs.Pairs.{HasEnds, IsOffered, OfferedFrom, Tries}
 use Rattle.aeth_paths.specs.declared.search.Task.{Task}
+use Rattle.aeth_paths.specs.Trials.{IsSized}
 use Rattle.aeth_paths.specs.Walk.{IsTask, costs_of}
 use Rattle.aeth_chip.specs.declared.node.Link.{Link}
 use Rattle.aeth_chip.specs.Paths.{IsAdmissible, IsPath}
 use Rattle.std.proofs.lemmas.Option.{none-some}
-use Rattle.aeth_paths.proofs.LiveLemmas.{free_starts-set}
+use Rattle.aeth_paths.proofs.LiveLemmas.{free_starts-set, sized}
 
 one-ni : (a b : NiId) → a.0 ≡ b.0 → a ≡ b
 one-ni a b same = ap (λ n. record { 0 = n }) same
 
 -- A pair has room exactly where it isn't one crowded interface.
-room-from : (crowded : List NiId) (a b : NiId) → (a ≡ b → Contains crowded a → ⊥)
+pub room-from : (crowded : List NiId) (a b : NiId) → (a ≡ b → Contains crowded a → ⊥)
     → is_crowded crowded a b ≡ false
 room-from crowded a b room = false_from_ne_true (is_crowded crowded a b) (λ is.
     let (same, among) = and_parts (eqb a.0 b.0) _ is in
@@ -38,16 +39,16 @@ room-from crowded a b room = false_from_ne_true (is_crowded crowded a b) (λ is.
     room (one-ni a b (eqb-true a.0 b.0 same))
     (subst (Contains crowded) (one-ni found.item a (eqb-true _ _ found.passes)) found.is_in))
 
-from-room : (crowded : List NiId) (a b : NiId) → is_crowded crowded a b ≡ false
+pub from-room : (crowded : List NiId) (a b : NiId) → is_crowded crowded a b ≡ false
     → a ≡ b → Contains crowded a → ⊥
 from-room crowded a b room same is_in =
     both_ways (is_crowded crowded a b) room
     (and_from _ _ (eq-eqb a.0 b.0 (ap (λ (n : NiId). n.0) same))
     (any_from_passes (λ (n : NiId). eqb n.0 a.0) crowded a is_in (eq-eqb a.0 a.0 refl)))
 
-module _ (book : BookData) (ask : Request) (from to crowded : List NiId) (is : IsBook book) where
+module _ (book : BookData) (ask : Request) (from to crowded : List NiId) (is : IsSized book) where
   -- A path with slots is live.
-  slots-live : (path : List LinkId) (slots : Slots) → slots_of book ask path ≡ Some slots
+  pub slots-live : (path : List LinkId) (slots : Slots) → slots_of book ask path ≡ Some slots
       → is_live book ask path ≡ true
   slots-live path slots some =
       let free : Slots = free_starts book ask.unit path in
@@ -118,7 +119,8 @@ module _ (task : Task) (from to crowded : List NiId) (is : IsTask task) where
       → (other : Found) → IsCandidate task.book.now task.ask from to crowded other → ⊥
   task-none tries other candidate =
       tries.least other.path
-      (candidate-offered task.book.now task.ask from to crowded is.is_book other candidate)
+      (candidate-offered task.book.now task.ask from to crowded
+      (sized task.book.now is.is_book) other candidate)
 
   -- A path that is best has ends.
   pub task-ends : (path : List LinkId) → Tries (costs_of task) None (Some path)
@@ -154,5 +156,6 @@ module _ (task : Task) (from to crowded : List NiId) (is : IsTask task) where
             subst (λ (p : List LinkId). path_order (costs_of task) other.path p ≢ Less) (sym same)
             (not-less (path_order (costs_of task) other.path path)
             (tries.least other.path
-            (candidate-offered task.book.now task.ask from to crowded is.is_book other candidate)));
+            (candidate-offered task.book.now task.ask from to crowded
+            (sized task.book.now is.is_book) other candidate)));
       }

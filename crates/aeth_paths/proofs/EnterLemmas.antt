@@ -30,7 +30,7 @@ use Rattle.aeth_paths.specs.declared.request.Request.{Request}
 use Rattle.aeth_paths.specs.Candidates.{gap_on, is_live}
 use Rattle.aeth_paths.proofs.EndLemmas.{path-all, path-delay-some, path-last, path-some}
 use Rattle.aeth_base.proofs.Members.{Contains-slice_get}
-use Rattle.aeth_paths.proofs.LiveLemmas.{free_starts-set, true_from}
+use Rattle.aeth_paths.proofs.LiveLemmas.{free_starts-set, sized, true_from}
 use Rattle.aeth_paths.proofs.NearLemmas.{gap-near, moved-comes}
 
 -- The last link of a path, behind the others.
@@ -114,7 +114,7 @@ enters-suitable : (book : BookData) (ask : Request) (path : List LinkId) (last :
 enters-suitable book ask path last is some live =
     let free : Slots = free_starts book ask.unit (path ++ last ∷ []) in
     let its : Slots = free_starts book ask.unit (last ∷ []) in
-    let set = free_starts-set book ask (path ++ last ∷ []) is in
+    let set = free_starts-set book ask (path ++ last ∷ []) (sized book is) in
     let suitable = is_suitable-true ask.need (gap_on book ask (path ++ last ∷ [])) free live in
     let near : gap_of free ≤ ask.latency = omega (arith, suitable.near, some) in
     let has : (from : ℕ) → HasSlot book.size free.slots from ask.latency =
@@ -125,7 +125,7 @@ enters-suitable book ask path last is some live =
     record {
       some = omega (arith, some');
       enough = omega (arith, some');
-      near = gap-near its ask.latency (free_starts-set book ask (last ∷ []) is) comes;
+      near = gap-near its ask.latency (free_starts-set book ask (last ∷ []) (sized book is)) comes;
     }
 
 -- Where it doesn't, each path that ends with it is dead.

@@ -5,7 +5,7 @@ use Rattle.std.proofs.Common.{inr, arith}
 use Rattle.std.proofs.lemmas.Bool.{and_parts, both_ways, eqb-true, false≢true, not-true}
 use Rattle.std.proofs.lemmas.Bool.{false_from_ne_true, or_from, or_parts, or_right}
 use Rattle.std.proofs.lemmas.List.Folds.{list_any-append}
-use Rattle.std.proofs.lemmas.Option.{get_or_from_slice_get, slice_get-get_or, slice_get_within}
+use Rattle.std.proofs.lemmas.Option.{slice_get-get_or}
 use Rattle.aeth_base.proofs.Lists.{map-nil}
 use Rattle.aeth_base.proofs.Members.{Contains-slice_get}
 use Rattle.aeth_base.specs.declared.ids.LinkId.{LinkId}

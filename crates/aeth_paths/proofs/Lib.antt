@@ -1,7 +1,7 @@
 pub mod FirstLemmas
-mod JoinLemmas
+pub mod JoinLemmas
 mod WalkLemmas
-mod LiveLemmas
+pub mod LiveLemmas
 mod GiveUpLemmas
 mod StepLemmas
 mod PrefixLemmas

@@ -1,6 +1,6 @@
 -- A list of links whose free starts are dead stays so, however it goes on.
 use Rattle.std.proofs.Common.{◌≡◌, ◌∙◌, ◌+◌, ◌≤◌, ◌++◌, ◌%◌, ℕ, Bool, true, false, cond, not}
-use Rattle.std.proofs.Common.{List, [], ◌∷◌, filter, Contains, sym, refl, ap, subst, arith}
+use Rattle.std.proofs.Common.{List, [], ◌∷◌, filter, Contains, sym, ap, subst, arith}
 use Rattle.std.proofs.Common.{append_assoc, length, leb, max, IsTrue, ◌↔◌, rules}
 use Rattle.std.proofs.lemmas.Bool.{both_ways, false_from_ne_true, le-leb, leb-true}
 use Rattle.std.proofs.lemmas.List.{append-nil}
@@ -20,12 +20,17 @@ use Rattle.aeth_book.specs.Free.{free_starts, is_open, is_taken, narrowed}
 use Rattle.aeth_book.proofs.FreeLemmas.{free-push}
 use Rattle.aeth_paths.specs.declared.request.Request.{Request}
 use Rattle.aeth_paths.specs.Candidates.{gap_on, is_live}
+use Rattle.aeth_paths.specs.Trials.{IsSized}
 
 pub true_from : (b : Bool) → IsTrue b → b ≡ true
 true_from b test = search rules
 
 pub from_true : (b : Bool) → b ≡ true → IsTrue b
 from_true b test = search rules
+
+-- The tables of a book are sized.
+pub sized : (book : BookData) → IsBook book → IsSized book
+sized book is = record { some_size = is.some_size; within = is.within }
 
 -- What a filter leaves is a sublist.
 filter-sublist : (test : ℕ → Bool) (xs : List ℕ) → Contains (sublists xs) (filter test xs)
@@ -41,7 +46,7 @@ filter-sublist test (x ∷ xs) =
     in go (test x)
 
 -- The free starts of a path are a slot set.
-pub free_starts-set : (book : BookData) (ask : Request) (path : List LinkId) → IsBook book
+pub free_starts-set : (book : BookData) (ask : Request) (path : List LinkId) → IsSized book
     → IsSlotSet (free_starts book ask.unit path)
 free_starts-set book ask path is = record {
   some_size = is.some_size;
@@ -101,7 +106,7 @@ path_delay-push book path link =
     (sum_by-cons (delay_of book.links) link [] ∙ omega arith)
 
 -- With one more link no slots become suitable.
-dead-push : (book : BookData) (ask : Request) (path : List LinkId) (link : LinkId) → IsBook book
+dead-push : (book : BookData) (ask : Request) (path : List LinkId) (link : LinkId) → IsSized book
     → is_live book ask path ≡ false → is_live book ask (path ++ link ∷ []) ≡ false
 dead-push book ask path link is dead =
     let free : Slots = free_starts book ask.unit path in
@@ -126,7 +131,7 @@ dead-push book ask path link is dead =
     ((x + path_delay book.links path) % book.size))) free.slots)) suitable)))
 
 -- With any further links none do.
-pub dead-stays : (book : BookData) (ask : Request) (path rest : List LinkId) → IsBook book
+pub dead-stays : (book : BookData) (ask : Request) (path rest : List LinkId) → IsSized book
     → is_live book ask path ≡ false → is_live book ask (path ++ rest) ≡ false
 dead-stays book ask path [] is dead = rw (append-nil path) dead
 dead-stays book ask path (link ∷ rest) is dead =

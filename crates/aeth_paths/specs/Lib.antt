@@ -8,3 +8,4 @@ pub mod Over
 pub mod OpenLists
 pub mod Open
 pub mod Pairs
+pub mod Trials

@@ -7,7 +7,9 @@ pub mod laws;
 mod pairs;
 mod request;
 mod search;
+mod trial;
 
 pub use cost::Cost;
 pub use pairs::{find, find_counted};
 pub use request::{Found, Request};
+pub use trial::Trial;

@@ -1,4 +1,4 @@
-use Rattle.std.proofs.Common.{◌≡◌, ◌∙◌, ℕ, List, ap, arith, not, sym, subst}
+use Rattle.std.proofs.Common.{◌∙◌, ℕ, List, ap, arith, sym, subst}
 use Rattle.std.specs.Prelude.{sum_by}
 use Rattle.std.proofs.lemmas.List.{take_all}
 use Rattle.aeth_base.specs.declared.ids.NiId.{NiId}

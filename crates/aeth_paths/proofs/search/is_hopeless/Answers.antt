@@ -6,7 +6,7 @@ use Rattle.aeth_paths.specs.Walk.{IsLeastFrom, field_of, path_in}
 use Rattle.aeth_paths.proofs.GiveUpLemmas.{dead-none, far-none, nowhere-none}
 use Rattle.aeth_paths.proofs.HopelessLemmas.{least-told, open-from, task-near, task-never}
 use Rattle.aeth_paths.proofs.HopelessLemmas.{task-outdone}
-use Rattle.aeth_paths.proofs.LiveLemmas.{dead-stays, true_from}
+use Rattle.aeth_paths.proofs.LiveLemmas.{dead-stays, sized, true_from}
 use Rattle.aeth_paths.proofs.search.is_hopeless.Goals as goal
 
 -- No path leads to the goal.
@@ -41,8 +41,8 @@ returns-clause-none c given =
     let task = c.args.task.now in
     dead-none (field_of task c.args.goal.now) (path_in c.args.best.now) c.args.prefix.now.end
     c.args.prefix.now.path
-    (λ rest. dead-stays task.book.now task.ask c.args.prefix.now.path rest c.requires.task.is_book
-    (sym c.is_live.ensures ∙ not-true _ (true_from _ given)))
+    (λ rest. dead-stays task.book.now task.ask c.args.prefix.now.path rest
+    (sized task.book.now c.requires.task.is_book) (sym c.is_live.ensures ∙ not-true _ (true_from _ given)))
 
 -- Else it is open.
 pub returns-clause-open : goal.returns-clause-open
