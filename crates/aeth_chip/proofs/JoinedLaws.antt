@@ -3,13 +3,13 @@
 use Rattle.std.proofs.Common.{◌≡◌, ◌∙◌, ◌+◌, ◌++◌, suc, List, [], ◌∷◌, length}
 use Rattle.std.proofs.Common.{map, Contains, refl, sym, ap, subst, inl, inr, arith}
 use Rattle.std.proofs.Common.{length-append}
-use Rattle.std.proofs.lemmas.List.{length-map, map-append}
+use Rattle.std.proofs.lemmas.List.{length-map}
 use Rattle.std.proofs.lemmas.List.Elements.{Contains-append_left, Contains-append_cases}
 use Rattle.aeth_base.proofs.Members.{Contains-cases, Contains-nil}
 use Rattle.aeth_base.specs.declared.ids.LinkId.{LinkId}
 use Rattle.aeth_base.specs.declared.ids.RouterId.{RouterId}
 use Rattle.aeth_chip.specs.Joined.{IsJoined, end_of}
-use Rattle.aeth_chip.specs.Paths.{AreDistinct, BeginsAt, IsLinkFrom, IsOpen, Joins, ends_of, to_in}
+use Rattle.aeth_chip.specs.Paths.{AreDistinct, BeginsAt, IsLinkFrom, Joins, to_in}
 use Rattle.aeth_chip.specs.Paths.{to_of}
 use Rattle.aeth_chip.specs.declared.node.Link.{Link}
 use Rattle.aeth_chip.specs.declared.node.Node.{Node}

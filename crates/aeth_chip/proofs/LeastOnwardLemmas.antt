@@ -1,9 +1,9 @@
 -- Laws of the least number of links from a router as a function: it is the least number that the
 -- relation `IsOnwardDistance` tells, and the only one.
-use Rattle.std.proofs.Common.{◌≡◌, ◌∙◌, ◌+◌, ◌<◌, ◌≤◌, ℕ, List, [], ◌∷◌, Option, length, not, refl}
+use Rattle.std.proofs.Common.{◌≡◌, ◌∙◌, ◌+◌, ℕ, List, [], ◌∷◌, Option, length, not}
 use Rattle.std.proofs.Common.{sym, ap, arith}
 use Rattle.std.specs.Bool.{Decides}
-use Rattle.std.proofs.lemmas.Bool.{and_from, and_parts, and_right, false≢true}
+use Rattle.std.proofs.lemmas.Bool.{and_from, and_parts, false≢true}
 use Rattle.aeth_base.specs.Extremes.{least_below}
 use Rattle.aeth_base.specs.declared.ids.LinkId.{LinkId}
 use Rattle.aeth_base.specs.declared.ids.NiId.{NiId}
@@ -14,7 +14,7 @@ use Rattle.aeth_chip.specs.Chip.{ChipData, IsChip}
 use Rattle.aeth_chip.specs.Distances.{AreBelow}
 use Rattle.aeth_chip.specs.LeastDistance.{below}
 use Rattle.aeth_chip.specs.LeastOnward.{has_onward, is_onward, least_onward}
-use Rattle.aeth_chip.specs.PathTests.{follows, is_fresh}
+use Rattle.aeth_chip.specs.PathTests.{is_fresh}
 use Rattle.aeth_chip.specs.Paths.{IsOnward, IsOnwardDistance}
 use Rattle.aeth_chip.proofs.JoinedLaws.{joins-length, joins-none}
 use Rattle.aeth_chip.proofs.LeastDistanceLemmas.{IsLeast-unique, joined-within, least-is}

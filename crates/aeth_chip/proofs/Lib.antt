@@ -1,4 +1,4 @@
-mod Pushes
+pub mod Pushes
 pub mod NameLemmas
 mod RangeLemmas
 mod PortLemmas

@@ -1,6 +1,6 @@
 -- Laws of the lists of the places from which a link leads to a place.
 use Rattle.std.proofs.Common.{◌≡◌, ◌≢◌, ◌⊎◌, ◌∙◌, ◌+◌, ◌<◌, ◌≤◌, ◌++◌, ℕ, List, [], ◌∷◌, length}
-use Rattle.std.proofs.Common.{take, get_or, Contains, refl, sym, subst, inl, inr, arith}
+use Rattle.std.proofs.Common.{take, get_or, Contains, sym, subst, inl, inr, arith}
 use Rattle.std.specs.declared.vec.Vec.{Vec}
 use Rattle.std.specs.declared.alloc.Global.{Global}
 use Rattle.std.proofs.lemmas.Bool.{cases_eq}

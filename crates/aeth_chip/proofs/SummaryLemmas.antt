@@ -1,7 +1,7 @@
 -- Laws of the summary of a chip: what one more interface adds, what a loop over all pairs keeps,
 -- and how many pairs have no path at most.
 use Rattle.std.proofs.Common.{◌≡◌, ◌∙◌, ◌+◌, ◌*◌, ◌<◌, ◌≤◌, ◌++◌, ℕ, zero, suc, cond, max, List, []}
-use Rattle.std.proofs.Common.{◌∷◌, Option, Some, None, length, refl, sym, ap, add-one, append_assoc}
+use Rattle.std.proofs.Common.{◌∷◌, Option, Some, None, length, sym, ap, add-one, append_assoc}
 use Rattle.std.proofs.Common.{length-append, arith}
 use Rattle.std.specs.Prelude.{count_by, fold, filter_map, flat_map}
 use Rattle.std.specs.List.{range_with_len}

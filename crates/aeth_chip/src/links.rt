@@ -4,11 +4,11 @@ ghost use Rattle.std.specs.List.{AllByRecursion};
 ghost use Rattle.aeth_chip.specs.ChipFile.{unknown_end};
 ghost use Rattle.aeth_chip.specs.Told.{HasDelay, delay_at, known, link_of, node_of};
 ghost use Rattle.aeth_document.specs.Arrays.{tables_in};
-ghost use Rattle.aeth_document.specs.Walks.{walked};
+ghost use Rattle.aeth_document.specs.Walks.{first_broken};
 ghost use Rattle.toml.specs.View.{table_view};
 
 use crate::node::{Link, Node};
-use aeth_base::{Name, NiId, NoMemory, RouterId};
+use aeth_base::{Broken, Name, NiId, NoMemory, RouterId};
 use aeth_document::{Shown, Tables, Walk, integer_if, place_of, shown_text, size, text_at};
 use indexmap::IndexSet;
 use std::alloc::Global;
@@ -46,38 +46,6 @@ fn node_of(names: &Names, text: &str) -> Option<Node>
     }
 }
 
-fn unknown_end(names: &Names, link: &Table) -> Option<Shown>
-    requires routers { length names.now.routers.keys < 2 ^ 32 }
-    requires nis { length names.now.nis.keys < 2 ^ 32 }
-    ensures { result
-        ≡ unknown_end names.now.routers.keys names.now.nis.keys (table_view link.now) }
-{
-    let from = text_at(link, "from");
-    if node_of(names, from).is_none() {
-        return Some(shown_text(from));
-    }
-    let to = text_at(link, "to");
-    if node_of(names, to).is_none() {
-        return Some(shown_text(to));
-    }
-    None
-}
-
-/// The walk after a check of each link's ends, which are to be known.
-#[tactic(auto, unfolding(aeth_document::specs::Walks::walked))]
-pub(crate) fn unknown_ends(walk: Walk, names: &Names, links: Tables<'_>) -> Walk
-    requires routers { length names.now.routers.keys < 2 ^ 32 }
-    requires nis { length names.now.nis.keys < 2 ^ 32 }
-    ensures { result ≡ walked walk
-        (map (unknown_end names.now.routers.keys names.now.nis.keys) (tables_in links.entry)) }
-{
-    let mut walk = walk;
-    for link in links {
-        walk = walk.check(unknown_end(names, link));
-    }
-    walk
-}
-
 // A node that may be unknown; router 0 stands for an unknown one.
 fn known(node: Option<Node>) -> Node
     ensures { result ≡ known node }
@@ -88,34 +56,56 @@ fn known(node: Option<Node>) -> Node
     }
 }
 
-fn link_of(names: &Names, link: &Table) -> Link
+// The link of a table, and the first of its ends that names no node.
+fn told_link(names: &Names, table: &Table) -> (Link, Option<Shown>)
     requires routers { length names.now.routers.keys < 2 ^ 32 }
     requires nis { length names.now.nis.keys < 2 ^ 32 }
-    requires delay { HasDelay (table_view link.now) }
-    ensures { result ≡ link_of names.now.routers.keys names.now.nis.keys (table_view link.now) }
+    requires delay { HasDelay (table_view table.now) }
+    ensures link { result.0
+        ≡ link_of names.now.routers.keys names.now.nis.keys (table_view table.now) }
+    ensures unknown { result.1
+        ≡ unknown_end names.now.routers.keys names.now.nis.keys (table_view table.now) }
 {
-    Link {
-        from: known(node_of(names, text_at(link, "from"))),
-        to: known(node_of(names, text_at(link, "to"))),
-        delay: size(delay_at(link)) as u32,
-    }
+    let from = text_at(table, "from");
+    let to = text_at(table, "to");
+    let begins = node_of(names, from);
+    let ends = node_of(names, to);
+    let unknown = if begins.is_none() {
+        Some(shown_text(from))
+    } else if ends.is_none() {
+        Some(shown_text(to))
+    } else {
+        None
+    };
+    let link = Link {
+        from: known(begins),
+        to: known(ends),
+        delay: size(delay_at(table)) as u32,
+    };
+    (link, unknown)
 }
 
-/// The links of the tables.
+/// The links of the tables, and the first of their ends that names no node.
+#[tactic(auto, using(aeth_document::proofs::WalkLemmas::walk_laws), unfolding(aeth_document::specs::Walks::walked))]
 pub(crate) fn links_of(
     alloc: Global,
     names: &Names,
     tables: Tables<'_>,
-) -> Result<Vec<Link>, NoMemory>
+) -> Result<(Vec<Link>, Option<Broken>), NoMemory>
     requires routers { length names.now.routers.keys < 2 ^ 32 }
     requires nis { length names.now.nis.keys < 2 ^ 32 }
     requires delays { AllByRecursion HasDelay (tables_in tables) }
-    ensures { IfOk result (λ links. links.items
+    ensures links { IfOk result (λ told. told.0.items
         ≡ map (link_of names.now.routers.keys names.now.nis.keys) (tables_in tables.entry)) }
+    ensures unknown { IfOk result (λ told. told.1 ≡ first_broken 0
+        (map (unknown_end names.now.routers.keys names.now.nis.keys) (tables_in tables.entry))) }
 {
     let mut links = Vec::new(alloc);
+    let mut walk = Walk::from(0);
     for table in tables {
-        links.push(link_of(names, table))?;
+        let (link, unknown) = told_link(names, table);
+        links.push(link)?;
+        walk = walk.check(unknown);
     }
-    Ok(links)
+    Ok((links, walk.found()))
 }

@@ -9,7 +9,7 @@ ghost use Rattle.aeth_chip.specs.ChipFile.{nis_are_single, numbers, ports_are_fe
 ghost use Rattle.aeth_chip.specs.ChipParts.{chip_with};
 ghost use Rattle.aeth_chip.specs.Faults.{rule_of};
 ghost use Rattle.aeth_chip.specs.Limits.{max_links, max_nis, max_routers};
-ghost use Rattle.aeth_chip.specs.Told.{nis_of, routers_of, slots_of, version_of};
+ghost use Rattle.aeth_chip.specs.Told.{nis_of, routers_of, slots_of, told_links, version_of};
 ghost use Rattle.aeth_document.specs.Walks.{first_broken, repeats, size_of, walked};
 ghost use Rattle.toml.specs.View.{table_view};
 
@@ -17,7 +17,7 @@ use crate::chip::{Chip, MAX_LINKS, MAX_NIS, MAX_ROUTERS, MAX_SLOTS_OF_VERSION_1}
 use crate::fault::ChipFault;
 use crate::index::index_of;
 use crate::keys::{allows_delays, judge_keys, link_tables, nis_of, routers_of, version_of};
-use crate::links::{Names, delay_at, links_of, unknown_ends};
+use crate::links::{Names, delay_at, links_of};
 use crate::node::Link;
 use crate::ports::{crowded_routers, unjoined_nis};
 use aeth_base::{Broken, MAX_LINK_DELAY, MAX_SLOTS, NoMemory, Shown};
@@ -115,17 +115,22 @@ fn names_in(alloc: Global, root: &Table) -> Result<Names, NoMemory>
     Ok(Names { routers, nis })
 }
 
-#[tactic(auto, unfolding(crate::specs::ChipFile::ends_are_known), using(aeth_document::proofs::WalkLemmas::walk_laws))]
-fn judge_ends(names: &Names, root: &Table) -> Result<(), ChipFault>
+// The links of a file whose routers and network interfaces have these names, or the first that has
+// an end without a name of these.
+#[tactic(auto, unfolding(crate::specs::ChipFile::ends_are_known))]
+fn known_links(alloc: Global, root: &Table, names: &Names) -> Result<Vec<Link>, ChipFault>
+    requires keys { keys_fit (table_view root.now) ≡ Ok tt }
+    requires range { is_in_range (table_view root.now) ≡ Ok tt }
     requires routers { names.now.routers.keys ≡ routers_of (table_view root.now) }
     requires nis { names.now.nis.keys ≡ nis_of (table_view root.now) }
     requires few_routers { length names.now.routers.keys ≤ max_routers }
     requires few_nis { length names.now.nis.keys ≤ max_nis }
-    ensures { Reads rule_of (λ u. u) result (ends_are_known (table_view root.now)) }
+    ensures gives { Reads rule_of (λ _. tt) result (ends_are_known (table_view root.now)) }
+    ensures links { IfOk result (λ links. links.items ≡ told_links (table_view root.now)) }
 {
-    let walk = unknown_ends(Walk::from(0), names, link_tables(root));
-    match walk.found() {
-        None => Ok(()),
+    let (links, unknown) = links_of(alloc, names, link_tables(root))?;
+    match unknown {
+        None => Ok(links),
         Some(broken) => Err(ChipFault::UnknownName(broken)),
     }
 }
@@ -172,8 +177,7 @@ fn judged_links(alloc: Global, root: &Table, names: &Names) -> Result<Vec<Link>,
     requires few_nis { length names.now.nis.keys ≤ max_nis }
     ensures { Reads rule_of (λ links. links.items) result (judged_links (table_view root.now)) }
 {
-    judge_ends(names, root)?;
-    let links = links_of(alloc, names, link_tables(root))?;
+    let links = known_links(alloc, root, names)?;
     judge_ports(names.routers.len() as u32, &links)?;
     judge_nis(root, &links)?;
     Ok(links)

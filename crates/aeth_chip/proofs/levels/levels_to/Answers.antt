@@ -1,8 +1,8 @@
-use Rattle.std.proofs.Common.{◌≡◌, ◌∙◌, ℕ, ◌+◌, ◌++◌, List, [], Option, None, take, drop, length}
+use Rattle.std.proofs.Common.{◌≡◌, ◌∙◌, ℕ, ◌+◌, List, [], Option, None, length}
 use Rattle.std.proofs.Common.{vec_len, nat_eq, Bool, true, false, rules, Contains, refl, ap, subst}
 use Rattle.std.proofs.Common.{sym, arith}
 use Rattle.std.specs.Prelude.{replicate}
-use Rattle.std.proofs.lemmas.List.{take_all, drop_all, append-nil, nil_from_length}
+use Rattle.std.proofs.lemmas.List.{nil_from_length}
 use Rattle.std.proofs.lemmas.Bool.{eqb-true, eqb-false}
 use Rattle.aeth_base.proofs.Lists.{written_back}
 use Rattle.aeth_chip.specs.Levels.{IsOrigin}

@@ -1,9 +1,13 @@
-use Rattle.std.proofs.Common.{append_assoc}
+use Rattle.std.proofs.Common.{◌∙◌, ◌∷◌, [], append_assoc, map}
+use Rattle.toml.specs.View.{table_view}
+use Rattle.aeth_document.specs.Arrays.{tables_in}
+use Rattle.aeth_document.proofs.WalkLemmas.{walked-append}
+use Rattle.aeth_chip.specs.ChipFile.{unknown_end}
 use Rattle.aeth_chip.proofs.links.links_of.Goals as goal
 
 -- The delay of the first table that is left.
-pub link_of-requires-clause-delay : goal.link_of-requires-clause-delay
-link_of-requires-clause-delay c =
+pub told_link-unknown-requires-clause-delay : goal.told_link-unknown-requires-clause-delay
+told_link-unknown-requires-clause-delay c =
     let before = rw c.in-Some.ensures.steps at c.loop-table.invariant in
     before.delays.0
 
@@ -11,7 +15,12 @@ link_of-requires-clause-delay c =
 pub loop-table-preserved : goal.loop-table-preserved
 loop-table-preserved c =
     let before = rw c.in-Some.ensures.steps at c.loop-table.invariant in
+    let shown = unknown_end c.args.names.now.routers.keys c.args.names.now.nis.keys in
     record {
-      links = rw (c.in_ok-push.ensures.items, append_assoc, c.link_of.ensures) before.links;
+      links = rw (c.in_ok-push.ensures.items, append_assoc, c.told_link-unknown.ensures.link)
+          before.links;
+      unknown = rw (c.check-walk.ensures, c.told_link-unknown.ensures.unknown)
+          (walked-append c.loop-table.walk (shown (table_view c.in-Some.table.now) ∷ [])
+          (map shown (tables_in c.next.new.self)) ∙ before.unknown);
       delays = before.delays.1;
     }

@@ -1,7 +1,10 @@
 use Rattle.std.proofs.Common.{◌≡◌, ◌++◌, map}
 use Rattle.std.specs.List.{AllByRecursion}
+use Rattle.aeth_chip.specs.ChipFile.{unknown_end}
 use Rattle.aeth_chip.specs.Told.{HasDelay, link_of}
 use Rattle.aeth_document.specs.Arrays.{tables_in}
+use Rattle.aeth_document.specs.Walks.{walked}
+use Rattle.aeth_document.specs.declared.walk.Walk.TheVariants.{At}
 use Rattle.aeth_chip.proofs.links.links_of.Given as goal
 
 abbrev pub invariant-loop-table : goal.invariant-loop-table
@@ -9,5 +12,9 @@ invariant-loop-table l = record {
   links : l.links.items
       ++ map (link_of l.names.routers.keys l.names.nis.keys) (tables_in l.table-iterator)
       ≡ map (link_of l.names.routers.keys l.names.nis.keys) (tables_in l.fn.tables);
+  unknown : walked l.walk
+      (map (unknown_end l.names.routers.keys l.names.nis.keys) (tables_in l.table-iterator))
+      ≡ walked (At 0)
+      (map (unknown_end l.names.routers.keys l.names.nis.keys) (tables_in l.fn.tables));
   delays : AllByRecursion HasDelay (tables_in l.table-iterator);
 }
