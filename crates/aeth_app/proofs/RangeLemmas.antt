@@ -1,11 +1,9 @@
 -- What holds where no number and no name of an application file is out of its range.
-use Rattle.std.proofs.Common.{◌≡◌, ◌++◌, ℕ, true, List, [], ◌∷◌, None, All, length, map, inl, inr}
+use Rattle.std.proofs.Common.{◌≡◌, ◌++◌, ℕ, List, [], ◌∷◌, None, All, length, map}
 use Rattle.std.specs.Prelude.{codes, flat_map}
-use Rattle.std.proofs.lemmas.Bool.{cases_Bool}
 use Rattle.std.proofs.lemmas.List.Elements.{All-cons, All-nil}
 use Rattle.toml.specs.Data.{Members}
 use Rattle.aeth_base.specs.Limits.{max_receiver_delay}
-use Rattle.aeth_base.specs.Name.{is_name}
 use Rattle.aeth_document.specs.Values.{integer_at, text_at}
 use Rattle.aeth_document.specs.Walks.{first_broken, next_place, no_name}
 use Rattle.aeth_document.proofs.WalkLemmas.{first_broken-after, first_broken-before}

@@ -1,14 +1,8 @@
 -- What holds where no name of an application file stands twice.
-use Rattle.std.proofs.Common.{◌≡◌, ◌++◌, ℕ, List, [], ◌∷◌, None, append_assoc, inl, inr}
-use Rattle.std.specs.List.{IsDistinct, list_any}
+use Rattle.std.proofs.Common.{◌≡◌, ◌++◌, [], None}
 use Rattle.std.specs.Prelude.{flat_map}
-use Rattle.std.specs.Str.{bytes_eq}
-use Rattle.std.proofs.lemmas.Bool.{cases_Bool}
-use Rattle.std.proofs.lemmas.Cmp.{nat_list_eq_equiv}
-use Rattle.std.proofs.lemmas.List.{append-nil}
-use Rattle.std.proofs.lemmas.Map.Keys.{IsDistinct-push}
 use Rattle.toml.specs.Data.{Members}
-use Rattle.aeth_document.specs.Walks.{first_broken, next_place, repeats}
+use Rattle.aeth_document.specs.Walks.{repeats}
 use Rattle.aeth_document.proofs.WalkLemmas.{distinct-from_walk, first_broken-after}
 use Rattle.aeth_document.proofs.WalkLemmas.{first_broken-before}
 use Rattle.aeth_app.specs.Repeats.{HasDistinctNames, name_twice, repeat_checks}
