@@ -1,11 +1,12 @@
 -- Laws of files that are read and judged, one after the other.
 use Rattle.std.proofs.Common.{◌≡◌, ◌≢◌, ◌≤◌, ◌<◌, IfOk, ℕ, List, length, Option, Some, Result, Ok, Err}
-use Rattle.std.proofs.Common.{zero, suc, ◌+◌, [], ◌∷◌, None, ap, refl, sym, subst, arith}
+use Rattle.std.proofs.Common.{zero, suc, ◌+◌, ◌∙◌, [], ◌∷◌, None, ap, refl, sym, subst, arith}
 use Rattle.std.proofs.Common.{if◌then◌else◌}
 use Rattle.std.specs.Prelude.{nat_le}
 use Rattle.std.proofs.lemmas.Bool.{le-leb, lt-leb}
 use Rattle.aeth_base.specs.Faults.{BrokenRule, Reads}
 use Rattle.aeth_base.specs.declared.memory.NoMemory.{NoMemory}
+use Rattle.aeth_io.specs.Causes.{IsFaultless}
 use Rattle.aeth_io.specs.Limits.{max_file_bytes}
 use Rattle.aeth_answers.specs.declared.answer.Stop.{Stop}
 use Rattle.aeth_answers.specs.declared.answer.Stop.TheVariants.{Ends, Memory}
@@ -15,6 +16,7 @@ use Rattle.aeth_answers.specs.Job.{Job, done, not_granted}
 use Rattle.aeth_answers.specs.Places.{Files, IsAfter}
 use Rattle.aeth_answers.specs.Status.{read_fault_status, refused_status, usage_status}
 use Rattle.aeth_answers.specs.Stop.{Answers, Ended, GivesOrEnds, HandsOn, IfAnswer, Judges, Leaves}
+use Rattle.aeth_answers.specs.Stop.{UnlessEnds}
 use Rattle.aeth_answers.specs.Task.{ComesTo, IsAnswer, Judging, OnTold, Task, ends}
 use Rattle.aeth_answers.proofs.TaskLemmas.{IsAfter-same, IsAfter-then, IsAnswer-ends, Leaves-reads}
 
@@ -60,16 +62,32 @@ IsAnswer-too_long old new file name next answer long is =
       fault = λ fault. absurd (omega (arith, refused, fault));
     }
 
+-- What holds over the same files holds of whatever a call comes to there.
+pub UnlessEnds-same : {X : Type 0} (now : Files) (came : Result X Stop)
+    → UnlessEnds came (IsFaultless now.faults now.faults)
+UnlessEnds-same now (Ok value) = λ name. refl
+UnlessEnds-same now (Err (Ends answer)) = tt
+UnlessEnds-same now (Err Memory) = λ name. refl
+
+-- No call failed, and then none failed, unless the task ends.
+UnlessEnds-then : {X : Type 0} (old now new : Files) (came : Result X Stop)
+    → IsFaultless old.faults now.faults → UnlessEnds came (IsFaultless now.faults new.faults)
+    → UnlessEnds came (IsFaultless old.faults new.faults)
+UnlessEnds-then old now new (Ok value) first more = λ name. more name ∙ first name
+UnlessEnds-then old now new (Err (Ends answer)) first more = tt
+UnlessEnds-then old now new (Err Memory) first more = λ name. more name ∙ first name
+
 -- What begins with a judging that ends the task ends it.
 pub Judges-stopped : {X Y A B : Type 0} (old now : Files) (first : Judging A) (part : A → Judging B)
     (view : X → A) (whole : Y → B) (stop : Stop) → Judges old now first view (Err stop)
     → Judges {X = Y} {A = B} old now (λ next. first (λ value. part value next)) whole (Err stop)
 Judges-stopped old now first part view whole (Ends answer) took = record {
   after = took.after;
+  faultless = tt;
   judges = λ next. took.judges (λ value. part value next);
 }
 Judges-stopped old now first part view whole Memory took =
-    record { after = took.after; judges = tt }
+    record { after = took.after; faultless = took.faultless; judges = tt }
 
 -- A judging gave a value, and another then judges what comes of the value.
 pub Judges-then : {X Y A B : Type 0} (old now new : Files) (first : Judging A) (part : A → Judging B)
@@ -78,15 +96,20 @@ pub Judges-then : {X Y A B : Type 0} (old now new : Files) (first : Judging A) (
     → Judges old new (λ next. first (λ value. part value next)) whole came
 Judges-then old now new first part view value whole (Ok result) took more = record {
   after = IsAfter-then old now new took.after more.after;
+  faultless = UnlessEnds-then old now new (Ok result) took.faultless more.faultless;
   judges = λ next newer answer answers. took.judges (λ value. part value next) newer answer
       (more.judges next newer answer answers);
 }
 Judges-then old now new first part view value whole (Err (Ends answer)) took more = record {
   after = IsAfter-then old now new took.after more.after;
+  faultless = tt;
   judges = λ next. took.judges (λ value. part value next) new answer (more.judges next);
 }
-Judges-then old now new first part view value whole (Err Memory) took more =
-    record { after = IsAfter-then old now new took.after more.after; judges = tt }
+Judges-then {Y = Y} old now new first part view value whole (Err Memory) took more = record {
+  after = IsAfter-then old now new took.after more.after;
+  faultless = UnlessEnds-then {X = Y} old now new (Err Memory) took.faultless more.faultless;
+  judges = tt;
+}
 
 -- A judging gave a value, of which another value is made.
 pub Judges-made : {X Y A B : Type 0} (old new : Files) (first : Judging A) (made_of : A → B)
@@ -95,6 +118,7 @@ pub Judges-made : {X Y A B : Type 0} (old new : Files) (first : Judging A) (made
     → Judges old new (λ next. first (λ value. next (made_of value))) whole (Ok made)
 Judges-made {B = B} old new first made_of view value whole made is took = record {
   after = took.after;
+  faultless = took.faultless;
   judges = λ next newer answer answers. took.judges (λ value. next (made_of value)) newer answer
       (subst (λ (one : B). IsAnswer new newer (next one) answer) is answers);
 }
@@ -120,6 +144,7 @@ pub Judges-told : {X E A : Type 0} (now : Files) (file : List ℕ) (rule_of : E 
     → Judges now now (judgement file told) view came
 Judges-told now file rule_of view told read came reads hands = record {
   after = IsAfter-same now;
+  faultless = UnlessEnds-same now came;
   judges = gives-told now file rule_of view told read came reads hands;
 }
 
@@ -136,9 +161,9 @@ pub Answers-stopped : {X A : Type 0} (old new : Files) (judging : Judging A) (vi
     (next : A → Task) (stop : Stop) → Judges old new judging view (Err stop)
     → Answers old new (judging next) (Err stop)
 Answers-stopped old new judging view next (Ends answer) took =
-    record { after = took.after; answers = took.judges next }
+    record { after = took.after; faultless = tt; answers = took.judges next }
 Answers-stopped old new judging view next Memory took =
-    record { after = took.after; answers = tt }
+    record { after = took.after; faultless = took.faultless; answers = tt }
 
 -- What answers what is left of a task answers the task.
 left-answered : (old now new : Files) (task rest : Task) (came : Result Job Stop)
@@ -155,6 +180,7 @@ pub Answers-then : {X A : Type 0} (old now new : Files) (judging : Judging A) (v
     → Answers old new (judging next) came
 Answers-then old now new judging view value next came took more = record {
   after = IsAfter-then old now new took.after more.after;
+  faultless = UnlessEnds-then old now new came took.faultless more.faultless;
   answers = left-answered old now new (judging next) (next (view value)) came (took.judges next)
       more.answers;
 }
@@ -194,6 +220,7 @@ pub Answers-ended : (now : Files) (job : Job) (made : Result Job NoMemory) (came
     → Answers now now (ends job) came
 Answers-ended now job made came below command is hands = record {
   after = IsAfter-same now;
+  faultless = UnlessEnds-same now came;
   answers = ended-answered now job made came below command is hands;
 }
 

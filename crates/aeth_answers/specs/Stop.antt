@@ -3,6 +3,7 @@
 --   Leaves              once some of its files were read, the rest of a task is left
 --   IfAnswer            what holds of the answer that a call comes to, if memory isn't wanting
 --   Answers             a call answers a task
+--   UnlessEnds          what holds of a call that gives a value, or for which memory was wanting
 --   GivesOrEnds, Judges      a call gives the value of what it judges, or the task ends there
 --   Refuses, HandsOn    a call hands on what a reader of a file gave, or refuses the file
 --   Ended               a call hands on an answer, if memory wasn't wanting for it
@@ -10,6 +11,7 @@
 use Rattle.std.specs.Prelude.{ℕ, ◌≡◌, List, Option, Some, Result, Ok, Err, ⊤}
 use Rattle.aeth_base.specs.Faults.{BrokenRule}
 use Rattle.aeth_base.specs.declared.memory.NoMemory.{NoMemory}
+use Rattle.aeth_io.specs.Causes.{IsFaultless}
 use Rattle.aeth_answers.specs.declared.answer.Stop.{Stop}
 use Rattle.aeth_answers.specs.declared.answer.Stop.TheVariants.{Ends, Memory}
 use Rattle.aeth_answers.specs.Job.{Job}
@@ -29,9 +31,17 @@ IfAnswer (Ok answer) Holds = Holds answer
 IfAnswer (Err (Ends answer)) Holds = Holds answer
 IfAnswer (Err Memory) Holds = ⊤
 
--- A call answers a task: its answer is one to the task, and whatever it comes to, it only read.
+-- What holds where a call gives a value and where memory was wanting, but not where a task ends.
+abbrev pub UnlessEnds : {X : Type 0} → Result X Stop → Type 0 → Type 0
+UnlessEnds (Ok value) Holds = Holds
+UnlessEnds (Err (Ends answer)) Holds = ⊤
+UnlessEnds (Err Memory) Holds = Holds
+
+-- A call answers a task: its answer is one to the task, and whatever it comes to, it only read. Want
+-- of memory stands for no fault of the shelf.
 pub record Answers (old new : Files) (task : Task) (result : Result Job Stop) : Type 0 where
   pub after : IsAfter old new
+  pub faultless : UnlessEnds result (IsFaultless old.faults new.faults)
   pub answers : IfAnswer result (IsAnswer old new task)
 
 -- Whatever comes next: what comes next of the value is left, or the task ends there with an answer,
@@ -44,10 +54,12 @@ GivesOrEnds {X} {A} old new judging view (Err (Ends answer)) =
     (next : A → Task) → IsAnswer old new (judging next) answer
 GivesOrEnds {X} {A} old new judging view (Err Memory) = ⊤
 
--- A call judges: it gives a value or ends the task, and whatever it comes to, it only read.
+-- A call judges: it gives a value or ends the task, and whatever it comes to, it only read. Neither
+-- a value nor want of memory stands for a fault of the shelf.
 pub record Judges {X A : Type 0} (old new : Files) (judging : Judging A) (view : X → A)
     (result : Result X Stop) : Type 0 where
   pub after : IsAfter old new
+  pub faultless : UnlessEnds result (IsFaultless old.faults new.faults)
   pub judges : GivesOrEnds old new judging view result
 
 -- A call refuses a file by the rule that a fault shows, or memory was wanting.

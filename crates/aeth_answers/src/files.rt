@@ -20,9 +20,11 @@ pub fn read_file<H: Shelf>(
     ensures { Judges (files_of H.Shelf shelf.old) (files_of H.Shelf shelf.new)
         (text_file file.now name.now) (λ bytes. bytes.items) result }
 {
+    // Once a call on the shelf has failed no memory is asked for.
+    let fault = Answer::read_fault(alloc, file)?;
     match read_all(alloc, shelf, name.as_str()) {
         Ok(bytes) => Ok(bytes),
-        Err(ReadFail::Fault) => Err(Stop::Ends(Answer::read_fault(alloc, file)?)),
+        Err(ReadFail::Fault) => Err(Stop::Ends(fault)),
         Err(ReadFail::TooLong) => Err(Stop::Ends(Answer::too_long(alloc, file)?)),
         Err(ReadFail::Memory) => Err(Stop::Memory),
     }

@@ -94,6 +94,7 @@ pub Judges-no_refusals : (app : AppData) (outcome : OutcomeData) (planned : Plan
     (λ (one : Planned). one.plan) (Ok planned)
 Judges-no_refusals app outcome planned same none now = record {
   after = IsAfter-same now;
+  faultless = λ name. refl;
   judges = λ next new answer answers. go_on now new app outcome.plan outcome.refused next answer none
       (subst (λ (plan : PlanData). IsAnswer now new (next plan) answer) same answers);
 }
@@ -106,6 +107,7 @@ pub Judges-refusals : (app : AppData) (outcome : OutcomeData) (answer : Job)
     (λ (one : Planned). one.plan) (Err (Ends answer))
 Judges-refusals app outcome answer some is now = record {
   after = IsAfter-same now;
+  faultless = tt;
   judges = λ next.
       IsAnswer-on_refusals now app outcome.plan outcome.refused next answer some is;
 }

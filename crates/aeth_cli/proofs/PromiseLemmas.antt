@@ -4,6 +4,7 @@ use Rattle.std.proofs.Common.{ap, refl, subst, sym, arith}
 use Rattle.std.proofs.Math.Nat.{eq-or-lt_of_le}
 use Rattle.std.proofs.lemmas.Option.{same_Some}
 use Rattle.aeth_accepted.specs.Inputs.{Inputs}
+use Rattle.aeth_io.specs.Causes.{IsFaultless}
 use Rattle.aeth_io.specs.declared.shelf.Shelf as shelf
 use Rattle.aeth_io.specs.declared.sink.Sink as sink
 use Rattle.aeth_report.specs.Log.{LogData}
@@ -60,10 +61,12 @@ err_text-whole answer fault = rw fault refl
 module _ {H O E : Type 0} (outcome : Inputs → LogData) (h : shelf.Ghosts H) (o : sink.Ghosts O)
     (e : sink.Ghosts E) (words : List (List ℕ)) (old new : Places H O E)
     (after : IsAfter (files_of h old.shelf) (files_of h new.shelf)) where
-  -- Where memory was wanting, the promise is kept, if the sinks are as before.
-  pub Promise-memory : new.out ≡ old.out → new.err ≡ old.err
+  -- Where memory was wanting, the promise is kept, if no call on the shelf failed and the sinks are as
+  -- before.
+  pub Promise-memory : IsFaultless (h.faults old.shelf) (h.faults new.shelf)
+      → new.out ≡ old.out → new.err ≡ old.err
       → Promise outcome h o e words old new memory_status
-  Promise-memory out err =
+  Promise-memory faultless out err =
       let out_same : o.faults new.out ≡ o.faults old.out = ap o.faults out in
       let err_same : e.faults new.err ≡ e.faults old.err = ap e.faults err in record {
         statuses = omega arith;
@@ -79,6 +82,7 @@ module _ {H O E : Type 0} (outcome : Inputs → LogData) (h : shelf.Ghosts H) (o
         usage_only = λ usage. absurd (omega (arith, usage));
         read_fault = λ fault. absurd (omega (arith, fault));
         write_fault = λ fault. absurd (omega (arith, fault));
+        memory_shelf = λ _. faultless;
         memory_out = λ _. out;
         memory_err = λ _. err;
         complete = λ _ _ _. inr refl;
@@ -121,6 +125,7 @@ module _ {H O E : Type 0} (outcome : Inputs → LogData) (h : shelf.Ghosts H) (o
             written.out_kept (λ done. omega (arith, fault, done)),
           );
           write_fault = λ fault. absurd (omega (arith, within, fault));
+          memory_shelf = λ memory. absurd (omega (arith, within, memory));
           memory_out = λ memory. absurd (omega (arith, within, memory));
           memory_err = λ memory. absurd (omega (arith, within, memory));
           complete = λ out_fine err_fine shelf_fine.
@@ -149,6 +154,7 @@ module _ {H O E : Type 0} (outcome : Inputs → LogData) (h : shelf.Ghosts H) (o
       usage_only = λ usage. absurd (omega (arith, usage));
       read_fault = λ fault. absurd (omega (arith, fault));
       write_fault = λ _. (answer, is, cut);
+      memory_shelf = λ memory. absurd (omega (arith, memory));
       memory_out = λ memory. absurd (omega (arith, memory));
       memory_err = λ memory. absurd (omega (arith, memory));
       complete = λ out_fine err_fine _. elim cut [

@@ -15,6 +15,7 @@ use Rattle.std.specs.Str.{bytes_eq}
 use Rattle.aeth_accepted.specs.Inputs.{Inputs}
 use Rattle.aeth_base.specs.Limits.{max_cycles, max_path_delay, max_slots}
 use Rattle.aeth_demo.specs.Limits.{max_demo_number}
+use Rattle.aeth_io.specs.Causes.{IsFaultless}
 use Rattle.aeth_report.specs.Log.{LogData}
 use Rattle.aeth_cli.specs.declared.commands.Command.{Command}
 use Rattle.aeth_cli.specs.declared.commands.Command.TheVariants as command
@@ -29,7 +30,7 @@ use Rattle.aeth_cli.specs.Commands.Slots.{chosen_job, slots_command}
 use Rattle.aeth_cli.specs.Commands.Tables.{tables_command, tables_task}
 use Rattle.aeth_answers.specs.Job.{Job, usage}
 use Rattle.aeth_answers.specs.Places.{Files, IsAfter}
-use Rattle.aeth_answers.specs.Stop.{IfAnswer}
+use Rattle.aeth_answers.specs.Stop.{IfAnswer, UnlessEnds}
 use Rattle.aeth_answers.specs.declared.answer.Stop.{Stop}
 use Rattle.aeth_answers.specs.Task.{ComesTo, IsAnswer, Task, ends, job_with}
 
@@ -95,8 +96,10 @@ module _ (outcome : Inputs → LogData) where
   IsAnswerTo old new None answer = answer ≡ usage
   IsAnswerTo old new (Some command) answer = IsAnswer old new (task_of command) answer
 
-  -- A call answers a command, or words that are none, and whatever it comes to, it only read.
+  -- A call answers a command, or words that are none, and whatever it comes to, it only read. Want of
+  -- memory stands for no fault of the shelf.
   pub record AnswersWords (old new : Files) (said : Option Command) (result : Result Job Stop)
       : Type 0 where
     pub after : IsAfter old new
+    pub faultless : UnlessEnds result (IsFaultless old.faults new.faults)
     pub answers : IfAnswer result (IsAnswerTo old new said)

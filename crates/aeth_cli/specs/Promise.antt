@@ -3,11 +3,11 @@
 -- The words are those after the program's name. Each clause holds of every shelf and every pair of
 -- sinks. Of contents a clause speaks where the shelf tells them, of texts where a sink tells what was
 -- written. The job is that of a machine, which says what the log of a run is. Want of memory is the
--- one answer whose cause is left open.
+-- one answer whose cause is left open, but it never stands for a fault.
 -- This project's own.
 use Rattle.std.specs.Prelude.{ℕ, ◌≡◌, ◌≢◌, ◌<◌, ◌≤◌, ◌⊎◌, List, Some, None}
 use Rattle.aeth_accepted.specs.Inputs.{Inputs}
-use Rattle.aeth_io.specs.Causes.{Rose}
+use Rattle.aeth_io.specs.Causes.{IsFaultless, Rose}
 use Rattle.aeth_io.specs.Sink.{appended}
 use Rattle.aeth_io.specs.declared.shelf.Shelf as shelf
 use Rattle.aeth_io.specs.declared.sink.Sink as sink
@@ -70,7 +70,8 @@ pub record Promise {H O E : Type 0} (outcome : Inputs → LogData) (h : shelf.Gh
       → (answer : Job)
       × IsAnswerTo outcome (files_of h old.shelf) (files_of h new.shelf) (command_of words) answer
       × IsCutShort o e (sinks_of old) (sinks_of new) answer
-  -- Memory was wanting: both sinks are as before.
+  -- Memory was wanting: no call on the shelf failed, and both sinks are as before.
+  pub memory_shelf : status ≡ memory_status → IsFaultless (h.faults old.shelf) (h.faults new.shelf)
   pub memory_out : status ≡ memory_status → new.out ≡ old.out
   pub memory_err : status ≡ memory_status → new.err ≡ old.err
   -- Where no count of faults rose, the job was done, or memory was wanting.

@@ -1,7 +1,8 @@
 // The commands, and what each answers.
 ghost use Rattle.aeth_answers.specs.Places.{IsAfter, files_of};
 ghost use Rattle.aeth_cli.specs.Commands.{AnswersWords, HasRanges, IsAnswerTo, command_of};
-ghost use Rattle.std.specs.Prelude.{◌≡◌, IfOk, IfSome, map, string_bytes};
+ghost use Rattle.aeth_io.specs.Causes.{IsFaultless};
+ghost use Rattle.std.specs.Prelude.{◌≡◌, IfOk, IfSome, OnErr, map, string_bytes};
 
 mod allocate;
 mod app;
@@ -108,6 +109,7 @@ pub fn answer<M: Machine, H: Shelf>(
     ensures after { IsAfter (files_of H.Shelf shelf.old) (files_of H.Shelf shelf.new) }
     ensures answers { IfOk result (IsAnswerTo M.outcome (files_of H.Shelf shelf.old)
         (files_of H.Shelf shelf.new) (command_of (map string_bytes words.now))) }
+    ensures memory { OnErr result (IsFaultless (H.faults shelf.old) (H.faults shelf.new)) }
 {
     match command_answer::<M, H>(alloc, words, shelf) {
         Ok(answer) => Ok(answer),

@@ -1,6 +1,6 @@
 -- Counted faults, and what a failure needs as its cause.
 -- This project's own.
-use Rattle.std.specs.Prelude.{ℕ, ◌≡◌, ◌+◌, ◌-◌, ◌^◌, ◌<◌, ◌⊎◌, min, Result, OnErr}
+use Rattle.std.specs.Prelude.{ℕ, ◌≡◌, ◌+◌, ◌-◌, ◌^◌, ◌<◌, ◌⊎◌, min, List, Result, OnErr}
 
 -- The greatest number of a counter of 64 bits, which a counter that has reached it keeps.
 abbrev pub greatest_count : ℕ
@@ -17,3 +17,7 @@ Rose before after = (before < after) ⊎ (after ≡ greatest_count)
 -- A failure comes only where the count of faults rose.
 abbrev pub HasCause : {T E : Type 0} → Result T E → ℕ → ℕ → Type 0
 HasCause result before after = OnErr result (Rose before after)
+
+-- The counts of faults of all names are as before.
+abbrev pub IsFaultless : (List ℕ → ℕ) → (List ℕ → ℕ) → Type 0
+IsFaultless before after = (name : List ℕ) → after name ≡ before name

@@ -3,7 +3,7 @@ ghost use Rattle.aeth_io.specs.Causes.{HasCause};
 ghost use Rattle.aeth_io.specs.MemShelf.{after_read, content_of, buffer_after, files_of, given_of};
 ghost use Rattle.aeth_io.specs.MemShelf.{is_refusing};
 ghost use Rattle.aeth_io.specs.Shelf.{IsEndOf, ReadsFrom};
-ghost use Rattle.std.specs.Prelude.{◌≡◌, ◌<◌, ◌≤◌, List, ℕ, Some, length, IfOk, OnErr, is_err};
+ghost use Rattle.std.specs.Prelude.{◌≡◌, ◌<◌, ◌≤◌, List, ℕ, Some, length, IfOk, OnErr, OnOk, is_err};
 ghost use Rattle.std.specs.Prelude.{option_copied};
 
 use crate::{Failed, Shelf};
@@ -104,6 +104,7 @@ impl Shelf for MemShelf {
         ensures end { (bytes : List ℕ) → content_of self.old.files name.now ≡ Some bytes
             → 0 < length into.old → IfOk result (λ n. IsEndOf bytes at n) }
         ensures cause { HasCause result self.old.faults self.new.faults }
+        ensures faultless { OnOk result ((other : List ℕ) → self.new.faults ≡ self.old.faults) }
         ensures later { (other : List ℕ) → self.old.faults ≤ self.new.faults }
         ensures kept { (other : List ℕ)
             → content_of self.new.files other ≡ content_of self.old.files other }

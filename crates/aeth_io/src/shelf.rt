@@ -1,10 +1,10 @@
 // A place of files, which may fail.
-ghost use Rattle.aeth_io.specs.Causes.{HasCause, Rose};
+ghost use Rattle.aeth_io.specs.Causes.{HasCause, IsFaultless, Rose};
 ghost use Rattle.aeth_io.specs.Limits.{max_file_bytes};
 ghost use Rattle.aeth_io.specs.Shelf.{IsEndOf, ReadsFrom};
 ghost use Rattle.aeth_io.specs.declared.shelf.ReadFail.TheVariants.{Fault, TooLong};
-ghost use Rattle.std.specs.Prelude.{◌≡◌, ◌<◌, ◌≤◌, ℕ, List, Option, Some, Err, ◌++◌, length, IfOk};
-ghost use Rattle.std.specs.Prelude.{IsErr, OnOk};
+ghost use Rattle.std.specs.Prelude.{◌≡◌, ◌≢◌, ◌<◌, ◌≤◌, ℕ, List, Option, Some, Err, ◌++◌, length};
+ghost use Rattle.std.specs.Prelude.{IfOk, IsErr, OnOk};
 
 use crate::Failed;
 use aeth_base::NoMemory;
@@ -28,7 +28,8 @@ pub trait Shelf {
     ghost faults: { Self → List ℕ → ℕ };
 
     /// Gives the next bytes of a file from place `at` on, and says how many: none, where some were
-    /// asked for, is the end. A read changes no file.
+    /// asked for, is the end. A read changes no file, and one
+    /// that succeeds leaves the counts of faults.
     fn read(&mut self, name: &str, at: u64, into: &mut [u8]) -> Result<usize, Failed>
         ensures within { IfOk result (λ n. n ≤ length into.new) }
         ensures ok { (bytes : List ℕ) → content self.old name.now ≡ Some bytes
@@ -36,6 +37,7 @@ pub trait Shelf {
         ensures end { (bytes : List ℕ) → content self.old name.now ≡ Some bytes
             → 0 < length into.old → IfOk result (λ n. IsEndOf bytes at n) }
         ensures cause { HasCause result (faults self.old name.now) (faults self.new name.now) }
+        ensures faultless { OnOk result (IsFaultless (faults self.old) (faults self.new)) }
         ensures later { (other : List ℕ) → faults self.old other ≤ faults self.new other }
         ensures kept { (other : List ℕ) → content self.new other ≡ content self.old other };
 }
@@ -75,8 +77,8 @@ impl From<NoMemory> for ReadFail {
 }
 
 /// The whole content of a file. Each turn takes at least one byte, so it ends at the latest past
-/// `MAX_FILE_BYTES` bytes. `Fault` comes only where a call on this name failed, `TooLong` only where the
-/// file has more than `MAX_FILE_BYTES` bytes.
+/// `MAX_FILE_BYTES` bytes. `Fault` comes only where a call on this name failed, any other answer only
+/// where none did, and `TooLong` only where the file has more than `MAX_FILE_BYTES` bytes.
 ///
 /// What is said of the content holds of each shelf that tells it.
 pub fn read_all<H: Shelf>(alloc: Global, shelf: &mut H, name: &str) -> Result<Vec<u8>, ReadFail>
@@ -91,6 +93,8 @@ pub fn read_all<H: Shelf>(alloc: Global, shelf: &mut H, name: &str) -> Result<Ve
         → result ≡ Err TooLong → max_file_bytes < length bytes }
     ensures cause { result ≡ Err Fault
         → Rose (H.faults shelf.old name.now) (H.faults shelf.new name.now) }
+    ensures faultless { result ≢ Err Fault
+        → IsFaultless (H.faults shelf.old) (H.faults shelf.new) }
     ensures later { (other : List ℕ) → H.faults shelf.old other ≤ H.faults shelf.new other }
     ensures kept { (other : List ℕ) → H.content shelf.new other ≡ H.content shelf.old other }
 {

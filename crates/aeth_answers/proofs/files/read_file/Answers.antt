@@ -9,6 +9,7 @@ pub returns-in-Ok : goal.returns-in-Ok
 returns-in-Ok g c =
     let read = rw c.as_str.ensures at c.in-Ok.ensures in record {
       after = record { kept = read.kept; later = read.later };
+      faultless = read.faultless (λ fault. cc);
       judges = λ next. Leaves-text_file (files_of g.H.Shelf c.args.shelf.now)
           (files_of g.H.Shelf c.read_all.new.shelf) c.args.file.now c.args.name.now
           c.in-Ok.bytes.items next (record { kept = read.kept; later = read.later }) read.ok
@@ -16,14 +17,15 @@ returns-in-Ok g c =
     }
 
 -- The file can't be read.
-pub returns-in_ok-read_fault-in-Err-Fault : goal.returns-in_ok-read_fault-in-Err-Fault
-returns-in_ok-read_fault-in-Err-Fault g c =
+pub returns-in-Err-Fault : goal.returns-in-Err-Fault
+returns-in-Err-Fault g c =
     let read = rw c.as_str.ensures at c.in-Err-Fault.ensures in
     let rose = read.cause (ap Err c.in-Err-Fault.field-0-is) in record {
       after = record { kept = read.kept; later = read.later };
+      faultless = tt;
       judges = λ next. IsAnswer-fault (files_of g.H.Shelf c.args.shelf.now)
           (files_of g.H.Shelf c.read_all.new.shelf) c.args.file.now c.args.name.now _
-          c.in_ok-read_fault-in-Err-Fault.field-0 rose c.in_ok-read_fault-in-Err-Fault.ensures;
+          c.in_ok-fault.fault rose c.in_ok-fault.ensures;
     }
 
 -- The file is too long.
@@ -32,6 +34,7 @@ returns-in_ok-too_long-in-Err-TooLong g c =
     let read = rw c.as_str.ensures at c.in-Err-TooLong.ensures in
     let long = ap Err c.in-Err-TooLong.field-0-is in record {
       after = record { kept = read.kept; later = read.later };
+      faultless = tt;
       judges = λ next. IsAnswer-too_long (files_of g.H.Shelf c.args.shelf.now)
           (files_of g.H.Shelf c.read_all.new.shelf) c.args.file.now c.args.name.now next
           c.in_ok-too_long-in-Err-TooLong.field-0

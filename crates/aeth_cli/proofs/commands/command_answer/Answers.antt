@@ -11,6 +11,7 @@ returns-in-Demo g c =
     let now = files_of g.H.Shelf c.args.shelf.now in
     let it = c.answer-in-Demo.ensures now in record {
       after = it.after;
+      faultless = it.faultless;
       answers = subst (λ (said : Option Command). IfAnswer c.answer-in-Demo.result
           (IsAnswerTo g.M.Machine.outcome now now said))
           (ap Some (sym c.in-Demo.is) ∙ c.in-Some.ensures.command) it.answers;

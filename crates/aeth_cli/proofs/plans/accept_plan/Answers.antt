@@ -1,4 +1,4 @@
-use Rattle.std.proofs.Common.{◌∙◌, sym}
+use Rattle.std.proofs.Common.{◌∙◌, refl, sym}
 use Rattle.aeth_answers.proofs.FileLemmas.{IsAnswer-not_granted}
 use Rattle.aeth_answers.proofs.TaskLemmas.{IsAfter-same}
 use Rattle.aeth_tables.proofs.DesignLaws.{design_of}
@@ -10,6 +10,7 @@ returns-in-Accepted-clause-judges c =
     let is = rw c.requires.groups at (sym c.in_ok-check.ensures.verdict ∙ c.in-Accepted.is) in
     λ now. record {
       after = IsAfter-same now;
+      faultless = λ name. refl;
       judges = λ next new answer answers. rw is answers;
     }
 
@@ -26,6 +27,7 @@ returns-in_ok-missing-in-Missing-clause-judges c =
     let is = rw c.requires.groups at (sym c.in_ok-check.ensures.verdict ∙ c.in-Missing.is) in
     λ now. record {
       after = IsAfter-same now;
+      faultless = tt;
       judges = λ next. rw is (IsAnswer-not_granted now _ _ c.in_ok-missing-in-Missing.ensures);
     }
 
@@ -35,5 +37,6 @@ returns-in_ok-broken-in-Broken-clause-judges c =
     let is = rw c.requires.groups at (sym c.in_ok-check.ensures.verdict ∙ c.in-Broken.is) in
     λ now. record {
       after = IsAfter-same now;
+      faultless = tt;
       judges = λ next. rw is (IsAnswer-not_granted now _ _ c.in_ok-broken-in-Broken.ensures);
     }

@@ -1,4 +1,4 @@
-use Rattle.std.proofs.Common.{[], map, sym}
+use Rattle.std.proofs.Common.{[], map, refl, sym}
 use Rattle.std.specs.Prelude.{codes}
 use Rattle.std.specs.Str.{bytes_eq}
 use Rattle.std.proofs.lemmas.List.{length-map}
@@ -13,6 +13,7 @@ pub returns-in-Some-clause-judges : goal.returns-in-Some-clause-judges
 returns-in-Some-clause-judges c =
     λ now. record {
       after = IsAfter-same now;
+      faultless = λ name. refl;
       judges = λ next new answer answers. rw (sym c.in-Some.ensures) answers;
     }
 
@@ -29,6 +30,7 @@ pub returns-in_ok-unknown-in-None-clause-judges : goal.returns-in_ok-unknown-in-
 returns-in_ok-unknown-in-None-clause-judges c =
     λ now. record {
       after = IsAfter-same now;
+      faultless = tt;
       judges = λ next. rw (sym c.in-None.ensures)
           (IsAnswer-refused now (codes "use") (unknown_use c.args.name.now) _
           c.in_ok-unknown-in-None.ensures);
