@@ -12,7 +12,7 @@ ghost use Rattle.toml.specs.View.{table_view};
 use crate::app::Names;
 use crate::connection::{Connection, Core, Price, Wish};
 use crate::names::{name_at, ni_of};
-use crate::ranges::wish_number;
+use crate::ranges::wish_numbers;
 use crate::use_case::UseCase;
 use aeth_base::{CoreId, Name, NoMemory};
 use aeth_chip::Chip;
@@ -45,11 +45,12 @@ fn wish_in(connection: &Table, side: &str) -> Wish
     requires { IsWishInRange (wish_at side.now (table_view connection.now)) }
     ensures { result ≡ wish_in (wish_at side.now (table_view connection.now)) }
 {
+    let wish = wish_numbers(connection, side);
     Wish {
-        words: size(wish_number(connection, side, "words")) as u32,
-        per: size(wish_number(connection, side, "per")) as u32,
-        latency: size(wish_number(connection, side, "latency")) as u32,
-        delay: size(wish_number(connection, side, "delay")) as u32,
+        words: size(wish.words) as u32,
+        per: size(wish.per) as u32,
+        latency: size(wish.latency) as u32,
+        delay: size(wish.delay) as u32,
     }
 }
 

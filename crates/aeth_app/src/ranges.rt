@@ -1,5 +1,5 @@
 // The numbers and names of an application file, and their ranges.
-ghost use Rattle.std.specs.Prelude.{◌≡◌, flat_map, map, option_map, None};
+ghost use Rattle.std.specs.Prelude.{◌≡◌, codes, flat_map, map, option_map, None};
 ghost use Rattle.aeth_app.specs.Ranges.{IsInRange, connection_ranges, no_price, numbers};
 ghost use Rattle.aeth_app.specs.Ranges.{out_of_range, wish_ranges};
 ghost use Rattle.aeth_app.specs.Tables.{names_in, wish_at};
@@ -57,14 +57,40 @@ fn names(walk: Walk, tables: Tables<'_>) -> Walk
     walk
 }
 
-/// A number of a connection's wish on a side; 0 where no table stands there.
+/// The numbers of a wish as a file tells them, 0 where none stands.
+#[derive(Clone, Copy)]
+pub(crate) struct WishNumbers {
+    pub words: i64,
+    pub per: i64,
+    pub latency: i64,
+    pub delay: i64,
+}
+
+/// The numbers of a connection's wish on a side; 0 where no table stands there.
 #[tactic(auto, unfolding(aeth_document::specs::Values::integer_at))]
-pub(crate) fn wish_number(connection: &Table, side: &str, key: &str) -> i64
-    ensures { result ≡ integer_at key.now (wish_at side.now (table_view connection.now)) }
+pub(crate) fn wish_numbers(connection: &Table, side: &str) -> WishNumbers
+    ensures words { result.words
+        ≡ integer_at (codes "words") (wish_at side.now (table_view connection.now)) }
+    ensures per { result.per
+        ≡ integer_at (codes "per") (wish_at side.now (table_view connection.now)) }
+    ensures latency { result.latency
+        ≡ integer_at (codes "latency") (wish_at side.now (table_view connection.now)) }
+    ensures delay { result.delay
+        ≡ integer_at (codes "delay") (wish_at side.now (table_view connection.now)) }
 {
     match table_at(connection, side) {
-        Some(wish) => integer_at(wish, key),
-        None => 0,
+        Some(wish) => WishNumbers {
+            words: integer_at(wish, "words"),
+            per: integer_at(wish, "per"),
+            latency: integer_at(wish, "latency"),
+            delay: integer_at(wish, "delay"),
+        },
+        None => WishNumbers {
+            words: 0,
+            per: 0,
+            latency: 0,
+            delay: 0,
+        },
     }
 }
 
@@ -72,15 +98,12 @@ pub(crate) fn wish_number(connection: &Table, side: &str, key: &str) -> i64
 fn wish_ranges(walk: Walk, connection: &Table, side: &str) -> Walk
     ensures { result ≡ walked walk (wish_ranges (wish_at side.now (table_view connection.now))) }
 {
-    let words = wish_number(connection, side, "words");
-    let per = wish_number(connection, side, "per");
-    let latency = wish_number(connection, side, "latency");
-    let delay = wish_number(connection, side, "delay");
+    let wish = wish_numbers(connection, side);
     walk.checks(&[
-        outside(0, MAX_WORDS as u64, words),
-        outside(1, MAX_PER as u64, per),
-        outside(1, MAX_LATENCY as u64, latency),
-        outside(0, MAX_RECEIVER_DELAY as u64, delay),
+        outside(0, MAX_WORDS as u64, wish.words),
+        outside(1, MAX_PER as u64, wish.per),
+        outside(1, MAX_LATENCY as u64, wish.latency),
+        outside(0, MAX_RECEIVER_DELAY as u64, wish.delay),
     ])
 }
 
