@@ -53,9 +53,11 @@ module _ (design : Design) (groups : GroupsData) (chip : IsChip design.chip)
         → HasNoCandidate design reserved connection unit side
         → (unit_tried design before unit).refused ≡ Some side
     refused-for Fwd reserved same none =
-        let here = subst (λ (r : Reserved). HasNoCandidate design r connection unit Fwd) same none in
+        let here =
+        subst (λ (r : Reserved). HasNoCandidate design r connection unit Fwd) same none in
         ap (λ (o : Option Reserved). (after_fwd design before unit o).refused)
-        (not-granted design before chip sound.book sound.of.links unit Fwd connection is here _ refl)
+        (not-granted design before chip sound.book sound.of.links unit Fwd connection is here
+        _ refl)
     refused-for Back one granted none =
         let its = sound-one design groups chip app before sound unit among free one granted in
         ap (λ (o : Option Reserved). (after_fwd design before unit o).refused) granted
@@ -90,7 +92,8 @@ listed-after design turn state unit side next at =
     let refused : Refused = record { unit = unit; side = side; turn = turn } in
     subst (λ (o : Option GroupUnit). Contains (after_turn_of design turn state o).refused refused)
     (sym next)
-    (subst (λ (o : Option Side). Contains (state.refused ++ refusals_of unit turn o) refused) (sym at)
+    (subst (λ (o : Option Side). Contains (state.refused ++ refusals_of unit turn o) refused)
+    (sym at)
     (Contains-push state.refused refused))
 
 module _ (design : Design) (chip : IsChip design.chip) (app : IsApp design.app)

@@ -2,10 +2,12 @@
 --
 --   HasNoCandidate      nothing is a candidate for a channel
 --   IsBeforeTry, IsRefused      what is reserved when a side is tried; why a unit is refused
---   LacksCandidate, RefusesExactly      a channel has no candidate in its turn; exactly such are refused
+--   LacksCandidate      a channel has no candidate in its turn
+--   RefusesExactly      exactly such channels have their units refused
 --   IsAmong, LacksOnlyRefused      a plan breaks no rule of an accepted plan but the one on missing
 --                                  sides, and that one for refused units alone
-use Rattle.std.specs.Prelude.{◌≡◌, ◌<◌, ◌+◌, ℕ, ◌↔◌, List, Some, Contains, length, slice_get, IsTrue}
+use Rattle.std.specs.Prelude.{◌≡◌, ◌<◌, ◌+◌, ℕ, ◌↔◌, List, Some, Contains, length, slice_get}
+use Rattle.std.specs.Prelude.{IsTrue}
 use Rattle.aeth_base.specs.declared.ids.CoreId.{CoreId}
 use Rattle.aeth_base.specs.declared.ids.NiId.{NiId}
 use Rattle.aeth_base.specs.declared.ids.Side.{Side}

@@ -37,8 +37,8 @@ pub fn turns()
 {}
 
 /// A refused unit is that of its turn, the side for which it is refused had no candidate, and the turn
-/// leaves all that is reserved as it was. Each unit is refused of which a channel has no candidate in
-/// its turn.
+/// leaves all that is reserved as it was. Each unit is refused of which a channel has no candidate
+/// in its turn.
 pub fn refusals()
     ensures rightly { (design : Design) → IsChip design.chip → IsApp design.app
         → IsAppOf design.chip design.app → (refused : Refused)

@@ -48,11 +48,13 @@ returns-in-Hops-clause-refused c =
 
 pub returns-in-Pressure-clause-refused : goal.returns-in-Pressure-clause-refused
 returns-in-Pressure-clause-refused c =
-    subst (λ (prices : List ℕ). IfOk c.allocate_with-in-Pressure.result (λ outcome. RefusesExactly (record {
+    subst (λ (prices : List ℕ). IfOk c.allocate_with-in-Pressure.result (λ outcome.
+    RefusesExactly (record {
       chip = c.args.chip.now;
       app = c.args.app.now;
       prices = prices;
     }) c.args.groups.now outcome.refused))
-    (price-table Pressure c.new-in-Pressure.result c.new-in-Pressure.ensures.costs (λ d u some most few.
+    (price-table Pressure c.new-in-Pressure.result c.new-in-Pressure.ensures.costs
+    (λ d u some most few.
     let told = c.new-in-Pressure.ensures.answers d u some most few in search rules)
     ∙ ap prices_of c.in-Pressure.ensures) c.allocate_with-in-Pressure.ensures.refused
