@@ -1,0 +1,5 @@
+mod LogLemmas
+mod LineLemmas
+pub mod ReservationLemmas
+pub mod OneReservation
+pub mod FaultLemmas
