@@ -4,7 +4,7 @@ use Rattle.std.specs.Fmt.{digits}
 use Rattle.aeth_app.specs.Rates.{need_of}
 use Rattle.aeth_group.specs.Groups.{group_count, group_of, is_chained}
 use Rattle.aeth_group.specs.Members.{groups_of}
-use Rattle.aeth_header.specs.Header.{word_of}
+use Rattle.aeth_header.specs.Header.{fields_of, word_of}
 use Rattle.aeth_server.specs.Latency.{latency_of}
 use Rattle.aeth_server.specs.PrivateServer.{counts, history}
 use Rattle.aeth_server.specs.SlotCycles.{nth_slot}
@@ -14,5 +14,5 @@ use Rattle.aeth_report.specs.LogText.{session_line, state_word, text_of}
 
 unfoldable pub on_literals : ⊤
 unfolding groups_of group_of group_count is_chained need_of latency_of nth_slot history counts
-    word_of digits side_word text_of head_line session_line landing_line drop_line outside_line link_line state_word
+    word_of fields_of digits side_word text_of head_line session_line landing_line drop_line outside_line link_line state_word
 on_literals = tt

@@ -1,3 +1,4 @@
 pub mod Designs
 pub mod Traces
 pub mod Texts
+pub mod Audits

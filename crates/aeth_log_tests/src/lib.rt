@@ -1,6 +1,7 @@
-//! Tests of what a run shows: worked texts from the definitions, timelines, and programs.
+//! Tests of what a run shows: worked texts and audits from the definitions, timelines, and programs.
 #![tactic(auto)]
 
+pub mod audits;
 #[cfg(test)]
 mod designs;
 #[cfg(test)]
