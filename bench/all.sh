@@ -1,0 +1,93 @@
+#!/bin/sh
+# Prints the instructions of whole runs of `aeth` beside those of a peer, with their ratio and the most that it is to
+# be, and counts the rows that are above it: then the status is 1. The peer is plain optimised Rust, on one thread, with
+# bit masks and a pruned search, and without any proof. `inputs.py` makes the files, and the plans are those that
+# `aeth allocate` prints for these. Words after the name of the script choose rows by their names; without one all are
+# run but those that take minutes, and with `all` these too. It needs valgrind, GNU time and Python 3.
+set -eu
+
+home=$(dirname -- "$(dirname -- "$(readlink -f -- "$0")")")
+. "$home/bench/instructions.sh"
+. "$home/bench/files.sh"
+wanted=" $* "
+above=0
+
+python3 "$home/bench/inputs.py" "$folder"
+cd "$folder"
+"$program" allocate chip app_hops >plan
+"$program" allocate chip128 app_hops >plan128
+{ echo connection,side,cycle,value,; tail -n +2 words_dense; } >words_refused
+
+# Whether a row is chosen, which takes minutes or not.
+is_chosen() {
+    case $wanted in
+        *' all '* | *" $1 "*) return 0 ;;
+        '  ') [ "$2" = short ] ;;
+        *) return 1 ;;
+    esac
+}
+
+# A number of hundredths, or a dash.
+hundredths() {
+    if [ "$1" = - ]; then echo -; else printf '%d.%02d\n' $(($1 / 100)) $(($1 % 100)); fi
+}
+
+# A row: its name, the most hundredths that its ratio is to be, the instructions of the peer and of `aeth`, and its peak
+# memory.
+show() {
+    ratio=$((100 * $4 / $3))
+    told=
+    if [ "$2" != - ] && [ "$ratio" -gt "$2" ]; then
+        told=above
+        above=$((above + 1))
+    fi
+    printf '%-22s %14s %14s %6s %6s %8s  %s\n' "$1" "$4" "$3" "$(hundredths "$ratio")" "$(hundredths "$2")" "$5" "$told"
+}
+
+# A row of a whole run: whether it takes minutes, its name, its limit, the instructions of the peer, and the words.
+run() {
+    is_chosen "$2" "$1" || return 0
+    name=$2 limit=$3 peer=$4
+    shift 4
+    /usr/bin/time -q -f %M -o time "$program" "$@" >text 2>&1 || true
+    show "$name" "$limit" "$peer" "$(instructions "$@")" "$(cat time)"
+}
+
+# The row of what a word of a trace takes when it is read: a run on a million of them, less one on the same file that is
+# refused at its header, both of which end behind the file.
+run_word() {
+    is_chosen word "$1" || return 0
+    read_all=$(instructions simulate chip app_hops plan words_dense no_receivers no_switches 1)
+    refused=$(instructions simulate chip app_hops plan words_refused no_receivers no_switches 1)
+    show word 110 1040 $(((read_all - refused) / 1000000)) -
+}
+
+slots_64=$(seq -s , 0 63)
+slots_128=$(seq -s , 0 127)
+
+printf '%-22s %14s %14s %6s %6s %8s\n' ROW INSTRUCTIONS PEER RATIO LIMIT PEAK_KB
+run short slots_64 70 310000 slots 64 32 2 "$slots_64"
+run short slots_128 70 330000 slots 128 64 2 "$slots_128"
+run short server_64 70 310000 server 64 64 3 "$slots_64"
+run short server_128 70 320000 server 128 128 3 "$slots_128"
+run short chip 115 3018141 chip chip
+run short app 105 34657781 app chip app_hops
+run short allocate_hops 105 77274183 allocate chip app_hops
+run short allocate_hops_128 105 91297219 allocate chip128 app_hops
+run short allocate_pressure 80 224178667 allocate chip app_pressure
+run short allocate_pressure_128 80 239569263 allocate chip128 app_pressure
+run short allocate_stress 80 618874297 allocate chip app_stress
+run long allocate_random 130 14471703007 allocate chip_random app_stress
+run short check 105 44495799 check chip app_hops plan
+run short check_128 105 45785356 check chip128 app_hops plan128
+run short tables 105 45753233 tables chip app_hops plan u0
+run_word long
+run short simulate_short - 99711593 simulate chip app_hops plan words_20k receivers switches_1024 20000
+run long simulate_idle 110 50196354 simulate chip app_hops plan words_none receivers_none switches_one 1000000
+run long simulate_sparse - 2319847085 simulate chip app_hops plan words_sparse receivers switches_1024 1000000
+run long simulate_dense - 2019582625 simulate chip app_hops plan words_dense receivers_none switches_one 1000000
+run long simulate_delays - 2193411327 simulate chip128 app_hops plan128 words_sparse receivers switches_one 1000000
+run short demo - 36954704 demo 7
+
+printf '%d above\n' "$above"
+[ "$above" = 0 ]
