@@ -4,6 +4,7 @@ pub mod Division
 pub mod ExtremeLemmas
 pub mod Filters
 pub mod Lists
+mod MarkLemmas
 pub mod Members
 mod NameLemmas
 mod NumberReading

@@ -2,6 +2,7 @@ pub mod Answers
 pub mod Extremes
 pub mod Faults
 pub mod Limits
+pub mod Marks
 pub mod Name
 pub mod NameBytes
 pub mod Number

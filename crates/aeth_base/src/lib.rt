@@ -5,6 +5,7 @@
 mod fault;
 mod ids;
 mod limits;
+mod marks;
 mod memory;
 mod name;
 mod number;
@@ -18,6 +19,7 @@ pub use limits::{
     CREDITS_PER_FLIT, MAX_CYCLES, MAX_LINK_DELAY, MAX_NAME_BYTES, MAX_PATH_DELAY, MAX_PATH_LINKS,
     MAX_QUEUE_WORDS, MAX_RECEIVER_DELAY, MAX_SLOTS, MIN_PATH_LINKS, WORDS_PER_FLIT,
 };
+pub use marks::Marks;
 pub use memory::NoMemory;
 pub use name::Name;
 pub use number::{ceil_div, push_number, read_number};

@@ -1,0 +1,12 @@
+use Rattle.std.proofs.Common.{◌∙◌, ◌/◌, ◌+◌, ℕ, List, ap}
+use Rattle.aeth_base.proofs.MarkLemmas.{bit_of-zeros}
+use Rattle.aeth_base.proofs.marks.Marks.none.Goals as goal
+use Rattle.aeth_base.specs.Marks.{bit_of}
+
+-- No mask has a bit.
+pub returns-clause-unmarked : goal.returns-clause-unmarked
+returns-clause-unmarked c =
+    λ number.
+    ap (λ (masks : List ℕ). bit_of masks number)
+    (c.in_ok-vec.ensures.items_if_clones_equal (λ y same. same))
+    ∙ bit_of-zeros (c.args.last / 64 + 1) number
