@@ -21,6 +21,18 @@ module _ {P : Type 0} (outputs : P → ℕ → Bool) where
   is_output-at parts i link part at is =
       any_passes_from_place (λ part. outputs part link) parts i part at is
 
+  -- Each output is a component's.
+  pub is_output-some : (parts : List P) (link : ℕ) → is_output outputs parts link ≡ true
+      → (i : ℕ) × (part : P) × (slice_get parts i ≡ Some part) × (outputs part link ≡ true)
+  is_output-some [] link is = absurd (cc is)
+  is_output-some (first ∷ others) link is =
+      elim (cases_Bool (outputs first link)) [
+        | inl own ↦ (0, first, refl, own)
+        | inr not ↦
+            let found = is_output-some others link (rw not at is) in
+            (suc found.0, found.1, found.2, found.3)
+      ]
+
   -- Where one component alone has an output, its flit is driven there.
   pub driven-at : (emit : P → ℕ → ℕ → Option Flit) (parts : List P) (i cycle link : ℕ) (part : P)
       → AreDisjoint outputs parts → slice_get parts i ≡ Some part → outputs part link ≡ true

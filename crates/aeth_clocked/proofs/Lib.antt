@@ -1,5 +1,8 @@
 pub mod DrivenLemmas
 mod DrivenTurns
+pub mod FewLemmas
 pub mod OrderLemmas
+mod RestingTurns
 mod Turns
+mod UsedLemmas
 pub mod WiresLemmas

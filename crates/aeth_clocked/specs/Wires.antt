@@ -1,13 +1,25 @@
 -- What components do to wires: a flit or none on each link, listed by link numbers. Sets of links
 -- are tests.
 -- Simultaneous components over shared wires: this project's own.
-use Rattle.std.specs.Prelude.{◌≡◌, ℕ, ◌<◌, Bool, true, if◌then◌else◌}
+use Rattle.std.specs.Prelude.{◌≡◌, ℕ, ◌<◌, ◌^◌, Bool, true, if◌then◌else◌}
 use Rattle.std.specs.Prelude.{List, length, Option, Some, None, slice_get, unwrap_or}
+use Rattle.aeth_base.specs.Marks.{bit_of, room_of}
 use Rattle.aeth_clocked.specs.declared.flit.Flit.{Flit}
 
 -- The flit on a link.
 abbrev pub flit_on : List (Option Flit) → ℕ → Option Flit
 flit_on wires link = unwrap_or (slice_get wires link) None
+
+-- The bit that marks a link: 1 where it has a flit.
+abbrev pub bit_for : Option Flit → ℕ
+bit_for None = 0
+bit_for (Some flit) = 1
+
+-- Just the links with a flit are marked.
+pub record AreUsed (marks : List ℕ) (wires : List (Option Flit)) : Type 0 where
+  pub few : length wires < 2 ^ 32
+  pub room : length wires < room_of marks
+  pub exact : (link : ℕ) → link < length wires → bit_of marks link ≡ bit_for (flit_on wires link)
 
 -- Each link of the set is below the number of links.
 abbrev pub AreLinks : (ℕ → Bool) → ℕ → Type 0

@@ -1,7 +1,8 @@
 // The components of a clocked network.
 
-ghost use Rattle.std.specs.Prelude.{◌≡◌, ℕ, Bool, Option, List, length};
+ghost use Rattle.std.specs.Prelude.{◌≡◌, ◌↔◌, ℕ, Bool, IsTrue, Option, List, length};
 ghost use Rattle.aeth_clocked.specs.declared.flit.Flit.{Flit};
+ghost use Rattle.aeth_clocked.specs.Resting.{HasNoFlit, RestsDrive, RestsLatch};
 ghost use Rattle.aeth_clocked.specs.Wires.{AreLinks, Drives, AgreeOn};
 
 use crate::wires::Wires;
@@ -34,6 +35,18 @@ pub trait Clocked {
     fn latch(&mut self, wires: &Wires)
         requires { AreLinks (inputs self.old) (length wires.now) }
         ensures { self.new ≡ absorb self.old wires.now };
+
+    /// Whether a component has nothing to drive in this flit cycle: it emits nothing and is then as it
+    /// was, and its outputs are empty.
+    fn rests_drive(&self, cycle: u64, wires: &Wires) -> bool
+        requires { AreLinks (outputs self.now) (length wires.now) }
+        ensures { IsTrue result ↔ RestsDrive outputs emit after cycle wires.now self.now };
+
+    /// Whether it has nothing to latch: its inputs are empty, and it is then as it was.
+    fn rests_latch(&self, wires: &Wires) -> bool
+        requires { AreLinks (inputs self.now) (length wires.now) }
+        ensures { IsTrue result ↔ (HasNoFlit (inputs self.now) wires.now
+            × RestsLatch absorb wires.now self.now) };
 
     /// A component keeps its outputs when it has emitted.
     ghost outputs_after: { (part : Self) (cycle link : ℕ)

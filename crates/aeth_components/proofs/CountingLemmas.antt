@@ -1,13 +1,15 @@
 -- Laws of what is counted behind a cycle.
-use Rattle.std.proofs.Common.{ℕ, zero, suc, ◌≡◌, ◌<◌, ◌≤◌, ◌+◌, refl, sym, ◌∙◌, ap, arith, subst}
+use Rattle.std.proofs.Common.{ℕ, zero, suc, ◌≡◌, ◌<◌, ◌≤◌, ◌+◌, ◌-◌, refl, sym, ◌∙◌, ap, arith}
+use Rattle.std.proofs.Common.{subst}
 use Rattle.std.proofs.Common.{List, [], ◌∷◌, ◌++◌, length, map, fold, take, drop, get_or, set}
 use Rattle.std.specs.Option.{option_map_or}
 use Rattle.std.proofs.Common.{Option, Some, None, is_some, slice_get, inl, inr, true, false}
 use Rattle.std.proofs.Common.{length-set}
-use Rattle.std.proofs.lemmas.Bool.{cases_Bool}
+use Rattle.std.proofs.lemmas.Bool.{cases_Bool, cases_lt}
 use Rattle.std.proofs.lemmas.List.Sums.{fold_push}
 use Rattle.std.proofs.lemmas.List.{set-get_or, take_more}
-use Rattle.std.proofs.lemmas.Option.{same_Some}
+use Rattle.std.proofs.lemmas.Option.{same_Some, slice_get-get_or, unwrap_or-slice_get}
+use Rattle.aeth_clocked.specs.Wires.{flit_on}
 use Rattle.aeth_clocked.specs.declared.flit.Flit.{Flit}
 use Rattle.aeth_router.specs.declared.part.Part.{Part}
 use Rattle.aeth_components.specs.declared.lane.Lane.{Lane}
@@ -194,16 +196,6 @@ pub with_flit-some : (wire : Option Flit) (count : ℕ) → is_some wire ≡ tru
 with_flit-some None count some = absurd (cc some)
 with_flit-some (Some flit) count some = refl
 
-pub with_flit-none : (wire : Option Flit) (count : ℕ) → is_some wire ≡ false
-    → with_flit wire count ≡ count
-with_flit-none None count none = refl
-with_flit-none (Some flit) count none = absurd (cc none)
-
--- A wire that carries none.
-pub is_none : (wire : Option Flit) → is_some wire ≡ false → wire ≡ None
-is_none None none = refl
-is_none (Some flit) none = absurd (cc none)
-
 -- One link more is counted.
 counted-more_at : (wires : List (Option Flit)) (counts : List ℕ) (i default : ℕ)
     (wire : Option Flit) → slice_get wires i ≡ Some wire → i < length counts
@@ -259,3 +251,41 @@ flits_counted-skipped wires counts now from (suc gap) within none so_far =
     ∙ flits_counted-more wires counts now (from + gap) 0 (get_or now (from + gap) 0) None
     (none (from + gap) (omega arith) (omega arith)) (omega arith) less refl
     ∙ ap (λ n. flits_counted (take n wires) counts) next
+
+-- So it is up to a link, be it the last that is counted or one past it.
+pub flits_counted-until : (wires : List (Option Flit)) (counts now : List ℕ) (from to : ℕ)
+    → from ≤ length counts → from ≤ to → to ≤ length wires
+    → ((link : ℕ) → from ≤ link → link < to → flit_on wires link ≡ None)
+    → now ≡ flits_counted (take from wires) counts → now ≡ flits_counted (take to wires) counts
+flits_counted-until wires counts now from to begun ordered within none so_far =
+    let empty = λ (link : ℕ) (after : from ≤ link) (below : link < to).
+    let at = slice_get-get_or wires link None (omega arith) in
+    at ∙ ap (λ (flit : Option Flit). Some flit)
+    (sym (unwrap_or-slice_get wires link None) ∙ none link after below) in
+    elim (cases_lt (length counts) to) [
+      | inr short ↦
+          let there : from + (to - from) ≡ to = omega arith in
+          flits_counted-skipped wires counts now from (to - from) (omega arith)
+          (λ link after below. empty link after (omega arith)) so_far
+          ∙ ap (λ n. flits_counted (take n wires) counts) there
+      | inl past ↦
+          let size = length counts in
+          let there : from + (size - from) ≡ size = omega arith in
+          flits_counted-skipped wires counts now from (size - from) (omega arith)
+          (λ link after below. empty link after (omega arith)) so_far
+          ∙ ap (λ n. flits_counted (take n wires) counts) there
+          ∙ flits_counted-whole wires counts size (omega arith)
+          ∙ sym (flits_counted-whole wires counts to (omega arith))
+    ]
+
+-- A link whose wire carries a flit counts.
+pub flits_counted-found : (wires : List (Option Flit)) (counts now : List ℕ) (link default new : ℕ)
+    → link < length wires → link < length counts → is_some (flit_on wires link) ≡ true
+    → now ≡ flits_counted (take link wires) counts → new ≡ capped (get_or now link default + 1)
+    → set now link new ≡ flits_counted (take (link + 1) wires) counts
+flits_counted-found wires counts now link default new within counted some so_far is =
+    let at : slice_get wires link ≡ Some (flit_on wires link) =
+    slice_get-get_or wires link None within
+    ∙ ap (λ (flit : Option Flit). Some flit) (sym (unwrap_or-slice_get wires link None)) in
+    flits_counted-more wires counts now link default new (flit_on wires link) at counted so_far
+    (is ∙ sym (with_flit-some (flit_on wires link) (get_or now link default) some))

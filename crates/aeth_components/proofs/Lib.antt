@@ -1,5 +1,4 @@
 pub mod AloneLemmas
-mod BusyLemmas
 pub mod CountingLemmas
 mod CycleLemmas
 pub mod FrameLemmas

@@ -1,5 +1,5 @@
 -- Laws of the masks that mark channels.
-use Rattle.std.proofs.Common.{ℕ, ◌≡◌, ◌≢◌, ◌<◌, ◌≤◌, ◌-◌, ◌*◌, ◌∙◌}
+use Rattle.std.proofs.Common.{ℕ, ◌≡◌, ◌≢◌, ◌<◌, ◌≤◌, ◌∙◌}
 use Rattle.std.proofs.Common.{sym, ap, arith}
 use Rattle.std.proofs.Common.{inl, inr, subst, List, get_or, length}
 use Rattle.std.proofs.Common.{length-set, set, Some, slice_get}
@@ -9,7 +9,8 @@ use Rattle.std.proofs.lemmas.Option.{slice_get-get_or, slice_get_within}
 use Rattle.aeth_base.proofs.Lists.{slice_get-slice_set_other, slice_get-slice_set_same}
 use Rattle.aeth_router.specs.declared.part.Part.{Part}
 use Rattle.aeth_components.specs.declared.lane.Lane.{Lane}
-use Rattle.aeth_components.specs.Busy.{AreMarked, IsIdle, IsQuiet, bit_of}
+use Rattle.aeth_base.specs.Marks.{bit_of, room_of}
+use Rattle.aeth_components.specs.Busy.{AreMarked, IsIdle, IsQuiet}
 use Rattle.aeth_components.specs.Phases.{Moment, turned_by}
 
 -- A channel has changed: the masks mark as before, where it is idle if it was.
@@ -39,7 +40,7 @@ AreMarked-set {IsStill = IsStill} masks lanes number lane new at still marked =
 -- A channel is marked no more, which is idle.
 pub AreMarked-unmarked : {IsStill : Lane → Type 0} (old new : List ℕ) (lanes : List Lane)
     (number : ℕ) (lane : Lane)
-    → slice_get lanes number ≡ Some lane → IsStill lane → length new ≡ length old
+    → slice_get lanes number ≡ Some lane → IsStill lane → room_of new ≡ room_of old
     → ((other : ℕ) → other ≢ number → bit_of new other ≡ bit_of old other)
     → AreMarked IsStill old lanes → AreMarked IsStill new lanes
 AreMarked-unmarked {IsStill = IsStill} old new lanes number lane at idle same away marked =
@@ -59,7 +60,7 @@ pub AreMarked-settled : (old new : List ℕ) (lanes : List Lane) (number : ℕ) 
     → (get_or lanes number default).accepted ≤ (get_or lanes number default).handed
     → (get_or lanes number default).handed ≤ (get_or lanes number default).landed
     → (get_or lanes number default).landed ≤ (get_or lanes number default).taken
-    → length new ≡ length old
+    → room_of new ≡ room_of old
     → ((other : ℕ) → other ≢ number → bit_of new other ≡ bit_of old other)
     → AreMarked IsIdle old lanes → AreMarked IsIdle new lanes
 AreMarked-settled old new lanes number default within handed landed taken =
@@ -72,7 +73,7 @@ pub AreMarked-hushed : (old new : List ℕ) (lanes : List Lane) (number : ℕ) (
     → number < length lanes
     → (get_or lanes number default).accepted ≤ (get_or lanes number default).handed
     → (get_or lanes number default).landed ≤ (get_or lanes number default).taken
-    → length new ≡ length old
+    → room_of new ≡ room_of old
     → ((other : ℕ) → other ≢ number → bit_of new other ≡ bit_of old other)
     → AreMarked IsQuiet old lanes → AreMarked IsQuiet new lanes
 AreMarked-hushed old new lanes number default within handed taken =
@@ -83,7 +84,7 @@ AreMarked-hushed old new lanes number default within handed taken =
 -- A channel is marked, and may be another.
 pub AreMarked-marked : {IsStill : Lane → Type 0} (old new : List ℕ) (lanes : List Lane) (number : ℕ)
     (lane : Lane)
-    → length new ≡ length old → bit_of new number ≡ 1
+    → room_of new ≡ room_of old → bit_of new number ≡ 1
     → ((other : ℕ) → other ≢ number → bit_of new other ≡ bit_of old other)
     → AreMarked IsStill old lanes → AreMarked IsStill new (set lanes number lane)
 AreMarked-marked old new lanes number lane same here away marked =
@@ -101,8 +102,8 @@ AreMarked-marked old new lanes number lane same here away marked =
 
 -- Where each is marked, none need be idle.
 pub AreMarked-all : {IsStill : Lane → Type 0} (masks : List ℕ) (lanes : List Lane)
-    → length lanes < 64 * length masks
-    → ((number : ℕ) → number < 64 * length masks → bit_of masks number ≡ 1)
+    → length lanes < room_of masks
+    → ((number : ℕ) → number < room_of masks → bit_of masks number ≡ 1)
     → AreMarked IsStill masks lanes
 AreMarked-all masks lanes size all =
     record {

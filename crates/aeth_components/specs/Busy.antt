@@ -1,19 +1,13 @@
--- Which channels may have something to do, as masks of 64 channels each.
+-- Which channels may have something to do, as marks of their numbers.
 --
---   bit_of                     the bit of a channel
 --   IsIdle, IsQuiet            a channel with nothing to do, and one with nothing to hand on or take
 --   AreMarked                  masks that mark all others
 --   AreNoted                   what the masks of a network mark
 --
 -- This project's own.
-use Rattle.std.specs.Prelude.{◌≡◌, ◌≤◌, ◌<◌, ◌*◌, ◌/◌, ◌%◌, ℕ, List, Some, length, slice_get}
-use Rattle.std.specs.Prelude.{slice_index}
-use Rattle.std.specs.Int.{bit_at}
+use Rattle.std.specs.Prelude.{◌≡◌, ◌≤◌, ◌<◌, ℕ, List, Some, length, slice_get}
+use Rattle.aeth_base.specs.Marks.{bit_of, room_of}
 use Rattle.aeth_components.specs.declared.lane.Lane.{Lane}
-
--- The bit of a channel.
-abbrev pub bit_of : List ℕ → ℕ → ℕ
-bit_of masks number = bit_at (slice_index masks (number / 64)) (number % 64)
 
 -- All words that are accepted were handed on, have landed, and were taken.
 pub record IsIdle (lane : Lane) : Type 0 where
@@ -28,7 +22,7 @@ pub record IsQuiet (lane : Lane) : Type 0 where
 
 -- A channel whose bit is 0 is idle, or quiet.
 pub record AreMarked (IsStill : Lane → Type 0) (masks : List ℕ) (lanes : List Lane) : Type 0 where
-  pub size : length lanes < 64 * length masks
+  pub size : length lanes < room_of masks
   pub idle : (number : ℕ) (lane : Lane) → slice_get lanes number ≡ Some lane
       → bit_of masks number ≡ 0 → IsStill lane
 

@@ -9,11 +9,10 @@ ghost use Rattle.aeth_components.specs.Frames.{frame_of};
 ghost use Rattle.aeth_components.specs.Lanes.{IsLane, with_lane};
 ghost use Rattle.aeth_components.specs.Phases.{in_turn, pulled, refilled, turned};
 
-use crate::busy::{all_marked, mark, next};
 use crate::counting::count_one;
 use crate::lane::Lane;
 use crate::phases::{hush, refill_one, settle, take_one};
-use aeth_base::NoMemory;
+use aeth_base::{Marks, NoMemory};
 use aeth_router::Part;
 use std::alloc::Global;
 use std::marker::Model;
@@ -24,9 +23,9 @@ use std::marker::Model;
 pub(crate) struct Channels {
     lanes: Vec<Lane>,
     words: Vec<u32>,
-    // Masks of the channels that may not be idle, and of those that may not be quiet.
-    busy: Vec<u64>,
-    active: Vec<u64>,
+    // Marks of the channels that may not be idle, and of those that may not be quiet.
+    busy: Marks,
+    active: Marks,
 }
 
 impl Model for Channels {
@@ -37,7 +36,7 @@ impl Model for Channels {
 
     ghost view = { λ all. record { lanes = all.lanes.items; words = all.words.items } };
 
-    ghost invariant = { λ all. AreNoted all.busy.items all.active.items all.lanes.items };
+    ghost invariant = { λ all. AreNoted all.busy all.active all.lanes.items };
 }
 
 impl Channels {
@@ -49,8 +48,8 @@ impl Channels {
     ) -> Result<Channels, NoMemory>
         ensures { IfOk result (λ made. made ≡ record { lanes = lanes.items; words = words.items }) }
     {
-        let busy = all_marked(alloc, lanes.len())?;
-        let active = all_marked(alloc, lanes.len())?;
+        let busy = Marks::all(alloc, lanes.len())?;
+        let active = Marks::all(alloc, lanes.len())?;
         Ok(Channels {
             lanes,
             words,
@@ -72,8 +71,8 @@ impl Channels {
         ensures { self.new ≡ record self.old { lanes = slice_set self.old.lanes number lane } }
     {
         self.lanes[number] = lane;
-        mark(&mut self.busy, number);
-        mark(&mut self.active, number);
+        self.busy.mark(number);
+        self.active.mark(number);
     }
 
     /// Each channel in its turn hands its accepted words to its source queue.
@@ -138,7 +137,7 @@ impl Channels {
         ensures end { result ≤ length self.now.lanes }
         ensures still { AreStill IsQuiet self.now.lanes from result }
     {
-        next(&self.active, from, self.lanes.len())
+        self.active.next(from, self.lanes.len())
     }
 
     // The first channel from a number on of which words may land.
@@ -148,7 +147,7 @@ impl Channels {
         ensures end { result ≤ length self.now.lanes }
         ensures still { AreStill IsIdle self.now.lanes from result }
     {
-        next(&self.busy, from, self.lanes.len())
+        self.busy.next(from, self.lanes.len())
     }
 
     // One channel hands its accepted words on.
@@ -189,7 +188,7 @@ impl Channels {
             (λ lane. landings.new ≡ noted cycle parts.now landings.old lane) }
     {
         if count_one(parts, &mut self.lanes[number], landings, cycle) {
-            mark(&mut self.active, number);
+            self.active.mark(number);
         }
     }
 }

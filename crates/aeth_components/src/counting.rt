@@ -53,42 +53,9 @@ pub(crate) fn tally(flits: &mut [u32], wires: &Wires)
     requires few { length flits.old < 2 ^ 32 }
     ensures { flits.new ≡ flits_counted wires.now flits.old }
 {
-    let fours = flits.len() / 4;
-    for four in 0..fours {
-        if has_flit(wires, 4 * four) {
-            tally_some(flits, wires, 4 * four, 4 * four + 4);
-        }
-    }
-    tally_some(flits, wires, 4 * fours, flits.len());
-}
-
-// Whether one of four wires carries a flit.
-fn has_flit(wires: &Wires, from: usize) -> bool
-    requires wires { from + 4 ≤ length wires.now }
-    requires few { from + 4 < 2 ^ 32 }
-    ensures { result ≡ false → (link : ℕ) → from ≤ link → link < from + 4
-        → slice_get wires.now link ≡ Some None }
-{
-    for link in from..from + 4 {
-        if wires.get(LinkId(link as u32)).is_some() {
-            return true;
-        }
-    }
-    false
-}
-
-// Counts one flit more of each of these links whose first wire carries one.
-fn tally_some(flits: &mut [u32], wires: &Wires, from: usize, to: usize)
-    requires order { from ≤ to }
-    requires within { to ≤ length flits.old }
-    requires wires { length flits.old ≤ length wires.now }
-    requires few { length flits.old < 2 ^ 32 }
-    ensures { (counts : List ℕ) → flits.old ≡ flits_counted (take from wires.now) counts
-        → flits.new ≡ flits_counted (take to wires.now) counts }
-{
-    for link in from..to {
-        if wires.get(LinkId(link as u32)).is_some() {
-            flits[link] = flits[link].saturating_add(1);
-        }
+    let mut link = wires.next(0);
+    'links: while (link as usize) < flits.len() {
+        flits[link as usize] = flits[link as usize].saturating_add(1);
+        link = wires.next(link + 1);
     }
 }

@@ -1,7 +1,6 @@
 //! The components of a network, the sessions of its channels, and what one cycle makes of them.
 #![tactic(auto)]
 
-mod busy;
 mod channels;
 mod components;
 mod counting;

@@ -8,10 +8,10 @@ ghost use Rattle.aeth_components.specs.Frames.{frame_of};
 ghost use Rattle.aeth_components.specs.Lanes.{IsEnd, IsLane};
 ghost use Rattle.aeth_components.specs.Phases.{pulled, refilled};
 
-use crate::busy::unmark;
 use crate::event::Event;
 use crate::lane::Lane;
 use crate::parts::{draw, hand, meet};
+use aeth_base::Marks;
 use aeth_router::Part;
 
 // Does the events of a cycle, one after the other.
@@ -53,25 +53,25 @@ pub(crate) fn take_one(parts: &mut [Part], lane: &mut Lane, cycle: u32)
 }
 
 // Marks a channel no more where it is idle.
-pub(crate) fn settle(busy: &mut [u64], lanes: &[Lane], number: usize)
+pub(crate) fn settle(busy: &mut Marks, lanes: &[Lane], number: usize)
     requires number { number < length lanes.now }
     requires marked { AreMarked IsIdle busy.old lanes.now }
     ensures { AreMarked IsIdle busy.new lanes.now }
 {
     let lane = &lanes[number];
     if lane.handed <= lane.landed && lane.landed <= lane.taken && lane.accepted <= lane.handed {
-        unmark(busy, number);
+        busy.unmark(number);
     }
 }
 
 // Marks a channel no more where it is quiet.
-pub(crate) fn hush(active: &mut [u64], lanes: &[Lane], number: usize)
+pub(crate) fn hush(active: &mut Marks, lanes: &[Lane], number: usize)
     requires number { number < length lanes.now }
     requires marked { AreMarked IsQuiet active.old lanes.now }
     ensures { AreMarked IsQuiet active.new lanes.now }
 {
     let lane = &lanes[number];
     if lane.landed <= lane.taken && lane.accepted <= lane.handed {
-        unmark(active, number);
+        active.unmark(number);
     }
 }

@@ -5,5 +5,6 @@ pub mod InterfaceLemmas
 pub mod ProgramLemmas
 pub mod ProgramWrites
 pub mod QueueLemmas
+pub mod RestingLemmas
 pub mod SwitchLemmas
 pub mod WriteLemmas

@@ -1,12 +1,14 @@
 // A network interface: a slot table and 32 queues between two links.
 
 ghost use Rattle.std.specs.Prelude.{◌≡◌, ◌<◌, ◌≤◌, ◌↔◌, length, slice_get, IfOk, IfSome, map};
+ghost use Rattle.std.specs.Prelude.{◌≢◌, ℕ, IsTrue, None};
 ghost use Rattle.std.specs.Bool.{IsFalse, OnTrue, OnFalse};
 ghost use Rattle.std.proofs.Common.{refl};
 ghost use Rattle.aeth_ni.specs.Limits.{queues_of_interface, waiting_words};
 ghost use Rattle.aeth_ni.specs.Queue.{empty_queue, offered, word_taken, finished, stopped};
 ghost use Rattle.aeth_ni.specs.Interface.{IsInterface, queue_at, changed, new_interface};
-ghost use Rattle.aeth_ni.specs.Component.{emitted_by, flit_sent_by, arrival_of, landed_at, last_of};
+ghost use Rattle.aeth_ni.specs.Component.{queue_at_cycle, emitted_by, flit_sent_by, arrival_of};
+ghost use Rattle.aeth_ni.specs.Component.{landed_at, last_of};
 ghost use Rattle.aeth_ni.specs.Component.{interface_outputs, interface_inputs, interface_emit};
 ghost use Rattle.aeth_ni.specs.Component.{interface_after, interface_absorb};
 ghost use Rattle.aeth_ni.specs.Agreement.{interface_absorb-agrees};
@@ -169,6 +171,37 @@ impl Ni {
     {
         self.last
     }
+
+    /// The first cycle from `from` on, and below `to`, in which the interface sends something as it
+    /// stands; `to` where there is none.
+    ///
+    /// It looks at no more than the slots of a table, each once.
+    pub fn next_sending(&self, from: u64, to: u64) -> u64
+        requires { from ≤ to }
+        ensures from { from ≤ result }
+        ensures to { result ≤ to }
+        ensures mute { (cycle : ℕ) → from ≤ cycle → cycle < result
+            → emitted_by (queue_at_cycle self.now.entries cycle) self.now.queues ≡ None }
+        ensures sends { result < to
+            → emitted_by (queue_at_cycle self.now.entries result) self.now.queues ≢ None }
+    {
+        let span = (to - from).min(self.entries.len() as u64);
+        for cycle in from..from + span {
+            if !self.is_mute(cycle) {
+                return cycle;
+            }
+        }
+        to
+    }
+
+    // Whether the queue of the cycle's slot sends nothing.
+    fn is_mute(&self, cycle: u64) -> bool
+        ensures { IsTrue result
+            ↔ (emitted_by (queue_at_cycle self.now.entries cycle) self.now.queues ≡ None) }
+    {
+        let slot = cycle % self.entries.len() as u64;
+        is_mute(&self.queues, self.entries[slot as usize])
+    }
 }
 
 impl Clocked for Ni {
@@ -192,6 +225,14 @@ impl Clocked for Ni {
     fn latch(&mut self, wires: &Wires) {
         let flit = wires.get(self.entering);
         self.last = land(&mut self.queues, flit);
+    }
+
+    fn rests_drive(&self, cycle: u64, wires: &Wires) -> bool {
+        wires.is_empty(self.leaving) && self.is_mute(cycle)
+    }
+
+    fn rests_latch(&self, wires: &Wires) -> bool {
+        wires.is_empty(self.entering) && self.last.is_none()
     }
 
     ghost outputs_after = { λ ni cycle link. refl };
@@ -224,6 +265,17 @@ fn emit_by(queues: &mut [Queue], entry: Option<u8>) -> Option<Flit>
 {
     let queue = &mut queues[entry? as usize];
     queue.emit()
+}
+
+// Whether the queue of an entry sends nothing.
+fn is_mute(queues: &[Queue], entry: Option<u8>) -> bool
+    requires { IfSome entry (λ queue. queue < length queues.now) }
+    ensures { IsTrue result ↔ (emitted_by entry queues.now ≡ None) }
+{
+    match entry {
+        Some(queue) => queues[queue as usize].is_mute(),
+        None => true,
+    }
 }
 
 // Lands what a link brings, and gives the queue and the word count of it.

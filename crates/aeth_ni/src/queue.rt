@@ -1,7 +1,7 @@
 // One queue number of a network interface: its two queues, its route and its credits.
 
 ghost use Rattle.std.specs.Prelude.{◌≡◌, ◌<◌, ◌≤◌, ◌↔◌, length, slice_get, slice_index, IfOk};
-ghost use Rattle.std.specs.Prelude.{None, take, drop};
+ghost use Rattle.std.specs.Prelude.{IsTrue, None, take, drop};
 ghost use Rattle.std.specs.Bool.{IsFalse, OnTrue, OnFalse};
 ghost use Rattle.circular_buffer.specs.Buffer.{buffer};
 ghost use Rattle.aeth_base.specs.Limits.{words_per_flit};
@@ -163,6 +163,15 @@ impl Queue {
             first,
             second,
         })
+    }
+
+    /// Whether the queue sends nothing in a slot of its own.
+    pub(crate) fn is_mute(&self) -> bool
+        ensures { IsTrue result ↔ (emitted self.now ≡ None) }
+    {
+        let sends_words = self.counter > 0 && !self.waiting.is_empty();
+        let sends_credits = self.owed > 0;
+        self.halted || self.route.is_none() || !(sends_words || sends_credits)
     }
 
     /// Puts the words of a flit behind those that were received, of which the newest stay, and

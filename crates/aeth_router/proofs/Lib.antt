@@ -1,6 +1,7 @@
 pub mod IdleLemmas
 pub mod LinkLemmas
 pub mod PortLemmas
+pub mod RestingLemmas
 pub mod RouterLemmas
 pub mod WireLemmas
 mod Steps

@@ -1,12 +1,13 @@
 -- What each turn of the loops over links of a router adds.
-use Rattle.std.proofs.Common.{◌≡◌, ◌<◌, ◌+◌, ℕ, refl, sym, ap, ◌∙◌, arith}
+use Rattle.std.proofs.Common.{◌≡◌, ◌<◌, ◌+◌, ℕ, suc, refl, sym, ap, ◌∙◌, inl, inr, arith}
 use Rattle.std.proofs.Common.{eqb, ◌||◌, List, [], ◌∷◌, ◌++◌, length, map, replicate, take}
-use Rattle.std.proofs.Common.{get_or, Option, Some, None, false, is_some}
+use Rattle.std.proofs.Common.{get_or, Option, Some, None, true}
 use Rattle.std.proofs.Common.{slice_get}
 use Rattle.std.specs.Prelude.{unwrap_or}
 use Rattle.std.specs.List.{slice_set}
+use Rattle.std.proofs.lemmas.Bool.{cases_Bool, eqb-true}
 use Rattle.std.proofs.lemmas.Bool.Decides.{nat_tests}
-use Rattle.std.proofs.lemmas.List.{map-append, replicate-append-replicate, take_more}
+use Rattle.std.proofs.lemmas.List.{map-append, take_more}
 use Rattle.std.proofs.lemmas.List.{take_more_set}
 use Rattle.std.proofs.lemmas.List.Folds.{list_any-append}
 use Rattle.std.proofs.lemmas.Option.{get_or_from_slice_get, slice_get-get_or, slice_get-map}
@@ -14,6 +15,7 @@ use Rattle.std.proofs.lemmas.Option.{slice_get_within}
 use Rattle.std.specs.Option.{option_map}
 use Rattle.aeth_base.specs.declared.ids.LinkId.{LinkId}
 use Rattle.aeth_clocked.specs.declared.flit.Flit.{Flit}
+use Rattle.aeth_clocked.specs.Resting.{HasNoFlit}
 use Rattle.aeth_clocked.specs.Wires.{AreLinks, Drives, flit_on}
 use Rattle.aeth_clocked.proofs.WiresLemmas.{Drives-same, Drives-slice_set, Drives-then}
 use Rattle.aeth_router.specs.Router.{is_among, numbers_of}
@@ -71,22 +73,6 @@ held-more wires held links place link flit at within on before =
     ∙ rw (take-at links place link at, map-append (flit_on wires) (take place links) (link ∷ []))
     (rw (before, is) refl)
 
--- One wire more carries none.
-pub empty-more : (wires : List (Option Flit)) (links : List ℕ) (place link : ℕ)
-    (flit : Option Flit) → slice_get links place ≡ Some link → slice_get wires link ≡ Some flit
-    → is_some flit ≡ false → map (flit_on wires) (take place links) ≡ replicate place None
-    → map (flit_on wires) (take (place + 1) links) ≡ replicate (place + 1) None
-empty-more wires links place link (Some flit) at on none before = absurd (cc none)
-empty-more wires links place link None at on none before =
-    let empty : flit_on wires link ≡ None =
-    ap (λ (there : Option (Option Flit)). unwrap_or there None) on in
-    rw (
-      take-at links place link at,
-      map-append (flit_on wires) (take place links) (link ∷ []),
-      before,
-      empty,
-    ) (replicate-append-replicate place 1 None)
-
 -- The links up to a place, and the one at it.
 is_among-more : (links : List ℕ) (place link other : ℕ) → slice_get links place ≡ Some link
     → is_among (take (place + 1) links) other
@@ -95,6 +81,34 @@ is_among-more links place link other at =
     rw (take-at links place link at)
     (list_any-append (λ among. eqb among other) (take place links) (link ∷ [])
     ∙ grind (arith, nat_tests))
+
+-- One wire more is empty.
+pub HasNoFlit-more : (links : List ℕ) (wires : List (Option Flit)) (place link : ℕ)
+    → slice_get links place ≡ Some link → flit_on wires link ≡ None
+    → HasNoFlit (is_among (take place links)) wires
+    → HasNoFlit (is_among (take (place + 1) links)) wires
+HasNoFlit-more links wires place link at empty before = λ other is.
+    elim (cases_Bool (is_among (take place links) other)) [
+      | inl earlier ↦ before other earlier
+      | inr apart ↦
+          let more = is_among-more links place link other at in
+          let last : eqb link other ≡ true = sym (rw apart at more) ∙ is in
+          ap (flit_on wires) (sym (eqb-true link other last)) ∙ empty
+    ]
+
+-- Where all these wires are empty, no flit is taken in.
+flits-none : (links : List ℕ) (wires : List (Option Flit))
+    → ((place link : ℕ) → slice_get links place ≡ Some link → flit_on wires link ≡ None)
+    → map (flit_on wires) links ≡ replicate (length links) None
+flits-none [] wires empty = refl
+flits-none (link ∷ links) wires empty =
+    rw (empty 0 link refl, flits-none links wires (λ place. empty (suc place))) refl
+
+pub HasNoFlit-map : (links : List ℕ) (wires : List (Option Flit))
+    → HasNoFlit (is_among links) wires
+    → map (flit_on wires) links ≡ replicate (length links) None
+HasNoFlit-map links wires empty =
+    flits-none links wires (λ place link at. empty link (is_among-at links place link at))
 
 -- One link more is driven.
 pub Drives-more : (links : List ℕ) (flit_on : ℕ → Option Flit) (place link : ℕ)

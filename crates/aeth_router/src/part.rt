@@ -48,6 +48,22 @@ impl Clocked for Part {
         }
     }
 
+    fn rests_drive(&self, cycle: u64, wires: &Wires) -> bool {
+        match self {
+            Part::Interface(ni) => ni.rests_drive(cycle, wires),
+            Part::Router(router) => router.rests_drive(cycle, wires),
+            Part::Stage(stage) => stage.rests_drive(cycle, wires),
+        }
+    }
+
+    fn rests_latch(&self, wires: &Wires) -> bool {
+        match self {
+            Part::Interface(ni) => ni.rests_latch(wires),
+            Part::Router(router) => router.rests_latch(wires),
+            Part::Stage(stage) => stage.rests_latch(wires),
+        }
+    }
+
     ghost outputs_after = { outputs_of-after };
 
     ghost inputs_after = { inputs_of-after };

@@ -1,7 +1,9 @@
 // A router: flits latched in one cycle and driven in the next.
 
-ghost use Rattle.std.specs.Prelude.{◌≡◌, ◌<◌, IfOk, None, false, length, map, replicate, slice_set};
+ghost use Rattle.std.specs.Prelude.{◌≡◌, ◌<◌, ◌↔◌, IfOk, IsTrue, None, length, map, replicate};
+ghost use Rattle.std.specs.Prelude.{slice_set};
 ghost use Rattle.aeth_chip.specs.Nodes.{sends_on};
+ghost use Rattle.aeth_clocked.specs.Resting.{HasNoFlit};
 ghost use Rattle.aeth_clocked.specs.Wires.{AreLinks, flit_on};
 ghost use Rattle.aeth_router.specs.Router.{is_among, last_wire, new_router, numbers_of};
 ghost use Rattle.aeth_router.specs.Router.{router_outputs, router_inputs, router_emit};
@@ -67,6 +69,13 @@ impl Router {
             is_holding: false,
         })
     }
+
+    // Whether no flit is held.
+    fn holds_none(&self) -> bool
+        ensures { IsTrue result ↔ (self.now.held ≡ replicate (length self.now.held) None) }
+    {
+        !self.is_holding || are_none(&self.held)
+    }
 }
 
 impl Clocked for Router {
@@ -91,10 +100,19 @@ impl Clocked for Router {
     }
 
     fn latch(&mut self, wires: &Wires) {
-        if self.is_holding || brings_some(&self.incoming, wires) {
+        if self.is_holding || !are_empty(&self.incoming, wires) {
             take_in(&mut self.held, &self.incoming, wires);
             self.is_holding = true;
         }
+    }
+
+    // A router whose flits contend emits nothing, and yet doesn't rest: they are lost.
+    fn rests_drive(&self, _cycle: u64, wires: &Wires) -> bool {
+        self.holds_none() && are_empty(&self.outgoing, wires)
+    }
+
+    fn rests_latch(&self, wires: &Wires) -> bool {
+        self.holds_none() && are_empty(&self.incoming, wires)
     }
 
     ghost outputs_after = { λ router cycle link. refl };
@@ -149,18 +167,29 @@ fn last_wire(chip: &Chip, link: LinkId) -> LinkId
     chip.wire(link, chip.link(link).delay - 1)
 }
 
-// Whether one of these wires carries a flit.
-fn brings_some(incoming: &[LinkId], wires: &Wires) -> bool
-    requires { AreLinks (is_among (numbers_of incoming.now)) (length wires.now) }
-    ensures { result ≡ false → map (flit_on wires.now) (numbers_of incoming.now)
-        ≡ replicate (length incoming.now) None }
+// Whether each of these wires is empty.
+fn are_empty(links: &[LinkId], wires: &Wires) -> bool
+    requires { AreLinks (is_among (numbers_of links.now)) (length wires.now) }
+    ensures { IsTrue result ↔ HasNoFlit (is_among (numbers_of links.now)) wires.now }
 {
-    for link in incoming {
-        if wires.get(*link).is_some() {
-            return true;
+    for link in links {
+        if !wires.is_empty(*link) {
+            return false;
         }
     }
-    false
+    true
+}
+
+// Whether there is a flit at no place.
+fn are_none(held: &[Option<Flit>]) -> bool
+    ensures { IsTrue result ↔ (held.now ≡ replicate (length held.now) None) }
+{
+    for latched in held {
+        if latched.is_some() {
+            return false;
+        }
+    }
+    true
 }
 
 // Holds from each incoming wire what is there.

@@ -70,6 +70,14 @@ impl Clocked for Stage {
         self.held = wires.get(self.input);
     }
 
+    fn rests_drive(&self, _cycle: u64, wires: &Wires) -> bool {
+        self.held.is_none() && wires.is_empty(self.output)
+    }
+
+    fn rests_latch(&self, wires: &Wires) -> bool {
+        self.held.is_none() && wires.is_empty(self.input)
+    }
+
     ghost outputs_after = { λ stage cycle wire. refl };
 
     ghost inputs_after = { λ stage cycle wire. refl };

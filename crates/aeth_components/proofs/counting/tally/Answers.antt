@@ -1,35 +1,45 @@
-use Rattle.std.proofs.Common.{◌≡◌, ◌*◌, ◌/◌, ◌+◌, ◌∙◌, ap, arith, length, take}
+use Rattle.std.proofs.Common.{◌≡◌, ◌<◌, ◌+◌, ◌∙◌, arith, length, refl}
 use Rattle.aeth_components.proofs.counting.tally.Goals as goal
-use Rattle.aeth_components.proofs.counting.tally.Goals.{then-has_flit, else-has_flit}
-use Rattle.aeth_components.proofs.CountingLemmas.{flits_counted-skipped, flits_counted-whole}
-use Rattle.aeth_components.specs.Counting.{flits_counted}
+use Rattle.aeth_components.proofs.CountingLemmas.{flits_counted-found, flits_counted-until}
+use Rattle.aeth_components.proofs.CountingLemmas.{flits_counted-whole}
 
--- Four links more are counted.
-pub loop-four-preserved : goal.loop-four-preserved
-loop-four-preserved c =
+-- No wire before the first one that carries a flit counts.
+pub links-init : goal.links-init
+links-init c =
+    let counts = c.args.flits.now in
+    let next = c.next-link.ensures in
+    record {
+      counted = flits_counted-until c.args.wires.now counts counts 0 c.next-link.result
+          (omega arith) (omega arith) next.end next.empty refl;
+      within = next.end;
+      found = next.found;
+    }
+
+-- One link more is counted, and those up to the next one that carries a flit aren't.
+pub links-preserved : goal.links-preserved
+links-preserved c =
     let wires = c.args.wires.now in
     let counts = c.args.flits.now in
-    let four = c.loop-four.four in
-    let next : 4 * four + 4 ≡ 4 * (four + 1) = omega arith in
-    let test = c.loop-four-test.true in
-    elim c.if-has_flit.branch [
-      | then-has_flit w ↦
-          w.flits-is ∙ w.tally_some.ensures counts c.loop-four.invariant
-          ∙ ap (λ n. flits_counted (take n wires) counts) next
-      | else-has_flit w ↦
-          w.flits-is
-          ∙ flits_counted-skipped wires counts c.loop-four.flits (4 * four) 4 (omega arith)
-          (c.has_flit.ensures w.if-has_flit.false) c.loop-four.invariant
-          ∙ ap (λ n. flits_counted (take n wires) counts) next
-    ]
+    let link = c.links.link in
+    let next = c.next-link-in-links.ensures in
+    let size : length c.links.flits ≡ length counts = c.links.auto.flits in
+    let test = c.links-test.true in
+    let few = c.requires.wires in
+    let here : link < length wires = omega arith in
+    record {
+      counted = flits_counted-until wires counts _ (link + 1) c.next-link-in-links.result
+          (omega arith) next.from next.end next.empty
+          (flits_counted-found wires counts c.links.flits link 0 c.saturating_add.result here
+          (omega arith) (c.links.invariant.found here) c.links.invariant.counted
+          c.saturating_add.ensures);
+      within = next.end;
+      found = next.found;
+    }
 
--- All links are.
+-- All are counted.
 pub returns : goal.returns
 returns c =
-    let wires = c.args.wires.now in
-    let counts = c.args.flits.now in
-    let test = c.loop-four-test.false in
-    let last : 4 * c.loop-four.four ≡ 4 * (length counts / 4) = omega arith in
-    c.tally_some-2.ensures counts
-    (c.loop-four.invariant ∙ ap (λ n. flits_counted (take n wires) counts) last)
-    ∙ flits_counted-whole wires counts _ (omega arith)
+    let size : length c.links.flits ≡ length c.args.flits.now = c.links.auto.flits in
+    let test = c.links-test.false in
+    c.links.invariant.counted
+    ∙ flits_counted-whole c.args.wires.now c.args.flits.now c.links.link (omega arith)

@@ -1,13 +1,11 @@
-use Rattle.std.proofs.Common.{◌∙◌, ℕ, List, ap, arith, length, set, slice_get, subst, sym}
-use Rattle.std.specs.Prelude.{slice_set}
+use Rattle.std.proofs.Common.{◌∙◌, ap, arith, length, set, slice_get, subst, sym}
 use Rattle.std.proofs.lemmas.Option.{same_Some}
 use Rattle.aeth_components.proofs.channels.Channels.count_one.Goals as goal
 use Rattle.aeth_components.proofs.CountingLemmas.{counted-none}
-use Rattle.aeth_base.proofs.Lists.{written_back}
 use Rattle.aeth_components.proofs.LaneLemmas.{set-with_lane}
 use Rattle.aeth_components.proofs.MarkLemmas.{AreMarked-marked, AreMarked-set}
 use Rattle.aeth_components.proofs.SkipLemmas.{lane-there}
-use Rattle.aeth_components.specs.Busy.{AreMarked, IsIdle, IsQuiet}
+use Rattle.aeth_components.specs.Busy.{IsIdle}
 use Rattle.aeth_components.specs.Channels.{ChannelsState}
 use Rattle.aeth_components.specs.Counting.{counted, noted}
 use Rattle.aeth_components.specs.Lanes.{with_lane}
@@ -22,20 +20,13 @@ invariant_of-self c =
     let size = ap (λ (all : ChannelsState). length all.lanes) c.self.view_is in
     let number = c.requires.number in
     let at = lane-there lanes c.args.number lane (omega arith) c.index_mut.ensures.value in
-    let quiet : AreMarked IsQuiet c.deref_mut.result.now lanes =
-    subst (λ (masks : List ℕ). AreMarked IsQuiet masks lanes) (sym c.deref_mut.ensures.value)
-    c.self.invariant.quiet in
     record {
-      idle = AreMarked-set all.busy.items lanes c.args.number lane new at
+      idle = AreMarked-set all.busy lanes c.args.number lane new at
           (λ idle. subst IsIdle (sym (c.count_one.ensures.lane
           ∙ counted-none c.args.cycle c.args.parts.now lane idle.landed)) idle)
           c.self.invariant.idle;
-      quiet = subst (λ (masks : List ℕ).
-          AreMarked IsQuiet masks (slice_set lanes c.args.number new))
-          (sym (written_back all.active.items c.mark.new.masks all.active.len all.active.ok.0
-          (c.mark.ensures.size ∙ ap length c.deref_mut.ensures.value)))
-          (AreMarked-marked c.deref_mut.result.now c.mark.new.masks lanes c.args.number new
-          c.mark.ensures.size c.mark.ensures.here c.mark.ensures.away quiet);
+      quiet = AreMarked-marked all.active c.mark.new.self lanes c.args.number new
+          c.mark.ensures.room c.mark.ensures.here c.mark.ensures.away c.self.invariant.quiet;
     }
 
 -- The channel is counted.

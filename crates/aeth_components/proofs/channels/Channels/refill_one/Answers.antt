@@ -23,10 +23,10 @@ invariant_of-self c =
     let done : List Part × Lane = (c.refill_one.new.parts, c.refill_one.new.lane) in
     record {
       idle = AreMarked-turned (refilled words cycle)
-          (λ parts lane idle. refilled-none words cycle parts lane idle.handed) all.busy.items now
+          (λ parts lane idle. refilled-none words cycle parts lane idle.handed) all.busy now
           c.args.number lane done at c.refill_one.ensures c.self.invariant.idle;
       quiet = AreMarked-turned (refilled words cycle)
-          (λ parts lane quiet. refilled-none words cycle parts lane quiet.handed) all.active.items
+          (λ parts lane quiet. refilled-none words cycle parts lane quiet.handed) all.active
           now c.args.number lane done at c.refill_one.ensures c.self.invariant.quiet;
     }
 

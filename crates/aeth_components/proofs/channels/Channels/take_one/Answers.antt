@@ -1,4 +1,4 @@
-use Rattle.std.proofs.Common.{◌∙◌, ℕ, List, ap, arith, length, subst, sym}
+use Rattle.std.proofs.Common.{◌∙◌, ap, arith, length, subst, sym}
 use Rattle.aeth_components.proofs.channels.Channels.take_one.Goals as goal
 use Rattle.aeth_components.proofs.MarkLemmas.{AreMarked-turned}
 use Rattle.aeth_components.proofs.SkipLemmas.{lane-there, turned-there}
@@ -16,13 +16,11 @@ settle-requires-clause-marked c =
     let number = c.requires.number in
     let at = lane-there all.lanes.items c.args.number lane (omega arith) c.index_mut.ensures.value
     in
-    subst (λ (masks : List ℕ). AreMarked IsIdle masks c.deref.result.now)
-    (sym c.deref_mut.ensures.value)
-    (subst (AreMarked IsIdle all.busy.items) (sym c.deref.ensures.value)
+    subst (AreMarked IsIdle all.busy) (sym c.deref.ensures.value)
     (AreMarked-turned (pulled c.args.cycle)
-    (λ parts lane idle. pulled-none c.args.cycle parts lane idle.taken) all.busy.items
+    (λ parts lane idle. pulled-none c.args.cycle parts lane idle.taken) all.busy
     (record { parts = c.args.parts.now; lanes = all.lanes.items }) c.args.number lane
-    (c.take_one.new.parts, c.take_one.new.lane) at c.take_one.ensures c.self.invariant.idle))
+    (c.take_one.new.parts, c.take_one.new.lane) at c.take_one.ensures c.self.invariant.idle)
 
 pub hush-requires-clause-marked : goal.hush-requires-clause-marked
 hush-requires-clause-marked c =
@@ -32,13 +30,11 @@ hush-requires-clause-marked c =
     let number = c.requires.number in
     let at = lane-there all.lanes.items c.args.number lane (omega arith) c.index_mut.ensures.value
     in
-    subst (λ (masks : List ℕ). AreMarked IsQuiet masks c.deref-2.result.now)
-    (sym c.deref_mut-2.ensures.value)
-    (subst (AreMarked IsQuiet all.active.items) (sym c.deref-2.ensures.value)
+    subst (AreMarked IsQuiet all.active) (sym c.deref-2.ensures.value)
     (AreMarked-turned (pulled c.args.cycle)
-    (λ parts lane quiet. pulled-none c.args.cycle parts lane quiet.taken) all.active.items
+    (λ parts lane quiet. pulled-none c.args.cycle parts lane quiet.taken) all.active
     (record { parts = c.args.parts.now; lanes = all.lanes.items }) c.args.number lane
-    (c.take_one.new.parts, c.take_one.new.lane) at c.take_one.ensures c.self.invariant.quiet))
+    (c.take_one.new.parts, c.take_one.new.lane) at c.take_one.ensures c.self.invariant.quiet)
 
 -- The channel has had its turn.
 pub returns-clause-turn : goal.returns-clause-turn

@@ -1,8 +1,0 @@
-use Rattle.std.proofs.Common.{◌≡◌, ◌≤◌, ◌<◌, ◌*◌, ℕ}
-use Rattle.aeth_components.proofs.busy.first_in.Given as goal
-use Rattle.aeth_components.specs.Busy.{bit_of}
-
--- No channel of the masks so far is marked.
-abbrev pub invariant-loop-place : goal.invariant-loop-place
-invariant-loop-place l =
-    (number : ℕ) → 64 * l.from ≤ number → number < 64 * l.place → bit_of l.masks number ≡ 0

@@ -1,0 +1,134 @@
+-- When a router, a stage, or a component of any kind rests.
+use Rattle.std.proofs.Common.{◌≡◌, ◌↔◌, ◌∙◌, ℕ, sym, ap}
+use Rattle.std.proofs.Common.{List, length, replicate, Option, None}
+use Rattle.aeth_clocked.specs.Resting.{HasNoFlit, RestsDrive, RestsLatch}
+use Rattle.aeth_clocked.specs.Wires.{flit_on}
+use Rattle.aeth_clocked.specs.declared.flit.Flit.{Flit}
+use Rattle.aeth_clocked.proofs.WiresLemmas.{HasNoFlit-one}
+use Rattle.aeth_ni.specs.Component.{interface_after, interface_emit, interface_outputs}
+use Rattle.aeth_ni.specs.Interface.{InterfaceState}
+use Rattle.aeth_router.specs.Part.{after_of, emit_of, outputs_of}
+use Rattle.aeth_router.specs.Router.{RouterState, emitted_on, is_among}
+use Rattle.aeth_router.specs.Router.{router_absorb, router_after, router_emit}
+use Rattle.aeth_router.specs.Router.{router_inputs, router_outputs}
+use Rattle.aeth_router.specs.Stage.{StageState, stage_absorb, stage_after, stage_emit}
+use Rattle.aeth_router.specs.Stage.{stage_inputs, stage_outputs}
+use Rattle.aeth_router.specs.declared.part.Part.{Part}
+use Rattle.aeth_router.specs.declared.part.Part.TheVariants.{Interface, Router, Stage}
+use Rattle.aeth_router.proofs.IdleLemmas.{emitted_on-idle}
+use Rattle.aeth_router.proofs.Steps.{HasNoFlit-map}
+
+module _ (router : RouterState) (wires : List (Option Flit)) where
+  -- A router rests from driving just where it holds no flit and its outgoing links are empty.
+  pub RestsDrive-router : (cycle : ℕ)
+      → ((router.held ≡ replicate (length router.held) None)
+      × HasNoFlit (is_among router.outgoing) wires)
+      ↔ RestsDrive router_outputs router_emit router_after cycle wires router
+  RestsDrive-router cycle = (
+    (λ idle. record {
+      silent = λ link is.
+          ap (λ (held : List (Option Flit)). emitted_on router.outgoing held link) idle.0
+          ∙ emitted_on-idle router.outgoing (length router.held) link;
+      still = ap (λ (held : List (Option Flit)). record router { held = held }) (sym idle.0);
+      empty = idle.1;
+    }),
+    (λ rests. (sym (ap (λ (router : RouterState). router.held) rests.still), rests.empty)),
+  )
+
+  -- It rests from latching empty wires just where it holds no flit.
+  pub RestsLatch-router : length router.held ≡ length router.incoming
+      → ((router.held ≡ replicate (length router.held) None)
+      × HasNoFlit (is_among router.incoming) wires)
+      ↔ (HasNoFlit (router_inputs router) wires × RestsLatch router_absorb wires router)
+  RestsLatch-router places =
+      let none_come = λ (empty : HasNoFlit (is_among router.incoming) wires).
+      HasNoFlit-map router.incoming wires empty
+      ∙ ap (λ n. replicate n None) (sym places) in (
+        (λ idle. (
+          idle.1,
+          ap (λ (held : List (Option Flit)). record router { held = held })
+              (none_come idle.1 ∙ sym idle.0),
+        )),
+        (λ rests. (
+          sym (ap (λ (router : RouterState). router.held) rests.1) ∙ none_come rests.0,
+          rests.0,
+        )),
+      )
+
+module _ (stage : StageState) (wires : List (Option Flit)) where
+  -- A stage rests from driving just where it holds no flit and its output is empty.
+  pub RestsDrive-stage : (cycle : ℕ)
+      → ((stage.held ≡ None) × (flit_on wires stage.output.0 ≡ None))
+      ↔ RestsDrive stage_outputs stage_emit stage_after cycle wires stage
+  RestsDrive-stage cycle = (
+    (λ idle. record {
+      silent = λ link is. idle.0;
+      still = ap (λ (held : Option Flit). record stage { held = held }) (sym idle.0);
+      empty = (HasNoFlit-one stage.output.0 wires).0 idle.1;
+    }),
+    (λ rests. (
+      sym (ap (λ (stage : StageState). stage.held) rests.still),
+      (HasNoFlit-one stage.output.0 wires).1 rests.empty,
+    )),
+  )
+
+  -- It rests from latching an empty wire just where it holds no flit.
+  pub RestsLatch-stage :
+      ((stage.held ≡ None) × (flit_on wires stage.input.0 ≡ None))
+      ↔ (HasNoFlit (stage_inputs stage) wires × RestsLatch stage_absorb wires stage)
+  RestsLatch-stage = (
+    (λ idle. (
+      (HasNoFlit-one stage.input.0 wires).0 idle.1,
+      ap (λ (held : Option Flit). record stage { held = held }) (idle.1 ∙ sym idle.0),
+    )),
+    (λ rests.
+        let empty = (HasNoFlit-one stage.input.0 wires).1 rests.0 in (
+          sym (ap (λ (stage : StageState). stage.held) rests.1) ∙ empty,
+          empty,
+        )),
+  )
+
+-- The component of a kind, where it is of that kind.
+abbrev interface_in : InterfaceState → Part → InterfaceState
+interface_in other (Interface ni) = ni
+interface_in other (Router router) = other
+interface_in other (Stage stage) = other
+
+abbrev router_in : RouterState → Part → RouterState
+router_in other (Interface ni) = other
+router_in other (Router router) = router
+router_in other (Stage stage) = other
+
+-- An interface or a router among components of any kind rests just where it does alone.
+module _ (wires : List (Option Flit)) where
+  pub drives-interface : (cycle : ℕ) (ni : InterfaceState)
+      → RestsDrive interface_outputs interface_emit interface_after cycle wires ni
+      ↔ RestsDrive outputs_of emit_of after_of cycle wires (Interface ni)
+  drives-interface cycle ni = (
+    (λ rests. record {
+      silent = rests.silent;
+      still = ap (λ ni. Interface ni) rests.still;
+      empty = rests.empty;
+    }),
+    (λ rests. record {
+      silent = rests.silent;
+      still = ap (interface_in ni) rests.still;
+      empty = rests.empty;
+    }),
+  )
+
+  pub drives-router : (cycle : ℕ) (router : RouterState)
+      → RestsDrive router_outputs router_emit router_after cycle wires router
+      ↔ RestsDrive outputs_of emit_of after_of cycle wires (Router router)
+  drives-router cycle router = (
+    (λ rests. record {
+      silent = rests.silent;
+      still = ap (λ router. Router router) rests.still;
+      empty = rests.empty;
+    }),
+    (λ rests. record {
+      silent = rests.silent;
+      still = ap (router_in router) rests.still;
+      empty = rests.empty;
+    }),
+  )
