@@ -1,0 +1,11 @@
+pub mod OfferLemmas
+pub mod FinishLemmas
+pub mod LegLemmas
+pub mod ChainLemmas
+mod ShapeLemmas
+mod AlongLemmas
+mod LaneLemmas
+mod ReceiverLemmas
+mod RunningLemmas
+mod LandedLemmas
+mod FirstLemmas

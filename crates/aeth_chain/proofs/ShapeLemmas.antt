@@ -1,0 +1,110 @@
+-- What is asked of a chain, over its legs.
+use Rattle.std.proofs.Common.{ℕ, ◌+◌, ◌≤◌, ◌≡◌, List, [], ◌∷◌, Some, length, slice_get, refl, sym}
+use Rattle.std.proofs.Common.{◌-◌, ◌∙◌, ap, drop, take, subst, suc, get_or, inl, inr, arith}
+use Rattle.std.specs.Prelude.{All}
+use Rattle.std.proofs.lemmas.Bool.{cases_lt}
+use Rattle.std.proofs.lemmas.List.{length-drop, take_all}
+use Rattle.std.proofs.lemmas.Option.{slice_get-get_or}
+use Rattle.std.proofs.lemmas.List.Elements.{All-cons, All-head, All-nil, All-tail}
+use Rattle.aeth_slots.specs.SlotSet.{Ascends, IsSlotSet}
+use Rattle.aeth_server.specs.ChannelShape.{IsShapeInRange, shape_of}
+use Rattle.aeth_server.specs.Shape.{IsGranted, channel_latency}
+use Rattle.aeth_server.specs.declared.shape.ChannelShape.{ChannelShape}
+use Rattle.aeth_chain.specs.Chain.{IsChain, latency_along, leg_of, legs_of, passing_latency}
+use Rattle.aeth_chain.specs.Chain.{size_of}
+use Rattle.aeth_chain.specs.declared.item.ChainItem.{ChainItem}
+use Rattle.aeth_chain.specs.Limits.{max_work}
+use Rattle.aeth_chain.proofs.ChainLemmas.{IsLegOf}
+
+-- A shape in its range, of slot sets, is granted what it asks for.
+pub shape-granted : (shape : ChannelShape) → IsSlotSet shape.slots → IsSlotSet shape.back
+    → IsShapeInRange shape → IsGranted (shape_of shape)
+shape-granted shape own back is = record {
+  paths = record {
+    path = let some = is.least_links in omega arith;
+    back_path = let some = is.least_back in omega arith;
+  };
+  least_rate = let some = is.least_need in omega arith;
+  ascends = own.ascends;
+  capacity = let few = is.capacity in omega arith;
+  back_ascends = subst (λ n. Ascends 0 n shape.back.slots) (sym is.same_size) back.ascends;
+  back_capacity = is.back_capacity;
+}
+
+-- Shapes of one size that are granted make legs of that size.
+legs-are : (size : ℕ) (items : List ChainItem) (shapes : List ChannelShape)
+    → All (λ (shape : ChannelShape). IsGranted (shape_of shape)) shapes
+    → ((k : ℕ) (shape : ChannelShape) → slice_get shapes k ≡ Some shape
+    → shape.slots.size ≡ size) → All (IsLegOf size) (legs_of items shapes)
+legs-are size [] shapes granted same = All-nil (IsLegOf size)
+legs-are size (item ∷ items) [] granted same = All-nil (IsLegOf size)
+legs-are size (item ∷ items) (shape ∷ shapes) granted same =
+    let P : ChannelShape → Type 0 = λ shape. IsGranted (shape_of shape) in
+    All-cons (IsLegOf size) (leg_of item shape) (legs_of items shapes)
+    (record {
+      granted = All-head (λ (shape : ChannelShape). IsGranted (shape_of shape)) shape shapes
+          granted;
+      size_is = same 0 shape refl;
+    })
+    (legs-are size items shapes
+    (All-tail (λ (shape : ChannelShape). IsGranted (shape_of shape)) shape shapes granted)
+    (λ k one at. same (suc k) one at))
+
+-- The legs of a chain have the size of the first.
+pub chain-legs : (items : List ChainItem) (shapes : List ChannelShape) → IsChain items shapes
+    → All (λ (shape : ChannelShape). IsGranted (shape_of shape)) shapes
+    → All (IsLegOf (size_of (legs_of items shapes))) (legs_of items shapes)
+chain-legs [] shapes is granted = absurd (let some = is.some in omega arith)
+chain-legs (item ∷ items) [] is granted = absurd (let beside = is.beside in omega arith)
+chain-legs (item ∷ items) (shape ∷ shapes) is granted =
+    legs-are shape.slots.size (item ∷ items) (shape ∷ shapes) granted
+    (λ k one at. is.one_size k 0 one shape at refl)
+
+-- No core of a chain works for longer than it may.
+pub chain-works : (items : List ChainItem) (shapes : List ChannelShape) → IsChain items shapes
+    → All (λ item. item.work ≤ max_work) items
+chain-works items shapes is k none within =
+    let at = slice_get-get_or items k none within in
+    elim (cases_lt (k + 1) (length items)) [
+      | inl inner ↦ (is.works k (get_or items k none) at inner).1
+      | inr last ↦
+          let place : k ≡ length items - 1 = omega (arith, within, last) in
+          let rests = is.last (get_or items k none) (rw (← place) at) in
+          omega (arith, rests)
+    ]
+
+-- ---- one leg before others
+-- what stands behind the first of a list, as code that takes it apart has it
+abbrev pub behind : {X : Type 0} → List X → List X
+behind xs = take (length xs - 1) (drop 1 xs)
+
+pub behind-is : {X : Type 0} (xs : List X) → behind xs ≡ drop 1 xs
+behind-is xs = let size = length-drop 1 xs in take_all (length xs - 1) (drop 1 xs) (omega (arith, size))
+
+pub behind-count : {X : Type 0} (xs : List X) → length (behind xs) ≡ length xs - 1
+behind-count xs = ap length (behind-is xs) ∙ length-drop 1 xs
+
+pub behind-All : {X : Type 0} (P : X → Type 0) (xs : List X) → All P xs → All P (behind xs)
+behind-All P [] all = all
+behind-All P (x ∷ xs) all = subst (All P) (sym (behind-is (x ∷ xs))) (All-tail P x xs all)
+
+-- with others behind it the latency is that of all
+pub latency-next : (rate : ℕ) (items : List ChainItem) (shapes : List ChannelShape)
+    (none : ChainItem) (shape : ChannelShape) → shape ≡ get_or shapes 0 shape
+    → 2 ≤ length items → length shapes ≡ length items
+    → channel_latency (shape_of shape) + passing_latency rate (leg_of (get_or items 0 none) shape)
+    + latency_along rate (legs_of (behind items) (behind shapes))
+    ≡ latency_along rate (legs_of items shapes)
+latency-next rate [] shapes none shape same some beside = absurd (omega arith)
+latency-next rate (item ∷ []) shapes none shape same some beside = absurd (omega arith)
+latency-next rate (item ∷ next ∷ items) [] none shape same some beside = absurd (omega arith)
+latency-next rate (item ∷ next ∷ items) (first ∷ []) none shape same some beside =
+    absurd (omega arith)
+latency-next rate (item ∷ next ∷ items) (first ∷ second ∷ shapes) none shape same some beside =
+    ap (λ xs. channel_latency (shape_of shape) + passing_latency rate (leg_of item shape)
+    + latency_along rate (legs_of xs (behind (first ∷ second ∷ shapes))))
+    (behind-is (item ∷ next ∷ items))
+    ∙ ap (λ ys. channel_latency (shape_of shape) + passing_latency rate (leg_of item shape)
+    + latency_along rate (legs_of (next ∷ items) ys)) (behind-is (first ∷ second ∷ shapes))
+    ∙ ap (λ one. channel_latency (shape_of one) + passing_latency rate (leg_of item one)
+    + latency_along rate (legs_of (next ∷ items) (second ∷ shapes))) same

@@ -1,0 +1,26 @@
+-- What a chain promises: a word that is due by a cycle of the run has landed on the last channel by then,
+-- while the receivers of all channels keep their delays.
+-- This project's own.
+use Rattle.std.specs.Prelude.{ℕ, ◌*◌, ◌-◌, ◌<◌, ◌≤◌, ◌≡◌, All, List, Some, length, slice_get}
+use Rattle.aeth_server.specs.Landing.{KeepsDelay}
+use Rattle.aeth_server.specs.PrivateServer.{PrivateServer}
+use Rattle.aeth_report.specs.declared.log.Landing.{Landing}
+use Rattle.aeth_chain.specs.Chain.{Leg, chain_rate}
+use Rattle.aeth_chain.specs.ChainRun.{chain_time}
+use Rattle.aeth_chain.specs.declared.passing.Offer.{Offer}
+
+-- The i-th word of a chain is due by cycle t of a run, and the receivers of its channels, with these
+-- servers, keep their delays up to then.
+pub record IsDueInChain (legs : List Leg) (first : List Offer) (servers : List PrivateServer)
+    (cycles i t : ℕ) : Type 0 where
+  pub least : 1 ≤ i
+  pub most : i ≤ length first
+  pub due : chain_time legs first i ≤ chain_rate legs * t
+  pub within : t < cycles
+  pub keeps : All (λ server. KeepsDelay server t) servers
+
+-- There is a landing of the i-th word by cycle t.
+pub record HasLandedBy (landings : List Landing) (i t : ℕ) : Type 0 where
+  pub row : Landing
+  pub at : slice_get landings (i - 1) ≡ Some row
+  pub lands : row.landed ≤ t

@@ -1,0 +1,5 @@
+pub mod Limits
+pub mod Chain
+pub mod ChainRun
+pub mod ChainBounds
+pub mod Lanes

@@ -1,0 +1,16 @@
+//! Chains of forwarding cores: their rate and latency, and the landings of a run.
+#![tactic(auto)]
+
+mod bound;
+mod item;
+mod landing;
+mod lane;
+mod log;
+mod passing;
+mod run;
+
+pub use bound::{ChainBound, chain_bound};
+pub use item::ChainItem;
+pub use log::ChainLog;
+pub use passing::Offer;
+pub use run::run_chain;
