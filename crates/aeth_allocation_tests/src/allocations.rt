@@ -40,24 +40,10 @@ end
     refused: &[],
 };
 
-/// Without that price it is the first of the two, whose delay needs a slot more.
-const FIRST: AskedOfAllocation = AskedOfAllocation {
-    price: Price::OfApplication,
-    plan: "plan 1 8
-seat cpu n0 0
-seat mem n1 0
-grant c0 0 fwd 0,4,3 0,2,5
-grant c0 0 back 2,5,1 0
-end
-",
-    refused: &[],
-};
-
 /// A chip, an application, and what is asked of the allocation.
 const ROWS: &[(&str, &str, AskedOfAllocation)] = &[
     (PAIR, ROLL, ROLLED_BACK),
     (SLOW_TWIN, ONE, FASTER),
-    (SLOW_TWIN, ONE, FIRST),
 ];
 
 #[test]

@@ -1,4 +1,4 @@
-// The chips on which paths are sought and plans are judged.
+// The chips on which paths are sought and plans are read.
 
 /// Two routers, each with a network interface, and a link each way between them.
 pub(crate) const PAIR: &str = "version = 1
@@ -9,18 +9,6 @@ link = [
   {from = 'n0', to = 'r0'}, {from = 'r0', to = 'n0'},
   {from = 'n1', to = 'r1'}, {from = 'r1', to = 'n1'},
   {from = 'r0', to = 'r1'}, {from = 'r1', to = 'r0'},
-]
-";
-
-/// The same, with a delay of two cycles from `r0` to `r1`.
-pub(crate) const SLOW_PAIR: &str = "version = 2
-slots = 8
-routers = ['r0', 'r1']
-nis = ['n0', 'n1']
-link = [
-  {from = 'n0', to = 'r0'}, {from = 'r0', to = 'n0'},
-  {from = 'n1', to = 'r1'}, {from = 'r1', to = 'n1'},
-  {from = 'r0', to = 'r1', delay = 2}, {from = 'r1', to = 'r0'},
 ]
 ";
 

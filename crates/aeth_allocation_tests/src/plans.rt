@@ -1,10 +1,8 @@
-// Plans that were worked out by hand: that they are read, printed and made where memory is left, and
-// verdicts that the rows of the command `check` don't have.
-use crate::apps::{LOCAL, ONE};
-use crate::chips::{PAIR, SLOW_PAIR};
+// Plans that were worked out by hand: that they are read, printed and made where memory is left.
+use crate::apps::ONE;
+use crate::chips::PAIR;
 use crate::setups::{Question, is_right};
-use crate::texts::AskedOfPlan::{self, Made, Text, Verdict};
-use aeth_check::Verdict::{Accepted, Broken};
+use crate::texts::AskedOfPlan::{self, Made, Text};
 
 /// A plan for the connection of `one`.
 const PLAN: &str = "plan 1 8
@@ -27,66 +25,12 @@ grant c0 0 back 0,0,0,0,0,0,0,0 0,1,2,3,4,5,6,7
 end
 ";
 
-/// A longer way leaves a narrower gap, which three slots keep.
-const SLOW: &str = "plan 1 8
-seat cpu n0 0
-seat mem n1 0
-grant c0 0 fwd 0,4,3 0,2,5
-grant c0 0 back 2,5,1 0
-end
-";
-
-/// The two sides of the second connection meet.
-const SIDES: &str = "plan 1 8
-seat cpu n0 0
-seat mem n1 0
-seat dsp n0 1
-grant c0 0 fwd 0,4,3 0,4
-grant c0 0 back 2,5,1 0
-grant c1 0 fwd 0,1 2
-grant c1 0 back 0,1 2
-end
-";
-
-/// The first grant meets the last, and the second the third.
-const CROSSED: &str = "plan 1 8
-seat cpu n0 0
-seat mem n1 0
-seat dsp n0 1
-grant c0 0 fwd 0,4,3 0,4
-grant c0 0 back 2,5,1 6
-grant c1 0 fwd 0,1 7
-grant c1 0 back 0,1 4
-end
-";
-
 /// A chip, an application, a plan, and what is asked of it.
 const ROWS: &[(&str, &str, &str, AskedOfPlan)] = &[
     (PAIR, ONE, PLAN, Text),
     (PAIR, ONE, EMPTY, Text),
     (PAIR, ONE, FULL, Text),
     (PAIR, ONE, PLAN, Made(8, 2, 2)),
-    (SLOW_PAIR, ONE, SLOW, Verdict(Accepted)),
-    (
-        PAIR,
-        LOCAL,
-        SIDES,
-        Verdict(Broken {
-            rule: 7,
-            line: 7,
-            other: 8,
-        }),
-    ),
-    (
-        PAIR,
-        LOCAL,
-        CROSSED,
-        Verdict(Broken {
-            rule: 7,
-            line: 5,
-            other: 8,
-        }),
-    ),
 ];
 
 #[test]

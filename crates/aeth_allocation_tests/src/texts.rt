@@ -6,7 +6,6 @@ ghost use Rattle.aeth_plan.specs.Plan.{IsPlanOf};
 ghost use Rattle.std.specs.Prelude.{◌≡◌, AllPairs};
 
 use aeth_app::App;
-use aeth_check::{Verdict, check};
 use aeth_chip::Chip;
 use aeth_group::{Grant, Groups};
 use aeth_plan::{Plan, print, read_plan};
@@ -20,8 +19,6 @@ pub(crate) enum AskedOfPlan {
     Text,
     /// The table size, the seats and the grants of the plan that the first seats and its grants make.
     Made(u32, usize, usize),
-    /// The verdict.
-    Verdict(Verdict),
 }
 
 /// Whether the answer is right.
@@ -45,9 +42,6 @@ pub(crate) fn is_plan_right(
         AskedOfPlan::Text => is_text(alloc, chip, app, groups, &plan, text),
         AskedOfPlan::Made(slots, seats, grants) => {
             is_made(alloc, chip, app, plan.grants(), (*slots, *seats, *grants))
-        }
-        AskedOfPlan::Verdict(verdict) => {
-            Some(check(alloc, chip, app, groups, &plan).ok()? == *verdict)
         }
     }
 }
