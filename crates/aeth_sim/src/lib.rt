@@ -1,14 +1,7 @@
-//! A network, cycle by cycle, and the log of its run.
+//! The network that the program simulates, as a machine.
 #![tactic(auto)]
 
-mod given;
-mod giving;
-mod logging;
 mod machine;
 mod network;
-mod places;
-mod rows;
-mod state;
-mod telling;
 
 pub use network::{Network, simulate};

@@ -1,58 +1,40 @@
-// A network and its run.
+// The network whose flits go by their headers.
 
 ghost use Rattle.std.specs.Prelude.{◌≡◌, ◌<◌, ◌-◌, IfOk, length};
 ghost use Rattle.aeth_group.specs.Members.{groups_of};
 ghost use Rattle.aeth_report.specs.RunLog.{log_of};
 ghost use Rattle.aeth_accepted.specs.Inputs.{AreAccepted, Inputs, run_of};
-ghost use Rattle.aeth_stimuli.specs.Stimuli.{stimuli_of};
 ghost use Rattle.aeth_running.specs.Network.{first_network, played, stepped};
 ghost use Rattle.aeth_running.specs.Told.{told};
-ghost use Rattle.aeth_sim.specs.Cursors.{stimuli_with};
-ghost use Rattle.aeth_sim.specs.First.{IsFirstState};
-ghost use Rattle.aeth_sim.specs.Runs.{AreWiresOf, IsNetworkOf};
+ghost use Rattle.aeth_network.specs.Runs.{AreWiresOf, IsNetworkOf};
 
-use crate::given::{Cursors, Given};
-use crate::logging::first_log;
-use crate::state::{State, run};
-use crate::telling::tell;
 use aeth_accepted::RunInputs;
 use aeth_app::App;
 use aeth_base::NoMemory;
 use aeth_chip::Chip;
 use aeth_clocked::{Order, Wires};
 use aeth_group::Groups;
+use aeth_network::RoutedNetwork;
 use aeth_plan::Plan;
 use aeth_report::SimLog;
 use aeth_trace::{Receivers, Switches, Words};
 use std::alloc::Global;
 use std::marker::Model;
 
-/// A network with what its run is given: its components, how its channels stood before each session
-/// that has gone, and the log, of which nothing has landed. It is seen without the places that it
-/// has come to in what it is given.
+/// A network with what its run is given, in which each flit goes by its header: its components, how its
+/// channels stood before each session that has gone, and the log, of which nothing has landed. It is
+/// seen without the places that it has come to in what it is given.
 #[derive(Drop)]
 pub struct Network {
-    given: Given,
-    cursors: Cursors,
-    state: State,
-    log: SimLog,
-    time: u32,
+    routed: RoutedNetwork,
 }
 
 impl Model for Network {
-    ghost use Rattle.std.specs.Prelude.{vec_capacity};
     ghost use Rattle.aeth_running.specs.Network.{NetworkState};
-    ghost use Rattle.aeth_sim.specs.Cursors.{AreCursors, stimuli_with};
-    ghost use Rattle.aeth_sim.specs.Networks.{IsNetwork, network_of};
 
     ghost Value = { NetworkState };
 
-    ghost view = { λ all. network_of (stimuli_with all.given) all.state all.log
-        all.time };
-
-    ghost invariant = { λ all. IsNetwork (vec_capacity all.state.replaced)
-        (network_of (stimuli_with all.given) all.state all.log all.time)
-        × AreCursors all.cursors all.time (stimuli_with all.given) };
+    ghost view = { λ network. network.routed };
 }
 
 impl Network {
@@ -100,7 +82,8 @@ impl Network {
         })) }
     {
         let inputs = RunInputs::of(chip, app, groups, plan, words, receivers, switches, cycles);
-        first(alloc, &inputs)
+        let routed = RoutedNetwork::new(alloc, &inputs)?;
+        Ok(Network { routed })
     }
 
     /// The number of components.
@@ -108,21 +91,21 @@ impl Network {
         ensures count { result ≡ length self.now.components.parts }
         ensures some { 0 < result }
     {
-        self.state.components.len() as u32
+        self.routed.parts()
     }
 
     /// The number of cycles that are done.
     pub fn time(&self) -> u32
         ensures { result ≡ self.now.time }
     {
-        self.time
+        self.routed.time()
     }
 
     /// The number of cycles of the run.
     pub fn cycles(&self) -> u32
         ensures { result ≡ self.now.log.cycles }
     {
-        self.log.cycles
+        self.routed.cycles()
     }
 
     /// The wires, as the last cycle drove them. Of a network of accepted inputs they carry what the
@@ -132,9 +115,7 @@ impl Network {
         ensures run { (inputs : Inputs) → IsNetworkOf inputs self.now
             → AreWiresOf inputs self.now.time result.now }
     {
-        aeth_running::laws::networks_carry();
-        aeth_running::laws::networks_lose_nothing();
-        self.state.components.wires()
+        self.routed.wires()
     }
 
     /// One more cycle of the run: sessions go, words are offered, receivers take as their rows say,
@@ -147,30 +128,17 @@ impl Network {
         ensures run { (inputs : Inputs) → IsNetworkOf inputs self.old
             → IsNetworkOf inputs self.new }
     {
-        let rows = self.given.rows(self.cursors, self.time);
-        self.state.bring(&rows, self.time);
-        run(&mut self.state.components, order, &rows, self.time);
-        self.cursors = rows.behind;
-        self.time += 1;
+        self.routed.cycle(order);
     }
 
     /// The log of the cycles that are done. Of a network of accepted inputs that has done all their
     /// cycles it is the log of their run.
-    pub fn log(mut self) -> SimLog
+    pub fn log(self) -> SimLog
         ensures told { result ≡ told self }
         ensures run { (inputs : Inputs) → IsNetworkOf inputs self → self.time ≡ inputs.cycles
             → result ≡ log_of (run_of inputs) }
     {
-        aeth_running::laws::networks_log();
-        tell(
-            &mut self.log,
-            &self.state.components,
-            &self.state.outside,
-            self.given.schedule.goings(),
-            &self.state.replaced,
-            &mut self.state.untils,
-        );
-        self.log
+        self.routed.log()
     }
 }
 
@@ -184,59 +152,5 @@ pub fn simulate(network: &mut Network, order: &Order)
     ensures run { (inputs : Inputs) → IsNetworkOf inputs network.old
         → IsNetworkOf inputs network.new × (network.new.time ≡ inputs.cycles) }
 {
-    'cycles: while network.time() < network.cycles() {
-        network.cycle(order);
-    }
-}
-
-// The network of accepted inputs before the first cycle.
-fn first(alloc: Global, inputs: &RunInputs) -> Result<Network, NoMemory>
-    ensures { IfOk result (λ network. network ≡ first_network inputs.now) }
-{
-    let given = Given::of(alloc, inputs)?;
-    with_given(alloc, inputs, given)
-}
-
-// That which is given this.
-fn with_given(alloc: Global, inputs: &RunInputs, given: Given) -> Result<Network, NoMemory>
-    requires { stimuli_with given ≡ stimuli_of inputs.now }
-    ensures { IfOk result (λ network. network ≡ first_network inputs.now) }
-{
-    let state = State::of(alloc, inputs, &given.schedule)?;
-    with_state(alloc, inputs, given, state)
-}
-
-// That which is given this, and has this state.
-fn with_state(
-    alloc: Global,
-    inputs: &RunInputs,
-    given: Given,
-    state: State,
-) -> Result<Network, NoMemory>
-    requires given { stimuli_with given ≡ stimuli_of inputs.now }
-    requires state { IsFirstState inputs.now state }
-    ensures { IfOk result (λ network. network ≡ first_network inputs.now) }
-{
-    aeth_events::laws::stimuli_are_stimuli();
-    inputs.are_accepted();
-    let log = first_log(
-        alloc,
-        inputs.chip(),
-        inputs.app(),
-        inputs.words(),
-        given.schedule.goings(),
-        inputs.cycles(),
-    )?;
-    Ok(Network {
-        given,
-        cursors: Cursors {
-            event: 0,
-            going: 0,
-            offer: 0,
-            take: 0,
-        },
-        state,
-        log,
-        time: 0,
-    })
+    aeth_network::simulate(&mut network.routed, order);
 }

@@ -4,7 +4,7 @@ use Rattle.aeth_accepted.specs.Inputs.{Inputs, run_of}
 use Rattle.aeth_report.specs.RunLog.{log_of}
 use Rattle.aeth_running.specs.Network.{NetworkState, first_network, played}
 use Rattle.aeth_running.specs.Told.{told}
-use Rattle.aeth_sim.proofs.Playing.{first-count, first-left, first-plays}
+use Rattle.aeth_network.proofs.Playing.{first-count, first-left, first-plays}
 use Rattle.aeth_sim.proofs.machine.NetworkMachine.make.Goals as goal
 
 -- The log is that of the run.

@@ -1,4 +1,4 @@
-use Rattle.aeth_sim.proofs.Playing.{played-left, played-same}
+use Rattle.aeth_network.proofs.Playing.{played-left, played-same}
 use Rattle.aeth_sim.proofs.machine.NetworkMachine.play.Goals as goal
 
 -- No cycle is left.

@@ -1,6 +1,6 @@
 use Rattle.std.proofs.Common.{◌∙◌, ◌-◌, ap, sym}
 use Rattle.aeth_running.specs.Told.{told}
-use Rattle.aeth_sim.proofs.Playing.{played-none}
+use Rattle.aeth_network.proofs.Playing.{played-none}
 use Rattle.aeth_sim.proofs.machine.NetworkMachine.result.Goals as goal
 
 -- No cycle is left.

@@ -1,0 +1,121 @@
+-- The components of a network before its first cycle, and the room of its channels.
+use Rattle.std.proofs.Common.{◌≡◌, ◌≤◌, ◌<◌, ◌+◌, ◌∙◌, ◌^◌, ℕ}
+use Rattle.std.proofs.Common.{Bool, false}
+use Rattle.std.proofs.Common.{List, [], ◌∷◌, None, ap, arith, length}
+use Rattle.std.proofs.Common.{map, refl, replicate, subst, sym}
+use Rattle.std.specs.Prelude.{count_by, slice_index}
+use Rattle.std.proofs.lemmas.Bool.Decides.{nat_tests}
+use Rattle.std.proofs.lemmas.List.{get_or-replicate, length-map}
+use Rattle.std.proofs.lemmas.List.{length-replicate}
+use Rattle.std.proofs.lemmas.List.Elements.{All-replicate}
+use Rattle.std.proofs.lemmas.Option.{get_or_from_slice_get, slice_get_within}
+use Rattle.aeth_chip.proofs.WireLemmas.{have_delays, wires_of-few, wires_of-split}
+use Rattle.aeth_chip.specs.Chip.{ChipData, IsChip}
+use Rattle.aeth_chip.specs.Wires.{wires_of}
+use Rattle.aeth_components.specs.Changes.{switched}
+use Rattle.aeth_components.specs.Components.{ComponentsState, IsComponents, first_components, frames_of}
+use Rattle.aeth_components.specs.Components.{part_count}
+use Rattle.aeth_components.specs.Frames.{Frame, IsWired, frame_of}
+use Rattle.aeth_components.specs.Lanes.{IsLane}
+use Rattle.aeth_components.specs.Making.{new_parts}
+use Rattle.aeth_components.specs.declared.event.Event.{Event}
+use Rattle.aeth_components.proofs.MadeLemmas.{IsWired-new, length-new_parts}
+use Rattle.aeth_components.proofs.PartLemmas.{frames-switched}
+use Rattle.aeth_stimuli.specs.Loaded.{no_lane}
+use Rattle.aeth_stimuli.specs.Stimuli.{Offer}
+use Rattle.aeth_network.specs.Fits.{AreFit, HaveCounts, is_accepted}
+use Rattle.aeth_network.proofs.FitLemmas.{count-no}
+
+-- A channel of which no session has gone.
+pub IsLane-none : (words parts : ℕ) → 0 < parts → IsLane words parts no_lane
+IsLane-none words parts some = record {
+  sender = record { part = some; queue = omega arith };
+  receiver = record { part = some; queue = omega arith };
+  taken = omega arith;
+  landed = omega arith;
+  handed = omega arith;
+  within = omega arith;
+}
+
+-- Components with events done before the first cycle.
+module _ (chip : ChipData) (is_chip : IsChip chip) (rooms : List ℕ) (count : ℕ) (words : List ℕ)
+    (events : List Event) where
+  abbrev pub made : ComponentsState
+  made = first_components chip rooms (replicate count no_lane) words
+
+  abbrev pub with_loaded : ComponentsState
+  with_loaded = record made { parts = switched events made.parts }
+
+  pub loaded-frames : frames_of with_loaded ≡ map frame_of (new_parts chip rooms)
+  loaded-frames = frames-switched events (new_parts chip rooms)
+
+  pub loaded-size : length with_loaded.parts ≡ part_count chip
+  loaded-size =
+      sym (length-map (switched events (new_parts chip rooms)) frame_of)
+      ∙ ap length loaded-frames ∙ length-map (new_parts chip rooms) frame_of
+      ∙ length-new_parts chip rooms
+
+  pub IsComponents-loaded : IsComponents with_loaded
+  IsComponents-loaded =
+      let wires : length with_loaded.wires ≡ wires_of chip.links =
+      length-replicate (wires_of chip.links) None in
+      let size = loaded-size in
+      let some = is_chip.some_nis in
+      let links = is_chip.few_links in
+      let split = wires_of-split chip.links (have_delays chip is_chip) in
+      let flits : length with_loaded.flits ≡ length chip.links =
+      length-replicate (length chip.links) 0 in
+      record {
+        wired = subst (λ (frames : List Frame). IsWired frames (length with_loaded.wires))
+            (sym loaded-frames)
+            (subst (IsWired (map frame_of (new_parts chip rooms))) (sym wires)
+            (IsWired-new chip is_chip rooms));
+        lanes = All-replicate (IsLane (length words) (length with_loaded.parts)) count no_lane
+            (IsLane-none (length words) (length with_loaded.parts) (omega arith));
+        landings = length-replicate (length words) 0;
+        flits = omega arith;
+        few = omega arith;
+      }
+
+  -- There aren't many.
+  pub few-parts : length with_loaded.parts < 2 ^ 32
+  few-parts =
+      let size = loaded-size in
+      let nis = is_chip.nis in
+      let routers = is_chip.routers in
+      let links = is_chip.few_links in
+      let split = wires_of-split chip.links (have_delays chip is_chip) in
+      let few = wires_of-few chip.links (have_delays chip is_chip) in
+      omega arith
+
+-- A test that fails counts none.
+count-none : {X : Type 0} (p : X → Bool) (xs : List X) → ((x : X) → p x ≡ false) → count_by p xs ≡ 0
+count-none p [] fails = refl
+count-none p (x ∷ xs) fails =
+    let one = count-no p x xs (fails x) in
+    let rest = count-none p xs fails in
+    omega arith
+
+-- Channels of which no session has gone accept none.
+pub AreFit-none : (words parts count : ℕ) (coming : List Offer) → 0 < parts
+    → AreFit words parts (replicate count 0) coming (replicate count no_lane)
+AreFit-none words parts count coming some number lane at =
+    let within = slice_get_within (replicate count no_lane) number lane at in
+    let size = length-replicate count no_lane in
+    let same : lane ≡ no_lane =
+    sym (get_or_from_slice_get (replicate count no_lane) number lane no_lane at)
+    ∙ get_or-replicate count number no_lane no_lane (omega arith) in
+    let until : slice_index (replicate count 0) number ≡ 0 =
+    get_or-replicate count number 0 0 (omega arith) in
+    let none = count-none (is_accepted (replicate count 0) number) coming
+    (λ offer. grind (arith, nat_tests, until)) in
+    let empty = IsLane-none words parts some in
+    let fits : no_lane.first + no_lane.accepted
+    + count_by (is_accepted (replicate count 0) number) coming ≤ words = omega arith in
+    rw same (record { sound = empty; room = fits })
+
+-- Nothing is counted yet.
+pub HaveCounts-none : (count : ℕ) (coming : List Offer) → length coming < 2 ^ 32
+    → HaveCounts coming (replicate count 0)
+HaveCounts-none count coming few =
+    All-replicate (λ n. n + length coming < 2 ^ 32) count 0 (omega arith)

@@ -1,0 +1,190 @@
+-- What holds of the network of accepted inputs before its first cycle.
+use Rattle.std.proofs.Common.{◌≡◌, ◌≤◌, ◌<◌, ◌*◌, ◌∙◌, ◌^◌, ℕ, List, [], ◌∷◌}
+use Rattle.std.proofs.Common.{ap, arith}
+use Rattle.std.proofs.Common.{drop, filter, length, map, nat_lt, refl, replicate, subst, sym}
+use Rattle.std.specs.List.{All, range_with_len}
+use Rattle.std.specs.Prelude.{flat_map}
+use Rattle.std.proofs.lemmas.List.{length-append, length-drop, length-map}
+use Rattle.std.proofs.lemmas.List.{length-replicate}
+use Rattle.std.proofs.lemmas.List.Elements.{All-nil, All-weaker}
+use Rattle.std.proofs.lemmas.List.FromFn.{length-map-range_with_len}
+use Rattle.std.proofs.lemmas.List.Sums.{count_by-le-length, length-filter}
+use Rattle.aeth_app.specs.Limits.{max_connections}
+use Rattle.aeth_base.specs.declared.ids.Channel.{Channel}
+use Rattle.aeth_base.specs.declared.ids.Side.TheVariants.{Back, Fwd}
+use Rattle.aeth_trace.specs.Limits.{max_rows}
+use Rattle.aeth_trace.specs.Words.{words_on}
+use Rattle.aeth_trace.specs.declared.words.WordRow.{WordRow}
+use Rattle.aeth_report.specs.Channels.{channels_of, channels_with}
+use Rattle.aeth_components.specs.Components.{ComponentsState, frames_of}
+use Rattle.aeth_components.specs.Events.{IsDoable}
+use Rattle.aeth_components.specs.Frames.{Frame, frame_of}
+use Rattle.aeth_components.specs.Making.{new_parts}
+use Rattle.aeth_ni.specs.Limits.{queues_of_interface}
+use Rattle.aeth_report.specs.Log.{LogData}
+use Rattle.aeth_components.specs.Lanes.{IsLane}
+use Rattle.aeth_components.specs.declared.lane.Lane.{Lane}
+use Rattle.aeth_accepted.specs.Inputs.{AreAccepted, Inputs}
+use Rattle.aeth_schedule.specs.Goings.{goings_of}
+use Rattle.aeth_schedule.specs.Lines.{all_lines}
+use Rattle.aeth_schedule.specs.Rooms.{room_at, rooms_of}
+use Rattle.aeth_schedule.specs.Schedule.{ScheduleData, schedule_of}
+use Rattle.aeth_schedule.specs.Switching.{loaded_of}
+use Rattle.aeth_schedule.specs.Values.{values_of, values_on, values_with}
+use Rattle.aeth_schedule.specs.declared.going.Going.{Going}
+use Rattle.aeth_running.specs.FirstLog.{first_channel, first_log}
+use Rattle.aeth_running.specs.Network.{first_network}
+use Rattle.aeth_stimuli.specs.Loaded.{loaded_components, no_lane}
+use Rattle.aeth_stimuli.specs.Stimuli.{AreStimuli, Offer, Stimuli, Take, offer_of, stimuli_of}
+use Rattle.aeth_network.specs.Behind.{passed}
+use Rattle.aeth_network.specs.Cursors.{AreCursors}
+use Rattle.aeth_network.specs.First.{IsFirstState}
+use Rattle.aeth_network.specs.Networks.{IsNetwork, network_of}
+use Rattle.aeth_network.specs.declared.given.Cursors.{Cursors}
+use Rattle.aeth_network.specs.declared.state.State.{State}
+use Rattle.aeth_network.specs.Records.{IsFresh}
+use Rattle.aeth_network.proofs.FirstComponents.{AreFit-none, HaveCounts-none, IsComponents-loaded}
+use Rattle.aeth_network.proofs.FirstComponents.{few-parts, loaded-frames, loaded-size}
+use Rattle.aeth_network.proofs.FewGoings.{goings-few}
+use Rattle.aeth_network.proofs.FirstGoings.{fresh-goings, on-few}
+use Rattle.aeth_network.proofs.Passed.{passed-first}
+
+-- The channels of connections have no more words than twice so often the most rows.
+with-few : (words : List WordRow) (c : ℕ) → length (values_with words c) ≤ 2 * length words
+with-few words c =
+    let fwd : Channel = record { conn = record { 0 = c }; side = Fwd } in
+    let back : Channel = record { conn = record { 0 = c }; side = Back } in
+    let one = on-few words fwd in
+    let other = on-few words back in
+    let both = length-append (values_on words fwd) (values_on words back) in
+    let first = length-map (words_on words fwd) (λ (row : WordRow). row.value) in
+    let second = length-map (words_on words back) (λ (row : WordRow). row.value) in
+    omega arith
+
+over-few : (words : List WordRow) (cs : List ℕ) → length words ≤ max_rows
+    → length (flat_map (values_with words) cs) ≤ length cs * (2 * max_rows)
+over-few words [] few = omega arith
+over-few words (c ∷ cs) few =
+    let rest = over-few words cs few in
+    let first = with-few words c in
+    let all = length-append (values_with words c) (flat_map (values_with words) cs) in
+    omega arith
+
+count-range : (n : ℕ) → length (range_with_len 0 n) ≡ n
+count-range n =
+    sym (length-map (range_with_len 0 n) (λ (k : ℕ). k))
+    ∙ length-map-range_with_len (λ (k : ℕ). k) 0 n
+
+pub values-few : (words : List WordRow) (n : ℕ) → length words ≤ max_rows → n ≤ max_connections
+    → length (values_of words n) < 2 ^ 32
+values-few words n few within =
+    let all = over-few words (range_with_len 0 n) few in
+    let count = count-range n in
+    omega arith
+
+-- Two channels a connection.
+over-two : (cs : List ℕ) → length (flat_map channels_with cs) ≡ 2 * length cs
+over-two [] = refl
+over-two (c ∷ cs) = let rest = over-two cs in omega arith
+
+pub length-channels_of : (n : ℕ) → length (channels_of n) ≡ 2 * n
+length-channels_of n =
+    over-two (range_with_len 0 n) ∙ ap (λ k. 2 * k) (count-range n)
+
+module _ (inputs : Inputs) (accepted : AreAccepted inputs)
+    (stimuli : AreStimuli (2 * length inputs.app.connections)
+    (length (values_of inputs.words (length inputs.app.connections)))
+    (frames_of (loaded_components inputs)) (stimuli_of inputs)) where
+  -- It has all that holds of networks.
+  pub IsNetwork-first : (capacity : ℕ) → length (goings_of inputs) ≤ capacity
+      → IsNetwork capacity (first_network inputs)
+  unfolding first_network
+  IsNetwork-first capacity enough =
+      let chip = inputs.chip in
+      let is_chip = accepted.design.chip_is in
+      let connections = length inputs.app.connections in
+      let channels = 2 * connections in
+      let rooms = rooms_of inputs in
+      let events = loaded_of inputs in
+      let values = values_of inputs.words connections in
+      let all = stimuli_of inputs in
+      let components = loaded_components inputs in
+      let lanes : length (first_network inputs).components.lanes ≡ channels =
+      length-replicate channels no_lane in
+      let zeros : length (first_network inputs).untils ≡ channels = length-replicate channels 0 in
+      let outsides : length (first_network inputs).outside ≡ channels =
+      length-replicate channels 0 in
+      let size = loaded-size chip is_chip rooms channels values events in
+      let some_nis = is_chip.some_nis in
+      let some : 0 < length components.parts = omega arith in
+      let none = passed-first (λ (one : Offer). one.cycle) all.offers in
+      let fewer = count_by-le-length (λ (row : WordRow). nat_lt row.cycle inputs.cycles) inputs.words in
+      let kept = length-filter (λ (row : WordRow). nat_lt row.cycle inputs.cycles) inputs.words in
+      let mapped = length-map (filter (λ (row : WordRow). nat_lt row.cycle inputs.cycles)
+      inputs.words) offer_of in
+      let left = length-drop (passed (λ (one : Offer). one.cycle) 0 all.offers) all.offers in
+      let few_rows = accepted.words.few in
+      let most = accepted.design.app_is.connections in
+      let made : length (first_network inputs).log.channels ≡ length (channels_of connections) =
+      length-map (channels_of connections) (first_channel inputs) in
+      let counted = length-channels_of connections in
+      record {
+        stimuli = subst (λ n. AreStimuli n (length values) (frames_of components) all) (sym lanes)
+            stimuli;
+        components = IsComponents-loaded chip is_chip rooms channels values events;
+        some_parts = some;
+        untils = omega arith;
+        outside = omega arith;
+        channels = omega arith;
+        flits = refl;
+        fit = AreFit-none (length values) (length components.parts) channels
+            (drop (passed (λ (one : Offer). one.cycle) 0 all.offers) all.offers) some;
+        counts = HaveCounts-none channels
+            (drop (passed (λ (one : Offer). one.cycle) 0 all.offers) all.offers) (omega arith);
+        fresh = All-weaker (IsFresh inputs.words) (λ (one : Going). one.lane.accepted ≡ 0)
+            (λ one fresh. fresh.none) (goings_of inputs) (fresh-goings inputs accepted);
+        replaced = All-nil (IsLane (length values) (length components.parts));
+        gone = sym (passed-first (λ (one : Going). one.lane.go) (goings_of inputs));
+        enough = enough;
+        few_goings = goings-few inputs accepted;
+        few_channels = omega arith;
+        few_words = values-few inputs.words connections few_rows most;
+        few_parts = few-parts chip is_chip rooms channels values events;
+        cycles = accepted.cycles;
+      }
+
+-- All places are the first.
+pub AreCursors-first : (cursors : Cursors) (all : Stimuli) → cursors.event ≡ 0 → cursors.going ≡ 0
+    → cursors.offer ≡ 0 → cursors.take ≡ 0 → AreCursors cursors 0 all
+AreCursors-first cursors all event going offer take = record {
+  event_is = event ∙ sym (passed-first (λ (cycle : ℕ). cycle) all.schedule.cycles);
+  going_is = going ∙ sym (passed-first (λ (one : Going). one.lane.go) all.schedule.goings);
+  offer_is = offer ∙ sym (passed-first (λ (one : Offer). one.cycle) all.offers);
+  take_is = take ∙ sym (passed-first (λ (one : Take). one.cycle) all.takes);
+}
+
+-- There is a room for each queue of each interface.
+pub rooms-count : (inputs : Inputs)
+    → length (rooms_of inputs) ≡ queues_of_interface * length inputs.chip.nis
+unfolding rooms_of
+rooms-count inputs =
+    length-map-range_with_len (room_at (flat_map (λ lines. lines) (all_lines inputs))) 0
+    (queues_of_interface * length inputs.chip.nis)
+
+-- The components can do what is written before the first cycle.
+pub loaded-doable : (inputs : Inputs) (accepted : AreAccepted inputs)
+    → All (IsDoable (frames_of (loaded_components inputs))) (loaded_of inputs)
+    → All (IsDoable (map frame_of (new_parts inputs.chip (rooms_of inputs)))) (loaded_of inputs)
+loaded-doable inputs accepted all =
+    subst (λ (frames : List Frame). All (IsDoable frames) (loaded_of inputs))
+    (loaded-frames inputs.chip accepted.design.chip_is (rooms_of inputs)
+    (2 * length inputs.app.connections)
+    (values_of inputs.words (length inputs.app.connections)) (loaded_of inputs)) all
+
+-- The network of inputs, part by part.
+pub first-from : (inputs : Inputs) (stimuli : Stimuli) (state : State) (log : LogData)
+    → stimuli ≡ stimuli_of inputs → IsFirstState inputs state → log ≡ first_log inputs
+    → network_of stimuli state log 0 ≡ first_network inputs
+unfolding first_network
+first-from inputs stimuli state log given first log_is =
+    rw (given, first.components, first.untils, first.outside, first.replaced, log_is) refl

@@ -1,0 +1,341 @@
+-- Channels have room for the words that are coming, from one change to the next.
+use Rattle.std.proofs.Common.{◌≡◌, ◌≤◌, ◌<◌, ◌+◌, ◌&&◌, ◌++◌, ◌∙◌, ℕ, Bool, true, false}
+use Rattle.std.proofs.Common.{List, [], ◌∷◌, ap, arith, cond, drop, fold, get_or, inl, inr}
+use Rattle.std.proofs.Common.{zero, suc, subst, take, length, nat_lt, refl}
+use Rattle.std.proofs.Common.{sym, length-set}
+use Rattle.std.proofs.Common.{◌^◌}
+use Rattle.std.proofs.Common.{get_or-set_other, get_or-set_same}
+use Rattle.std.specs.Prelude.{All, count_by, slice_index}
+use Rattle.std.proofs.lemmas.Bool.{cases_Bool}
+use Rattle.std.proofs.lemmas.Bool.Decides.{nat_tests}
+use Rattle.std.proofs.lemmas.List.Elements.{All-head, All-tail, All-set}
+use Rattle.std.proofs.lemmas.List.Elements.{All-take, All-weaker}
+use Rattle.std.proofs.lemmas.List.{drop_more, length-drop, take-append-drop}
+use Rattle.std.proofs.lemmas.List.Sums.{sum_by-cons}
+use Rattle.std.proofs.lemmas.Option.{slice_get_within}
+use Rattle.aeth_components.specs.Lanes.{IsLane}
+use Rattle.aeth_components.specs.declared.lane.Lane.{Lane}
+use Rattle.aeth_running.specs.Network.{accepted_with, gone_with, outside_with, taking_with, until_with}
+use Rattle.aeth_stimuli.specs.Stimuli.{Offer, Take, is_over}
+use Rattle.aeth_schedule.specs.declared.going.Going.{Going}
+use Rattle.aeth_trace.specs.Channels.{channel_number}
+use Rattle.aeth_network.specs.Fits.{AreFit, HaveCounts, IsFit, is_accepted}
+use Rattle.aeth_network.proofs.Lanes.{each-with_lane, length-with_lane}
+
+-- A word that passes a test counts once more.
+pub count-cons : {X : Type 0} (p : X → Bool) (x : X) (xs : List X)
+    → count_by p (x ∷ xs) ≡ cond (p x) 1 0 + count_by p xs
+count-cons p x xs = sum_by-cons (λ y. cond (p y) 1 0) x xs
+
+count-yes : {X : Type 0} (p : X → Bool) (x : X) (xs : List X) → p x ≡ true
+    → count_by p (x ∷ xs) ≡ 1 + count_by p xs
+count-yes p x xs passes =
+    count-cons p x xs ∙ ap (λ test. cond test 1 0 + count_by p xs) passes
+
+pub count-no : {X : Type 0} (p : X → Bool) (x : X) (xs : List X) → p x ≡ false
+    → count_by p (x ∷ xs) ≡ 0 + count_by p xs
+count-no p x xs fails =
+    count-cons p x xs ∙ ap (λ test. cond test 1 0 + count_by p xs) fails
+
+-- A test that passes for no more rows than another counts no more.
+pub count-weaker : {X : Type 0} (p q : X → Bool) (xs : List X)
+    → ((x : X) → p x ≡ true → q x ≡ true) → count_by p xs ≤ count_by q xs
+count-weaker p q [] passes = omega arith
+count-weaker p q (x ∷ xs) passes =
+    let later = count-weaker p q xs passes in
+    let other = count-cons q x xs in
+    elim (cases_Bool (p x)) [
+      | inl here ↦
+          let more = count-yes p x xs here in
+          let fewer = count-yes q x xs (passes x here) in
+          omega arith
+      | inr not_here ↦ let more = count-no p x xs not_here in omega arith
+    ]
+
+-- Nor does it of the later rows.
+pub count-behind : {X : Type 0} (p q : X → Bool) (k : ℕ) (xs : List X)
+    → All (λ x. p x ≡ true → q x ≡ true) (drop k xs) → count_by p (drop k xs) ≤ count_by q xs
+count-behind p q zero [] passes = omega arith
+count-behind p q (suc k) [] passes = omega arith
+count-behind {X} p q zero (x ∷ xs) passes =
+    let holds = λ (y : X). p y ≡ true → q y ≡ true in
+    let later = count-behind p q zero xs (All-tail holds x xs passes) in
+    let other = count-cons q x xs in
+    let first = All-head holds x xs passes in
+    elim (cases_Bool (p x)) [
+      | inl here ↦
+          let more = count-yes p x xs here in
+          let fewer = count-yes q x xs (first here) in
+          omega arith
+      | inr not_here ↦ let more = count-no p x xs not_here in omega arith
+    ]
+count-behind p q (suc k) (x ∷ xs) passes =
+    let later = count-behind p q k xs passes in
+    let more = count-cons q x xs in
+    omega arith
+
+module _ (words parts : ℕ) where
+  -- A word that comes is accepted by its channel, or it is outside of all.
+  pub AreFit-accepted : (t : ℕ) (untils : List ℕ) (offer : Offer) (coming : List Offer)
+      (lanes : List Lane) → offer.cycle ≡ t → AreFit words parts untils (offer ∷ coming) lanes
+      → AreFit words parts untils coming (accepted_with t untils lanes offer)
+  AreFit-accepted t untils offer coming lanes now fit =
+      let number = offer.number in
+      elim (cases_Bool (nat_lt t (slice_index untils number))) [
+        | inl accepts ↦ rw accepts
+            (each-with_lane (IsFit words parts untils coming) number
+            (λ lane. record lane { accepted = lane.accepted + 1 }) lanes
+            (λ k lane at same.
+            let is = fit k lane at in
+            let sound = is.sound in
+            let room = is.room in
+            let own : is_accepted untils k offer ≡ true =
+            rw (now, same) (grind (arith, nat_tests)) in
+            let counts = count-yes (is_accepted untils k) offer coming own in
+            record {
+              sound = record {
+                sender = sound.sender;
+                receiver = sound.receiver;
+                taken = sound.taken;
+                landed = sound.landed;
+                handed = omega arith;
+                within = omega arith;
+              };
+              room = omega arith;
+            })
+            (λ k lane at apart.
+            let is = fit k lane at in
+            let room = is.room in
+            let counts = count-cons (is_accepted untils k) offer coming in
+            record { sound = is.sound; room = omega arith }))
+        | inr refuses ↦ rw refuses (λ k lane at.
+            let is = fit k lane at in
+            let room = is.room in
+            let counts = count-cons (is_accepted untils k) offer coming in
+            record { sound = is.sound; room = omega arith })
+      ]
+
+  -- Each of some words is.
+  pub AreFit-offered : (t : ℕ) (untils : List ℕ) (offers coming : List Offer)
+      (lanes : List Lane) → All (λ one. one.cycle ≡ t) offers
+      → AreFit words parts untils (offers ++ coming) lanes
+      → AreFit words parts untils coming (fold (accepted_with t untils) lanes offers)
+  AreFit-offered t untils [] coming lanes now fit = fit
+  AreFit-offered t untils (offer ∷ offers) coming lanes now fit =
+      AreFit-offered t untils offers coming (accepted_with t untils lanes offer)
+      (All-tail (λ (one : Offer). one.cycle ≡ t) offer offers now)
+      (AreFit-accepted t untils offer (offers ++ coming) lanes
+      (All-head (λ (one : Offer). one.cycle ≡ t) offer offers now) fit)
+
+  -- A session goes that accepts no more than it has room for.
+  pub record HasWay (coming : List Offer) (going : Going) : Type 0 where
+    pub sound : IsLane words parts going.lane
+    pub none : going.lane.accepted ≡ 0
+    pub room : going.lane.first
+        + count_by (λ offer. is_over offer.number going && nat_lt offer.cycle going.until) coming
+        ≤ words
+
+  pub AreFit-gone : (untils : List ℕ) (coming : List Offer) (lanes : List Lane) (going : Going)
+      → length untils ≡ length lanes → HasWay coming going
+      → AreFit words parts untils coming lanes
+      → AreFit words parts (until_with untils going) coming (gone_with lanes going)
+  AreFit-gone untils coming lanes going size way fit =
+      let number = channel_number going.channel in
+      let now = until_with untils going in
+      let none = way.none in
+      let sound = way.sound in
+      each-with_lane (IsFit words parts now coming) number
+      (λ lane. record going.lane { pull = lane.pull }) lanes
+      (λ k lane at same.
+      let within = slice_get_within lanes k lane at in
+      let inside : number < length untils = omega arith in
+      let value : slice_index now k ≡ going.until =
+      rw same (get_or-set_same untils number going.until 0 inside) in
+      let fewer = count-weaker (is_accepted now k)
+      (λ offer. is_over offer.number going && nat_lt offer.cycle going.until) coming
+      (λ offer accepts. grind (arith, nat_tests, value)) in
+      let room = way.room in
+      record {
+        sound = record {
+          sender = sound.sender;
+          receiver = sound.receiver;
+          taken = sound.taken;
+          landed = sound.landed;
+          handed = sound.handed;
+          within = sound.within;
+        };
+        room = omega arith;
+      })
+      (λ k lane at apart.
+      let is = fit k lane at in
+      let room = is.room in
+      let value : slice_index now k ≡ slice_index untils k =
+      get_or-set_other untils number k going.until 0 apart in
+      let fewer = count-weaker (is_accepted now k) (is_accepted untils k) coming
+      (λ offer accepts. grind (arith, nat_tests, value)) in
+      record { sound = is.sound; room = omega arith })
+
+  pub AreFit-all_gone : (untils : List ℕ) (coming : List Offer) (lanes : List Lane)
+      (goings : List Going) → length untils ≡ length lanes → All (HasWay coming) goings
+      → AreFit words parts untils coming lanes
+      → AreFit words parts (fold until_with untils goings) coming (fold gone_with lanes goings)
+  AreFit-all_gone untils coming lanes [] size ways fit = fit
+  AreFit-all_gone untils coming lanes (going ∷ goings) size ways fit =
+      AreFit-all_gone (until_with untils going) coming (gone_with lanes going) goings
+      (length-set untils (channel_number going.channel) going.until ∙ size
+      ∙ sym (length-with_lane (channel_number going.channel)
+      (λ lane. record going.lane { pull = lane.pull }) lanes))
+      (All-tail (HasWay coming) going goings ways)
+      (AreFit-gone untils coming lanes going size (All-head (HasWay coming) going goings ways) fit)
+
+  -- A receiver takes otherwise.
+  pub AreFit-taking : (untils : List ℕ) (coming : List Offer) (takes : List Take)
+      (lanes : List Lane) → AreFit words parts untils coming lanes
+      → AreFit words parts untils coming (fold taking_with lanes takes)
+  AreFit-taking untils coming [] lanes fit = fit
+  AreFit-taking untils coming (take ∷ takes) lanes fit =
+      AreFit-taking untils coming takes (taking_with lanes take)
+      (each-with_lane (IsFit words parts untils coming) take.number
+      (λ lane. record lane { pull = take.pull }) lanes
+      (λ k lane at same.
+      let is = fit k lane at in
+      let sound = is.sound in
+      record {
+        sound = record {
+          sender = sound.sender;
+          receiver = sound.receiver;
+          taken = sound.taken;
+          landed = sound.landed;
+          handed = sound.handed;
+          within = sound.within;
+        };
+        room = is.room;
+      })
+      (λ k lane at apart. fit k lane at))
+
+-- A word that is outside of all is counted.
+pub HaveCounts-outside : (t : ℕ) (untils : List ℕ) (offer : Offer) (coming : List Offer)
+    (outside : List ℕ) → offer.number < length outside → HaveCounts (offer ∷ coming) outside
+    → HaveCounts coming (outside_with t untils outside offer)
+HaveCounts-outside t untils offer coming outside within counts =
+    let fewer : HaveCounts coming outside =
+    All-weaker (λ n. n + length (offer ∷ coming) < 2 ^ 32) (λ n. n + length coming < 2 ^ 32)
+    (λ n few. omega arith) outside counts in
+    elim (cases_Bool (nat_lt t (slice_index untils offer.number))) [
+      | inl accepts ↦ rw accepts fewer
+      | inr refuses ↦ rw refuses
+          (All-set (λ n. n + length coming < 2 ^ 32) outside offer.number
+          (slice_index outside offer.number + 1)
+          (let few : slice_index outside offer.number + length (offer ∷ coming) < 2 ^ 32 =
+          counts offer.number 0 within in
+          omega arith) fewer)
+    ]
+
+pub length-outside : (t : ℕ) (untils : List ℕ) (outside : List ℕ) (offer : Offer)
+    → length (outside_with t untils outside offer) ≡ length outside
+length-outside t untils outside offer =
+    elim (cases_Bool (nat_lt t (slice_index untils offer.number))) [
+      | inl accepts ↦ rw accepts refl
+      | inr refuses ↦ rw refuses
+          (length-set outside offer.number (slice_index outside offer.number + 1))
+    ]
+
+pub HaveCounts-offered : (t : ℕ) (untils : List ℕ) (offers coming : List Offer)
+    (outside : List ℕ) → All (λ one. one.number < length outside) offers
+    → HaveCounts (offers ++ coming) outside
+    → HaveCounts coming (fold (outside_with t untils) outside offers)
+HaveCounts-offered t untils [] coming outside within counts = counts
+HaveCounts-offered t untils (offer ∷ offers) coming outside within counts =
+    let size = length-outside t untils outside offer in
+    HaveCounts-offered t untils offers coming (outside_with t untils outside offer)
+    (rw size (All-tail (λ (one : Offer). one.number < length outside) offer offers within))
+    (HaveCounts-outside t untils offer (offers ++ coming) outside
+    (All-head (λ (one : Offer). one.number < length outside) offer offers within) counts)
+
+-- Their number stays.
+pub length-all_outside : (t : ℕ) (untils : List ℕ) (offers : List Offer) (outside : List ℕ)
+    → length (fold (outside_with t untils) outside offers) ≡ length outside
+length-all_outside t untils [] outside = refl
+length-all_outside t untils (offer ∷ offers) outside =
+    length-all_outside t untils offers (outside_with t untils outside offer)
+    ∙ length-outside t untils outside offer
+
+pub length-untils : (goings : List Going) (untils : List ℕ)
+    → length (fold until_with untils goings) ≡ length untils
+length-untils [] untils = refl
+length-untils (going ∷ goings) untils =
+    length-untils goings (until_with untils going)
+    ∙ length-set untils (channel_number going.channel) going.until
+
+pub length-gone : (goings : List Going) (lanes : List Lane)
+    → length (fold gone_with lanes goings) ≡ length lanes
+length-gone [] lanes = refl
+length-gone (going ∷ goings) lanes =
+    length-gone goings (gone_with lanes going)
+    ∙ length-with_lane (channel_number going.channel)
+    (λ lane. record going.lane { pull = lane.pull }) lanes
+
+pub length-taking : (takes : List Take) (lanes : List Lane)
+    → length (fold taking_with lanes takes) ≡ length lanes
+length-taking [] lanes = refl
+length-taking (take ∷ takes) lanes =
+    length-taking takes (taking_with lanes take)
+    ∙ length-with_lane take.number (λ lane. record lane { pull = take.pull }) lanes
+
+pub length-accepted : (t : ℕ) (untils : List ℕ) (offer : Offer) (lanes : List Lane)
+    → length (accepted_with t untils lanes offer) ≡ length lanes
+length-accepted t untils offer lanes =
+    elim (cases_Bool (nat_lt t (slice_index untils offer.number))) [
+      | inl accepts ↦ rw accepts (length-with_lane offer.number
+          (λ lane. record lane { accepted = lane.accepted + 1 }) lanes)
+      | inr refuses ↦ rw refuses refl
+    ]
+
+pub length-all_accepted : (t : ℕ) (untils : List ℕ) (offers : List Offer) (lanes : List Lane)
+    → length (fold (accepted_with t untils) lanes offers) ≡ length lanes
+length-all_accepted t untils [] lanes = refl
+length-all_accepted t untils (offer ∷ offers) lanes =
+    length-all_accepted t untils offers (accepted_with t untils lanes offer)
+    ∙ length-accepted t untils offer lanes
+
+-- The next of some words that are offered in a cycle has room, once those before it are offered.
+pub AreFit-next : (words parts t : ℕ) (untils : List ℕ) (offers : List Offer)
+    (lanes now : List Lane) (i : ℕ) (offer : Offer) → All (λ one. one.cycle ≡ t) offers
+    → i < length offers → offer ≡ get_or offers i offer → AreFit words parts untils offers lanes
+    → now ≡ fold (accepted_with t untils) lanes (take i offers)
+    → AreFit words parts untils (offer ∷ []) now
+AreFit-next words parts t untils offers lanes now i offer in_cycle within is fit so_far =
+    let split : AreFit words parts untils (take i offers ++ drop i offers) lanes =
+    subst (λ (list : List Offer). AreFit words parts untils list lanes)
+    (sym (take-append-drop i offers)) fit in
+    let rest : AreFit words parts untils (drop i offers) now =
+    subst (AreFit words parts untils (drop i offers)) (sym so_far)
+    (AreFit-offered words parts t untils (take i offers) (drop i offers) lanes
+    (All-take (λ (one : Offer). one.cycle ≡ t) i offers in_cycle) split) in
+    let next : drop i offers ≡ offer ∷ drop (i + 1) offers =
+    drop_more offers i offer within ∙ ap (λ (one : Offer). one ∷ drop (i + 1) offers) (sym is) in
+    let all : AreFit words parts untils (offer ∷ drop (i + 1) offers) now =
+    subst (λ (list : List Offer). AreFit words parts untils list now) next rest in
+    λ k lane at.
+    let one = all k lane at in
+    let room = one.room in
+    let some = count-cons (is_accepted untils k) offer [] in
+    let more = count-cons (is_accepted untils k) offer (drop (i + 1) offers) in
+    record { sound = one.sound; room = omega arith }
+
+-- It can be counted.
+pub HaveCounts-next : (t : ℕ) (untils : List ℕ) (offers : List Offer) (outside now : List ℕ) (i : ℕ)
+    (offer : Offer) → All (λ one. one.number < length outside) offers → i < length offers
+    → offer ≡ get_or offers i offer → HaveCounts offers outside
+    → now ≡ fold (outside_with t untils) outside (take i offers) → HaveCounts (offer ∷ []) now
+HaveCounts-next t untils offers outside now i offer known within is counts so_far =
+    let split : HaveCounts (take i offers ++ drop i offers) outside =
+    subst (λ (list : List Offer). HaveCounts list outside) (sym (take-append-drop i offers))
+    counts in
+    let rest : HaveCounts (drop i offers) now =
+    subst (HaveCounts (drop i offers)) (sym so_far)
+    (HaveCounts-offered t untils (take i offers) (drop i offers) outside
+    (All-take (λ (one : Offer). one.number < length outside) i offers known) split) in
+    let left = length-drop i offers in
+    All-weaker (λ n. n + length (drop i offers) < 2 ^ 32)
+    (λ n. n + length (offer ∷ []) < 2 ^ 32) (λ n few. omega arith) now rest

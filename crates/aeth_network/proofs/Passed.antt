@@ -1,0 +1,181 @@
+-- Rows whose cycles don't fall: those before a cycle come first, and those of a cycle next to them.
+use Rattle.std.proofs.Common.{◌≡◌, ◌<◌, ◌≤◌, ◌+◌, ◌-◌, ◌==◌, ℕ, zero, suc, List, [], ◌∷◌}
+use Rattle.std.proofs.Common.{length, take, drop, filter, refl, ap, arith, inl, inr, nat_lt, true}
+use Rattle.std.proofs.Common.{false, get_or}
+use Rattle.std.specs.Prelude.{All, slice_range}
+use Rattle.std.specs.List.Sorted.{IsNonDecreasingBy}
+use Rattle.std.proofs.lemmas.Bool.{cases_lt}
+use Rattle.std.proofs.lemmas.Bool.Decides.{nat_tests}
+use Rattle.std.proofs.lemmas.List.Elements.{All-cons, All-head, All-nil, All-tail, All-weaker}
+use Rattle.std.proofs.lemmas.List.Elements.{All-get_or}
+use Rattle.std.proofs.lemmas.List.Sums.{length-filter, count_by-le-length}
+use Rattle.aeth_network.specs.Behind.{IsBehind, passed}
+
+-- The first isn't above the later ones, and these don't fall.
+first-least : {X : Type 0} (key : X → ℕ) (x : X) (xs : List X) → IsNonDecreasingBy key (x ∷ xs)
+    → All (λ y. key x ≤ key y) xs
+first-least key x xs rises = λ k d within. rises 0 (suc k) d (omega arith) (omega arith)
+
+later-rise : {X : Type 0} (key : X → ℕ) (x : X) (xs : List X) → IsNonDecreasingBy key (x ∷ xs)
+    → IsNonDecreasingBy key xs
+later-rise key x xs rises = λ i j d le within. rises (suc i) (suc j) d (omega arith) (omega arith)
+
+-- None lies before a cycle that is above none.
+none-passed : {X : Type 0} (key : X → ℕ) (cycle : ℕ) (xs : List X) → All (λ y. cycle ≤ key y) xs
+    → passed key cycle xs ≡ 0
+none-passed key cycle [] above = refl
+none-passed key cycle (x ∷ xs) above =
+    let here : cycle ≤ key x = All-head (λ y. cycle ≤ key y) x xs above in
+    let later = none-passed key cycle xs (All-tail (λ y. cycle ≤ key y) x xs above) in
+    grind (arith, nat_tests)
+
+-- One more lies before a cycle if the first does.
+passed-yes : {X : Type 0} (key : X → ℕ) (cycle : ℕ) (x : X) (xs : List X) → key x < cycle
+    → passed key cycle (x ∷ xs) ≡ suc (passed key cycle xs)
+passed-yes key cycle x xs low = grind (arith, nat_tests)
+
+-- Before the first cycle there is none.
+pub passed-first : {X : Type 0} (key : X → ℕ) (xs : List X) → passed key 0 xs ≡ 0
+passed-first key xs = none-passed key 0 xs (λ k d within. omega arith)
+
+-- As many as there are at most, and not fewer before the next cycle.
+pub passed-few : {X : Type 0} (key : X → ℕ) (cycle : ℕ) (xs : List X)
+    → passed key cycle xs ≤ length xs
+passed-few key cycle xs = rw (length-filter (λ y. nat_lt (key y) cycle) xs)
+    (count_by-le-length (λ y. nat_lt (key y) cycle) xs)
+
+pub passed-more : {X : Type 0} (key : X → ℕ) (cycle : ℕ) (xs : List X)
+    → passed key cycle xs ≤ passed key (cycle + 1) xs
+passed-more key cycle [] = omega arith
+passed-more key cycle (x ∷ xs) =
+    let later = passed-more key cycle xs in
+    grind (arith, nat_tests)
+
+-- A row lies before a cycle just where its place does.
+pub passed-at : {X : Type 0} (key : X → ℕ) (cycle : ℕ) (xs : List X) (k : ℕ) (d : X)
+    → IsNonDecreasingBy key xs → k < length xs
+    → (key (get_or xs k d) < cycle → k < passed key cycle xs)
+    × (cycle ≤ key (get_or xs k d) → passed key cycle xs ≤ k)
+passed-at key cycle [] k d rises within = absurd (omega arith)
+passed-at key cycle (x ∷ xs) zero d rises within = (
+  λ low. let more = passed-yes key cycle x xs low in omega arith,
+  λ high.
+      let none = none-passed key cycle (x ∷ xs) (All-cons (λ y. cycle ≤ key y) x xs high
+      (All-weaker (λ y. key x ≤ key y) (λ y. cycle ≤ key y) (λ y le. omega arith) xs
+      (first-least key x xs rises))) in
+      omega arith,
+)
+passed-at key cycle (x ∷ xs) (suc k) d rises within =
+    let later = passed-at key cycle xs k d (later-rise key x xs rises) (omega arith) in
+    let least : key x ≤ key (get_or xs k d) =
+    All-get_or (λ y. key x ≤ key y) xs k d (omega arith) (first-least key x xs rises) in (
+      λ low.
+          let rest = later.0 low in
+          let more = passed-yes key cycle x xs (omega arith) in
+          omega arith,
+      λ high.
+          let rest = later.1 high in
+          grind (arith, nat_tests),
+    )
+
+-- Those behind the ones before a cycle aren't before it.
+pub passed-behind : {X : Type 0} (key : X → ℕ) (cycle : ℕ) (xs : List X)
+    → IsNonDecreasingBy key xs → All (λ y. cycle ≤ key y) (drop (passed key cycle xs) xs)
+passed-behind key cycle [] rises = All-nil (λ y. cycle ≤ key y)
+passed-behind key cycle (x ∷ xs) rises =
+    elim (cases_lt (key x) cycle) [
+      | inl low ↦
+          rw (passed-yes key cycle x xs low)
+          (passed-behind key cycle xs (later-rise key x xs rises))
+      | inr high ↦
+          let above = All-cons (λ y. cycle ≤ key y) x xs high
+          (All-weaker (λ y. key x ≤ key y) (λ y. cycle ≤ key y) (λ y le. omega arith) xs
+          (first-least key x xs rises)) in
+          rw (none-passed key cycle (x ∷ xs) above) above
+    ]
+
+-- Those of a cycle stand side by side.
+pub passed-range : {X : Type 0} (key : X → ℕ) (cycle : ℕ) (xs : List X) → IsNonDecreasingBy key xs
+    → slice_range xs (passed key cycle xs) (passed key (cycle + 1) xs)
+    ≡ filter (λ y. key y == cycle) xs
+passed-range key cycle [] rises = refl
+passed-range {X} key cycle (x ∷ xs) rises =
+    let rest = passed-range key cycle xs (later-rise key x xs rises) in
+    let least = first-least key x xs rises in
+    elim (cases_lt (key x) cycle) [
+      | inl low ↦
+          let now = passed-yes key cycle x xs low in
+          let then = passed-yes key (cycle + 1) x xs (omega arith) in
+          let other : (key x == cycle) ≡ false = grind (arith, nat_tests) in
+          let size : suc (passed key (cycle + 1) xs) - suc (passed key cycle xs)
+          ≡ passed key (cycle + 1) xs - passed key cycle xs = omega arith in
+          rw (now, then, other, size) rest
+      | inr high ↦
+          let above : All (λ y. cycle ≤ key y) xs =
+          All-weaker (λ y. key x ≤ key y) (λ y. cycle ≤ key y) (λ y le. omega arith) xs least in
+          let none = none-passed key cycle (x ∷ xs) (All-cons (λ y. cycle ≤ key y) x xs high above) in
+          let none_later = none-passed key cycle xs above in
+          elim (cases_lt cycle (key x)) [
+            | inl past ↦
+                let all : All (λ y. cycle + 1 ≤ key y) xs =
+                All-weaker (λ y. key x ≤ key y) (λ y. cycle + 1 ≤ key y) (λ y le. omega arith) xs
+                least in
+                let none_then = none-passed key (cycle + 1) (x ∷ xs)
+                (All-cons (λ y. cycle + 1 ≤ key y) x xs (omega arith) all) in
+                let none_there = none-passed key (cycle + 1) xs all in
+                let other : (key x == cycle) ≡ false = grind (arith, nat_tests) in
+                let empty : [] ≡ filter (λ y. key y == cycle) xs =
+                rw (none_later, none_there) at rest in
+                rw (none, none_then, other) empty
+            | inr low ↦
+                let then = passed-yes key (cycle + 1) x xs (omega arith) in
+                let same : (key x == cycle) ≡ true = grind (arith, nat_tests) in
+                let size : suc (passed key (cycle + 1) xs) - 0 ≡ suc (passed key (cycle + 1) xs) =
+                omega arith in
+                let less : passed key (cycle + 1) xs - 0 ≡ passed key (cycle + 1) xs =
+                omega arith in
+                let tail : take (passed key (cycle + 1) xs) xs ≡ filter (λ y. key y == cycle) xs =
+                rw (none_later, less) at rest in
+                rw (none, then, same, size) (ap (λ (list : List X). x ∷ list) tail)
+          ]
+    ]
+
+-- A row of a cycle isn't the last before the next one.
+pub passed-inside : {X : Type 0} (key : X → ℕ) (cycle : ℕ) (xs : List X) (place : ℕ) (d : X)
+    → IsNonDecreasingBy key xs → place < length xs → key (get_or xs place d) ≡ cycle
+    → place + 1 ≤ passed key (cycle + 1) xs
+passed-inside key cycle xs place d rises within now =
+    let low = (passed-at key (cycle + 1) xs place d rises within).0 (omega arith) in
+    omega arith
+
+-- Behind the rows of a cycle there is none, or one of a later cycle.
+module _ {X : Type 0} (key : X → ℕ) (cycle : ℕ) (xs : List X) (from place : ℕ)
+    (rises : IsNonDecreasingBy key xs) (begin : from ≡ passed key cycle xs)
+    (least : passed key cycle xs ≤ place) (most : place ≤ passed key (cycle + 1) xs) where
+  behind-at : place ≡ passed key (cycle + 1) xs → IsBehind key cycle xs from place
+  behind-at is =
+      let few = passed-few key (cycle + 1) xs in
+      record {
+        place = is;
+        after = omega arith;
+        within = omega arith;
+        rows_are = rw (begin, is) (passed-range key cycle xs rises);
+      }
+
+  pub behind-last : length xs ≤ place → IsBehind key cycle xs from place
+  behind-last past =
+      let few = passed-few key (cycle + 1) xs in
+      behind-at (omega arith)
+
+  pub behind-other : (d : X) → place < length xs → (key (get_or xs place d) ≡ cycle → ⊥)
+      → IsBehind key cycle xs from place
+  behind-other d within other =
+      let now = passed-at key cycle xs place d rises within in
+      let next = passed-at key (cycle + 1) xs place d rises within in
+      elim (cases_lt (key (get_or xs place d)) cycle) [
+        | inl low ↦ let before = now.0 low in absurd (omega arith)
+        | inr high ↦ elim (cases_lt cycle (key (get_or xs place d))) [
+          | inl past ↦ let behind = next.1 (omega arith) in behind-at (omega arith)
+          | inr not_past ↦ absurd (other (omega arith))
+        ]
+      ]

@@ -1,0 +1,53 @@
+use Rattle.std.proofs.Common.{◌≡◌, ◌∙◌, ◌+◌, ℕ, ap}
+use Rattle.std.specs.Prelude.{slice_range}
+use Rattle.aeth_schedule.specs.declared.going.Going.{Going}
+use Rattle.aeth_stimuli.specs.Stimuli.{Offer, Take}
+use Rattle.aeth_network.specs.Behind.{passed}
+use Rattle.aeth_network.proofs.Cycling.{events-range, rows-behind}
+use Rattle.aeth_network.proofs.given.Given.rows.Goals as goal
+
+-- The events are those of the cycle.
+pub returns-clause-events : goal.returns-clause-events
+returns-clause-events c =
+    let schedule = c.args.self.now.schedule in
+    let key = λ (cycle : ℕ). cycle in
+    let last = c.behind-event.ensures.place ∙ ap (passed key (c.args.time + 1)) c.cycles.ensures in
+    c.events.ensures
+    ∙ ap (λ n. slice_range schedule.events n c.behind-event.result) c.requires.from.event_is
+    ∙ ap (slice_range schedule.events (passed key c.args.time schedule.cycles)) last
+    ∙ events-range c.args.time schedule.cycles schedule.events c.requires.order.event_cycles
+    c.requires.order.events
+
+-- So are the sessions, the words and the rows of receivers.
+pub returns-clause-goings : goal.returns-clause-goings
+returns-clause-goings c =
+    rows-behind (λ (one : Going). one.lane.go) c.args.time c.args.self.now.schedule.goings
+    c.goings.result.now c.goings-2.result.now c.args.from.going c.behind-going.result
+    c.goings.ensures c.goings-2.ensures c.behind-going.ensures
+
+pub returns-clause-offers : goal.returns-clause-offers
+returns-clause-offers c =
+    rows-behind (λ (one : Offer). one.cycle) c.args.time c.args.self.now.offers.items
+    c.deref.result.now c.deref-3.result.now c.args.from.offer c.behind-offer.result
+    c.deref.ensures.value c.deref-3.ensures.value c.behind-offer.ensures
+
+pub returns-clause-takes : goal.returns-clause-takes
+returns-clause-takes c =
+    rows-behind (λ (one : Take). one.cycle) c.args.time c.args.self.now.takes.items
+    c.deref-2.result.now c.deref-4.result.now c.args.from.take c.behind-take.result
+    c.deref-2.ensures.value c.deref-4.ensures.value c.behind-take.ensures
+
+-- The places are those of the next cycle.
+pub returns-clause-behind : goal.returns-clause-behind
+returns-clause-behind c =
+    let next = c.args.time + 1 in
+    record {
+      event_is = c.behind-event.ensures.place
+          ∙ ap (passed (λ (cycle : ℕ). cycle) next) c.cycles.ensures;
+      going_is = c.behind-going.ensures.place
+          ∙ ap (passed (λ (one : Going). one.lane.go) next) c.goings.ensures;
+      offer_is = c.behind-offer.ensures.place
+          ∙ ap (passed (λ (one : Offer). one.cycle) next) c.deref.ensures.value;
+      take_is = c.behind-take.ensures.place
+          ∙ ap (passed (λ (one : Take). one.cycle) next) c.deref-2.ensures.value;
+    }

@@ -1,0 +1,15 @@
+use Rattle.std.proofs.Common.{◌≡◌, ◌≤◌, ◌++◌, map, take}
+use Rattle.std.specs.Prelude.{vec_capacity}
+use Rattle.std.specs.List.{slice_index_or}
+use Rattle.aeth_trace.specs.Channels.{channel_number}
+use Rattle.aeth_stimuli.specs.Loaded.{no_lane}
+use Rattle.aeth_network.proofs.giving.note.Given as goal
+
+-- The channels so far are noted.
+abbrev pub invariant-loop-going : goal.invariant-loop-going
+invariant-loop-going l = record {
+  items : l.replaced.items ≡ l.fn.replaced.items
+      ++ map (λ one. slice_index_or l.lanes (channel_number one.channel) no_lane)
+      (take l.going-index l.goings);
+  capacity : vec_capacity l.fn.replaced ≤ vec_capacity l.replaced;
+}

@@ -1,0 +1,9 @@
+use Rattle.std.proofs.Common.{◌≡◌, take}
+use Rattle.aeth_network.specs.ByNumber.{each_by}
+use Rattle.aeth_network.specs.Records.{added_by}
+use Rattle.aeth_network.proofs.logging.add_sessions.Given as goal
+
+-- The sessions so far are added.
+abbrev pub invariant-loop-going : goal.invariant-loop-going
+invariant-loop-going l = l.channels
+    ≡ each_by (added_by l.words l.cycles (take l.going-index l.goings)) 0 l.fn.channels

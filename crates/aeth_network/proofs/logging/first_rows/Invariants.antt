@@ -1,0 +1,17 @@
+use Rattle.std.proofs.Common.{◌≡◌, map}
+use Rattle.std.specs.List.{range_with_len}
+use Rattle.aeth_server.specs.ChannelShape.{shape_of}
+use Rattle.aeth_server.specs.Progress.{progress_of}
+use Rattle.aeth_server.specs.Shape.{channel_latency}
+use Rattle.aeth_running.specs.FirstLog.{first_row, rows_of}
+use Rattle.aeth_network.proofs.logging.first_rows.Given as goal
+
+-- The rows so far, and how far their due times are.
+abbrev pub invariant-loop-place : goal.invariant-loop-place
+invariant-loop-place l =
+    let shape = shape_of l.going.shape in
+    record {
+      rows : l.rows.items ≡ map (first_row l.words l.going) (range_with_len 0 l.place);
+      due : l.due ≡ progress_of shape.size shape.rate (channel_latency shape)
+          (map (λ row. row.cycle) (rows_of l.words l.going)) l.place;
+    }

@@ -1,0 +1,21 @@
+use Rattle.std.proofs.Common.{◌∙◌, ap}
+use Rattle.aeth_running.specs.Network.{NetworkState}
+use Rattle.aeth_network.proofs.RunWires.{wires-of}
+use Rattle.aeth_network.proofs.network.RoutedNetwork.wires.Goals as goal
+
+-- They carry what the run of accepted inputs does.
+pub returns-clause-run : goal.returns-clause-run
+returns-clause-run c = λ inputs is.
+    let carry = c.networks_carry.ensures in
+    let lose = c.networks_lose_nothing.ensures in
+    wires-of inputs
+    (record {
+      first = carry.first inputs is.accepted;
+      behind = carry.behind inputs is.accepted;
+      early = carry.early inputs is.accepted;
+      empty = carry.empty inputs is.accepted;
+      passed = lose.passed inputs is.accepted;
+      read = lose.read inputs is.accepted;
+    })
+    c.wires.result.now c.args.self.now.time is.within
+    (c.wires.ensures ∙ ap (λ (all : NetworkState). all.components.wires) (c.self.view_is ∙ is.is))

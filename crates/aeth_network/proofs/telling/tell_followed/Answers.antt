@@ -1,0 +1,80 @@
+use Rattle.std.proofs.Common.{◌∙◌, arith}
+use Rattle.aeth_network.proofs.ByNumberLemmas.{replicate-each}
+use Rattle.aeth_network.proofs.Followed.{channel-more, channels-whole, count-few, count-more, counts-whole}
+use Rattle.aeth_network.proofs.Followed.{channels-past, counts-past, followed-none}
+use Rattle.aeth_network.proofs.telling.tell_followed.Goals as goal
+use Rattle.aeth_network.proofs.telling.tell_followed.Goals.{then-number-channels, else-number-channels}
+
+-- None has gone.
+pub loop-place-init : goal.loop-place-init
+loop-place-init c = record {
+  channels = followed-none c.args.cycles c.args.landings.now c.args.channels.now;
+  gone = c.fill.ensures.after (λ y same. same) ∙ replicate-each 0 0 c.args.gone.now;
+}
+
+-- No more have gone than were replaced.
+pub overflow_add-gone : goal.overflow_add-gone
+overflow_add-gone c =
+    let there = c.loop-place-test.true in
+    let enough = c.requires.replaced in
+    let most = c.requires.few in
+    let within = c.if-number-channels.true in
+    let counted = c.requires.gone in
+    let size = c.loop-place.auto.channels in
+    let few = count-few c.args.goings.now c.args.replaced.now c.index-goings-place.result
+    c.loop-place.place c.number_of-number.result (omega arith) there c.number_of-number.ensures
+    c.args.gone.now c.loop-place.gone (omega arith) c.loop-place.invariant.gone in
+    omega arith
+
+-- One session more has gone.
+pub loop-place-preserved : goal.loop-place-preserved
+loop-place-preserved c =
+    let goings = c.args.goings.now in
+    let replaced = c.args.replaced.now in
+    let one = c.index-goings-place.result in
+    let place = c.loop-place.place in
+    let number = c.number_of-number.result in
+    let there = c.loop-place-test.true in
+    let enough = c.requires.replaced in
+    let counted = c.requires.gone in
+    let size = c.loop-place.auto.channels in
+    elim c.if-number-channels.branch [
+      | then-number-channels w ↦
+          let within = w.if-number-channels.true in
+          record {
+            channels = w.channels-is
+                ∙ channel-more goings replaced one place number (omega arith) there
+                c.number_of-number.ensures c.args.cycles c.args.landings.now c.args.gone.now
+                c.loop-place.gone c.args.channels.now c.loop-place.channels
+                w.index-channels-number.result w.tell_next.new.channel (omega arith) (omega arith)
+                c.loop-place.invariant.gone c.loop-place.invariant.channels w.tell_next.ensures;
+            gone = w.gone-is
+                ∙ count-more goings replaced one place number (omega arith) there
+                c.number_of-number.ensures c.args.gone.now c.loop-place.gone (omega arith)
+                c.loop-place.invariant.gone;
+          }
+      | else-number-channels w ↦
+          let past = w.if-number-channels.false in
+          record {
+            channels = w.channels-is ∙ c.loop-place.invariant.channels
+                ∙ channels-past goings replaced one place number (omega arith) there
+                c.number_of-number.ensures c.args.cycles c.args.landings.now c.args.channels.now
+                (omega arith);
+            gone = w.gone-is ∙ c.loop-place.invariant.gone
+                ∙ counts-past goings replaced one place number (omega arith) there
+                c.number_of-number.ensures c.args.gone.now (omega arith);
+          }
+    ]
+
+-- All have gone.
+pub returns-clause-channels : goal.returns-clause-channels
+returns-clause-channels c =
+    c.loop-place.invariant.channels
+    ∙ channels-whole c.args.goings.now c.args.replaced.now c.args.cycles c.args.landings.now
+    c.loop-place.place c.args.channels.now c.loop-place-test.false
+
+pub returns-clause-gone : goal.returns-clause-gone
+returns-clause-gone c =
+    c.loop-place.invariant.gone
+    ∙ counts-whole c.args.goings.now c.args.replaced.now c.loop-place.place c.args.gone.now
+    c.loop-place-test.false

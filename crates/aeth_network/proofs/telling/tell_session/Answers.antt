@@ -1,0 +1,27 @@
+use Rattle.std.proofs.Common.{◌≡◌, ◌∙◌, List, ap, arith, drop, length, refl, take}
+use Rattle.std.specs.Vec.{with_items}
+use Rattle.std.proofs.lemmas.List.{take_rest, with_items_is}
+use Rattle.aeth_report.specs.declared.log.Landing.{Landing}
+use Rattle.aeth_running.specs.Told.{rows_told}
+use Rattle.aeth_network.proofs.telling.tell_session.Goals as goal
+
+-- Its rows are told, and its numbers.
+pub returns : goal.returns
+returns c =
+    let landings = c.args.landings.now in
+    let cycles = c.args.cycles in
+    let first = c.args.lane.now.first in
+    let inside = c.session.inside in
+    let own = c.tell_rows.auto.rows in
+    let count = c.deref_mut.ensures.len in
+    let size : length c.tell_rows.new.rows ≡ c.truncate.new.self.len = omega arith in
+    let is : (with_items c.truncate.new.self c.tell_rows.new.rows).items
+    ≡ rows_told cycles landings (take c.landed_below-landed.result inside.rows.items)
+    (drop first landings) =
+    with_items_is c.truncate.new.self c.tell_rows.new.rows size
+    ∙ c.tell_rows.ensures cycles landings
+    ∙ ap (rows_told cycles landings c.deref_mut.result.now) (take_rest landings first)
+    ∙ ap (λ (rows : List Landing). rows_told cycles landings rows (drop first landings))
+    (c.deref_mut.ensures.value ∙ c.truncate.ensures.items) in
+    let landed = c.landed_below-landed.ensures.count in
+    rw (← c.session.view_is) (rw (is, landed) refl)

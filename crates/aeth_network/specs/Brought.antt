@@ -1,0 +1,52 @@
+-- What a cycle brings to the state of a network.
+--
+--   CanBring      the state has room for what comes
+--   IsBrought      the state with what has come
+-- This project's own.
+use Rattle.std.specs.Prelude.{◌≡◌, ◌≤◌, ◌<◌, ◌*◌, ◌+◌, ◌++◌, ◌^◌, ℕ, All, fold, length, map}
+use Rattle.std.specs.Prelude.{vec_capacity}
+use Rattle.std.specs.List.{slice_index_or}
+use Rattle.aeth_app.specs.Limits.{max_connections}
+use Rattle.aeth_trace.specs.Channels.{channel_number}
+use Rattle.aeth_components.specs.Lanes.{IsLane}
+use Rattle.aeth_stimuli.specs.Loaded.{no_lane}
+use Rattle.aeth_running.specs.Network.{accepted_with, gone_with, outside_with, taking_with}
+use Rattle.aeth_running.specs.Network.{until_with}
+use Rattle.aeth_network.specs.Fits.{AreFit, HaveCounts}
+use Rattle.aeth_network.specs.declared.given.CycleRows.{CycleRows}
+use Rattle.aeth_network.specs.declared.state.State.{State}
+
+-- The sessions, words and receivers' rows of a cycle are for channels that there are, which have room
+-- for the words that they accept; and there is room to note how channels stand whose sessions go.
+pub record CanBring (state : State) (rows : CycleRows) (time : ℕ) : Type 0 where
+  pub few_channels : length state.components.lanes ≤ 2 * max_connections
+  pub few_words : length state.components.words < 2 ^ 32
+  pub untils : length state.untils.items ≡ length state.components.lanes
+  pub outside : length state.outside.items ≡ length state.components.lanes
+  pub room : length state.replaced.items + length rows.goings.now ≤ vec_capacity state.replaced
+  pub goings : All (λ one. channel_number one.channel < length state.components.lanes)
+      rows.goings.now
+  pub lanes : All (λ one. IsLane (length state.components.words) (length state.components.parts)
+      one.lane) rows.goings.now
+  pub offers : All (λ one. one.number < length state.components.lanes) rows.offers.now
+  pub now : All (λ one. one.cycle ≡ time) rows.offers.now
+  pub fit : AreFit (length state.components.words) (length state.components.parts)
+      (fold until_with state.untils.items rows.goings.now) rows.offers.now
+      (fold gone_with state.components.lanes rows.goings.now)
+  pub counts : HaveCounts rows.offers.now state.outside.items
+  pub takes : All (λ one. one.number < length state.components.lanes) rows.takes.now
+
+-- The sessions of a cycle have gone, its words are accepted or outside of all sessions, its receivers
+-- take as their rows say, and it is noted how channels stood whose sessions went.
+pub record IsBrought (rows : CycleRows) (time : ℕ) (old new : State) : Type 0 where
+  pub components : new.components ≡ record old.components {
+    lanes = fold taking_with (fold (accepted_with time new.untils.items)
+        (fold gone_with old.components.lanes rows.goings.now) rows.offers.now) rows.takes.now;
+  }
+  pub untils : new.untils.items ≡ fold until_with old.untils.items rows.goings.now
+  pub outside : new.outside.items
+      ≡ fold (outside_with time new.untils.items) old.outside.items rows.offers.now
+  pub replaced : new.replaced.items ≡ old.replaced.items
+      ++ map (λ one. slice_index_or old.components.lanes (channel_number one.channel) no_lane)
+      rows.goings.now
+  pub capacity : vec_capacity old.replaced ≤ vec_capacity new.replaced

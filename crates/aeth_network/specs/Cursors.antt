@@ -1,0 +1,35 @@
+-- How far a network is in what it is given.
+--
+--   stimuli_with      what a network is given
+--   AreInOrder      what is given comes in the order of cycles
+--   AreCursors      the places in the events, the sessions, the offered words and the receivers' rows
+-- This project's own.
+use Rattle.std.specs.Prelude.{◌≡◌, ℕ, length}
+use Rattle.std.specs.List.Sorted.{IsNonDecreasing, IsNonDecreasingBy}
+use Rattle.aeth_stimuli.specs.Stimuli.{Stimuli}
+use Rattle.aeth_network.specs.Behind.{passed}
+use Rattle.aeth_network.specs.declared.given.Cursors.{Cursors}
+use Rattle.aeth_network.specs.declared.given.Given.{Given}
+
+-- What a network is given.
+abbrev pub stimuli_with : Given → Stimuli
+stimuli_with given = record {
+  schedule = given.schedule;
+  offers = given.offers.items;
+  takes = given.takes.items;
+}
+
+-- Each event has a cycle, and neither these nor those of sessions, words and receivers' rows fall.
+pub record AreInOrder (all : Stimuli) : Type 0 where
+  pub event_cycles : length all.schedule.cycles ≡ length all.schedule.events
+  pub events : IsNonDecreasing all.schedule.cycles
+  pub goings : IsNonDecreasingBy (λ one. one.lane.go) all.schedule.goings
+  pub offers : IsNonDecreasingBy (λ one. one.cycle) all.offers
+  pub takes : IsNonDecreasingBy (λ one. one.cycle) all.takes
+
+-- Each place is the number of rows that lie before a cycle.
+pub record AreCursors (cursors : Cursors) (time : ℕ) (all : Stimuli) : Type 0 where
+  pub event_is : cursors.event ≡ passed (λ cycle. cycle) time all.schedule.cycles
+  pub going_is : cursors.going ≡ passed (λ one. one.lane.go) time all.schedule.goings
+  pub offer_is : cursors.offer ≡ passed (λ one. one.cycle) time all.offers
+  pub take_is : cursors.take ≡ passed (λ one. one.cycle) time all.takes

@@ -1,0 +1,10 @@
+pub mod Behind
+pub mod Brought
+pub mod ByNumber
+pub mod Cursors
+pub mod First
+pub mod Fits
+pub mod Networks
+pub mod Records
+pub mod Runs
+pub mod Telling

@@ -1,0 +1,55 @@
+-- What holds of every network.
+--
+--   network_of      a network by its parts
+--   IsNetwork      what holds of it
+-- This project's own.
+use Rattle.std.specs.Prelude.{◌≡◌, ◌≤◌, ◌<◌, ◌*◌, ◌^◌, ℕ, All, drop, length}
+use Rattle.aeth_base.specs.Limits.{max_cycles}
+use Rattle.aeth_app.specs.Limits.{max_connections}
+use Rattle.aeth_report.specs.Log.{LogData}
+use Rattle.aeth_components.specs.Components.{IsComponents, frames_of}
+use Rattle.aeth_components.specs.Lanes.{IsLane}
+use Rattle.aeth_running.specs.Network.{NetworkState}
+use Rattle.aeth_stimuli.specs.Stimuli.{AreStimuli, Stimuli}
+use Rattle.aeth_network.specs.Behind.{passed}
+use Rattle.aeth_network.specs.Fits.{AreFit, HaveCounts}
+use Rattle.aeth_network.specs.declared.state.State.{State}
+
+-- A network by what it is given, its state, its log of which nothing has landed, and the cycles done.
+abbrev pub network_of : Stimuli → State → LogData → ℕ → NetworkState
+network_of stimuli state log time = record {
+  stimuli = stimuli;
+  components = state.components;
+  untils = state.untils.items;
+  outside = state.outside.items;
+  replaced = state.replaced.items;
+  log = log;
+  time = time;
+}
+
+-- What holds of every network that has room for so many replaced channels.
+pub record IsNetwork (capacity : ℕ) (all : NetworkState) : Type 0 where
+  pub stimuli : AreStimuli (length all.components.lanes) (length all.components.words)
+      (frames_of all.components) all.stimuli
+  pub components : IsComponents all.components
+  pub some_parts : 0 < length all.components.parts
+  pub untils : length all.untils ≡ length all.components.lanes
+  pub outside : length all.outside ≡ length all.components.lanes
+  pub channels : length all.log.channels ≡ length all.components.lanes
+  pub flits : length all.log.flits ≡ length all.components.flits
+  pub fit : AreFit (length all.components.words) (length all.components.parts) all.untils
+      (drop (passed (λ one. one.cycle) all.time all.stimuli.offers) all.stimuli.offers)
+      all.components.lanes
+  pub counts : HaveCounts
+      (drop (passed (λ one. one.cycle) all.time all.stimuli.offers) all.stimuli.offers) all.outside
+  pub fresh : All (λ one. one.lane.accepted ≡ 0) all.stimuli.schedule.goings
+  pub replaced : All (IsLane (length all.components.words) (length all.components.parts))
+      all.replaced
+  pub gone : length all.replaced
+      ≡ passed (λ one. one.lane.go) all.time all.stimuli.schedule.goings
+  pub enough : length all.stimuli.schedule.goings ≤ capacity
+  pub few_goings : length all.stimuli.schedule.goings < 2 ^ 32
+  pub few_channels : length all.components.lanes ≤ 2 * max_connections
+  pub few_words : length all.components.words < 2 ^ 32
+  pub few_parts : length all.components.parts < 2 ^ 32
+  pub cycles : all.log.cycles ≤ max_cycles

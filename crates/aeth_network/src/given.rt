@@ -1,0 +1,86 @@
+// What a run gives a network, and what of it each cycle brings.
+
+ghost use Rattle.std.specs.Prelude.{◌≡◌, ◌+◌, IfOk};
+ghost use Rattle.aeth_events.specs.Events.{events_in};
+ghost use Rattle.aeth_running.specs.Network.{goings_in, offers_in, takes_in};
+ghost use Rattle.aeth_stimuli.specs.Stimuli.{stimuli_of};
+ghost use Rattle.aeth_network.specs.Cursors.{AreCursors, AreInOrder, stimuli_with};
+
+use crate::places::behind;
+use crate::rows::{Offered, Taking, offers_of, takes_of};
+use aeth_accepted::RunInputs;
+use aeth_base::NoMemory;
+use aeth_components::Event;
+use aeth_schedule::{Going, Schedule};
+use std::alloc::Global;
+
+// What a run gives a network: its schedule, the words that are offered, and the rows of receivers.
+#[derive(Drop)]
+pub(crate) struct Given {
+    pub schedule: Schedule,
+    pub offers: Vec<Offered>,
+    pub takes: Vec<Taking>,
+}
+
+// How far a network is in its events, its sessions, its words, and the rows of receivers.
+#[derive(Clone, Copy)]
+pub(crate) struct Cursors {
+    pub event: usize,
+    pub going: usize,
+    pub offer: usize,
+    pub take: usize,
+}
+
+// What a cycle brings, and the places behind it.
+#[derive(Drop)]
+pub(crate) struct CycleRows<'a> {
+    pub events: &'a [Event],
+    pub goings: &'a [Going],
+    pub offers: &'a [Offered],
+    pub takes: &'a [Taking],
+    pub behind: Cursors,
+}
+
+impl Given {
+    // What accepted inputs give.
+    pub(crate) fn of(alloc: Global, inputs: &RunInputs) -> Result<Given, NoMemory>
+        ensures { IfOk result (λ given. stimuli_with given ≡ stimuli_of inputs.now) }
+    {
+        inputs.are_accepted();
+        let cycles = inputs.cycles();
+        Ok(Given {
+            schedule: Schedule::of(alloc, inputs)?,
+            offers: offers_of(alloc, inputs.words().rows(), cycles)?,
+            takes: takes_of(alloc, inputs.receivers().rows(), cycles)?,
+        })
+    }
+
+    // What a cycle brings, from these places on.
+    pub(crate) fn rows(&self, from: Cursors, time: u32) -> CycleRows<'_>
+        requires order { AreInOrder (stimuli_with self.now) }
+        requires from { AreCursors from time (stimuli_with self.now) }
+        ensures events { result.events.now ≡ events_in (stimuli_with self.now) time }
+        ensures goings { result.goings.now ≡ goings_in (stimuli_with self.now) time }
+        ensures offers { result.offers.now ≡ offers_in (stimuli_with self.now) time }
+        ensures takes { result.takes.now ≡ takes_in (stimuli_with self.now) time }
+        ensures behind { AreCursors result.behind (time + 1)
+            (stimuli_with self.now) }
+    {
+        let event = behind(self.schedule.cycles(), from.event, time);
+        let going = behind(self.schedule.goings(), from.going, time);
+        let offer = behind(&self.offers, from.offer, time);
+        let take = behind(&self.takes, from.take, time);
+        CycleRows {
+            events: self.schedule.events(from.event, event),
+            goings: &self.schedule.goings()[from.going..going],
+            offers: &self.offers[from.offer..offer],
+            takes: &self.takes[from.take..take],
+            behind: Cursors {
+                event,
+                going,
+                offer,
+                take,
+            },
+        }
+    }
+}

@@ -1,0 +1,13 @@
+//! A network, cycle by cycle, and the log of its run.
+#![tactic(auto)]
+
+mod given;
+mod giving;
+mod logging;
+mod network;
+mod places;
+mod rows;
+mod state;
+mod telling;
+
+pub use network::{RoutedNetwork, simulate};

@@ -1,0 +1,156 @@
+// The log of a run before its first cycle: with a row for each word that a session accepts.
+
+ghost use Rattle.std.specs.Prelude.{◌≡◌, ◌≤◌, ◌<◌, ◌*◌, ◌++◌, ◌∷◌, [], All, IfOk, OnOk, length, map};
+ghost use Rattle.std.specs.Prelude.{replicate};
+ghost use Rattle.std.specs.List.{range_with_len};
+ghost use Rattle.aeth_app.specs.Limits.{max_connections};
+ghost use Rattle.aeth_trace.specs.Channels.{channel_number};
+ghost use Rattle.aeth_report.specs.Channels.{channels_of};
+ghost use Rattle.aeth_running.specs.FirstLog.{first_row, first_session};
+ghost use Rattle.aeth_network.specs.ByNumber.{each_by};
+ghost use Rattle.aeth_network.specs.Records.{AreOffered, IsFresh, added_by, channel_from};
+
+use aeth_app::App;
+use aeth_base::{Channel, ConnId, NoMemory, Side};
+use aeth_chip::Chip;
+use aeth_report::{ChannelLog, Landing, SessionLog, SimLog};
+use aeth_schedule::{Going, number_of};
+use aeth_server::Due;
+use aeth_trace::Words;
+use std::alloc::Global;
+
+// The log of a run of which nothing has landed yet.
+pub(crate) fn first_log(
+    alloc: Global,
+    chip: &Chip,
+    app: &App,
+    words: &Words,
+    goings: &[Going],
+    cycles: u32,
+) -> Result<SimLog, NoMemory>
+    requires words { AreOffered words.now }
+    requires goings { All (IsFresh words.now) goings.now }
+    requires known { All (λ one. channel_number one.channel < 2 * max_connections) goings.now }
+    ensures { IfOk result (λ log. log ≡ record {
+      cycles = cycles;
+      channels = map (channel_from words.now cycles goings.now)
+          (channels_of (length app.now.connections));
+      flits = replicate (length chip.now.links) 0;
+    }) }
+{
+    let mut channels = first_channels(alloc, app)?;
+    add_sessions(alloc, &mut channels, words, goings, cycles)?;
+    Ok(SimLog {
+        cycles,
+        channels,
+        flits: vec![in alloc; 0; chip.links() as usize]?,
+    })
+}
+
+// The channels of an application, without sessions.
+fn first_channels(alloc: Global, app: &App) -> Result<Vec<ChannelLog>, NoMemory>
+    ensures { IfOk result (λ channels. channels.items
+        ≡ map (channel_from [] 0 []) (channels_of (length app.now.connections))) }
+{
+    let mut channels = Vec::new(alloc);
+    for c in 0..app.connections() {
+        channels.push(first_channel(alloc, ConnId(c), Side::Fwd))?;
+        channels.push(first_channel(alloc, ConnId(c), Side::Back))?;
+    }
+    Ok(channels)
+}
+
+// A channel without sessions.
+fn first_channel(alloc: Global, conn: ConnId, side: Side) -> ChannelLog
+    ensures { result ≡ channel_from [] 0 [] (record { conn = conn; side = side }) }
+{
+    ChannelLog {
+        channel: Channel { conn, side },
+        sessions: Vec::new(alloc),
+        outside: 0,
+    }
+}
+
+// Adds each session to its channel, in one walk.
+fn add_sessions(
+    alloc: Global,
+    channels: &mut [ChannelLog],
+    words: &Words,
+    goings: &[Going],
+    cycles: u32,
+) -> Result<(), NoMemory>
+    requires words { AreOffered words.now }
+    requires goings { All (IsFresh words.now) goings.now }
+    requires known { All (λ one. channel_number one.channel < 2 * max_connections) goings.now }
+    ensures { IfOk result (λ done. channels.new
+        ≡ each_by (added_by words.now cycles goings.now) 0 channels.old) }
+{
+    for going in goings {
+        let number = number_of(going.channel) as usize;
+        if number < channels.len() {
+            add_session(alloc, &mut channels[number], words, going, cycles)?;
+        }
+    }
+    Ok(())
+}
+
+// Adds a session to its channel.
+fn add_session(
+    alloc: Global,
+    channel: &mut ChannelLog,
+    words: &Words,
+    going: &Going,
+    cycles: u32,
+) -> Result<(), NoMemory>
+    requires words { AreOffered words.now }
+    requires going { IsFresh words.now going.now }
+    ensures { IfOk result (λ done. channel.new ≡ record channel.old {
+      sessions = channel.old.sessions ++ first_session words.now cycles going.now ∷ [];
+    }) }
+{
+    let session = first_session(alloc, words, going, cycles)?;
+    channel.sessions.push(session)?;
+    Ok(())
+}
+
+// A session of which nothing has landed yet.
+fn first_session(
+    alloc: Global,
+    words: &Words,
+    going: &Going,
+    cycles: u32,
+) -> Result<SessionLog, NoMemory>
+    requires words { AreOffered words.now }
+    requires going { IsFresh words.now going.now }
+    ensures { IfOk result (λ session. session ≡ first_session words.now cycles going.now) }
+{
+    Ok(SessionLog {
+        go: u64::from(going.lane.go),
+        ended: going.lane.fin < cycles,
+        offered: going.count,
+        landed: 0,
+        taken: 0,
+        rows: first_rows(alloc, words, going)?,
+    })
+}
+
+// A row for each of its words, as of which none has landed.
+fn first_rows(alloc: Global, words: &Words, going: &Going) -> Result<Vec<Landing>, NoMemory>
+    requires words { AreOffered words.now }
+    requires going { IsFresh words.now going.now }
+    ensures { IfOk result (λ rows. rows.items
+        ≡ map (first_row words.now going.now) (range_with_len 0 going.now.count)) }
+{
+    let mut rows = Vec::new(alloc);
+    let mut due = Due::new(&going.shape);
+    for place in 0..going.count {
+        let word = words.nth_word(going.channel, going.before as usize + place as usize);
+        rows.push(Landing {
+            offered: word.cycle,
+            landed: 0,
+            due: due.step(u64::from(word.cycle)),
+            value: word.value,
+        })?;
+    }
+    Ok(rows)
+}

@@ -1,0 +1,192 @@
+// A network and its run.
+
+ghost use Rattle.std.specs.Prelude.{◌≡◌, ◌<◌, ◌-◌, IfOk, length};
+ghost use Rattle.aeth_report.specs.RunLog.{log_of};
+ghost use Rattle.aeth_accepted.specs.Inputs.{Inputs, run_of};
+ghost use Rattle.aeth_stimuli.specs.Stimuli.{stimuli_of};
+ghost use Rattle.aeth_running.specs.Network.{first_network, played, stepped};
+ghost use Rattle.aeth_running.specs.Told.{told};
+ghost use Rattle.aeth_network.specs.Cursors.{stimuli_with};
+ghost use Rattle.aeth_network.specs.First.{IsFirstState};
+ghost use Rattle.aeth_network.specs.Runs.{AreWiresOf, IsNetworkOf};
+
+use crate::given::{Cursors, Given};
+use crate::logging::first_log;
+use crate::state::{State, run};
+use crate::telling::tell;
+use aeth_accepted::RunInputs;
+use aeth_base::NoMemory;
+use aeth_clocked::{Order, Wires};
+use aeth_report::SimLog;
+use std::alloc::Global;
+use std::marker::Model;
+
+/// A network with what its run is given: its components, how its channels stood before each session
+/// that has gone, and the log, of which nothing has landed. It is seen without the places that it
+/// has come to in what it is given.
+#[derive(Drop)]
+pub struct RoutedNetwork {
+    given: Given,
+    cursors: Cursors,
+    state: State,
+    log: SimLog,
+    time: u32,
+}
+
+impl Model for RoutedNetwork {
+    ghost use Rattle.std.specs.Prelude.{vec_capacity};
+    ghost use Rattle.aeth_running.specs.Network.{NetworkState};
+    ghost use Rattle.aeth_network.specs.Cursors.{AreCursors, stimuli_with};
+    ghost use Rattle.aeth_network.specs.Networks.{IsNetwork, network_of};
+
+    ghost Value = { NetworkState };
+
+    ghost view = { λ all. network_of (stimuli_with all.given) all.state all.log
+        all.time };
+
+    ghost invariant = { λ all. IsNetwork (vec_capacity all.state.replaced)
+        (network_of (stimuli_with all.given) all.state all.log all.time)
+        × AreCursors all.cursors all.time (stimuli_with all.given) };
+}
+
+impl RoutedNetwork {
+    /// The network of accepted inputs, with the tables of the first use case, before the first of
+    /// their cycles. It takes all memory of the run: `Err` where there was none.
+    pub fn new(alloc: Global, inputs: &RunInputs) -> Result<RoutedNetwork, NoMemory>
+        ensures first { IfOk result (λ network. network ≡ first_network inputs.now) }
+        ensures run { IfOk result (IsNetworkOf inputs.now) }
+    {
+        inputs.are_accepted();
+        let given = Given::of(alloc, inputs)?;
+        with_given(alloc, inputs, given)
+    }
+
+    /// The number of components.
+    pub fn parts(&self) -> u32
+        ensures count { result ≡ length self.now.components.parts }
+        ensures some { 0 < result }
+    {
+        self.state.components.len() as u32
+    }
+
+    /// The number of cycles that are done.
+    pub fn time(&self) -> u32
+        ensures { result ≡ self.now.time }
+    {
+        self.time
+    }
+
+    /// The number of cycles of the run.
+    pub fn cycles(&self) -> u32
+        ensures { result ≡ self.now.log.cycles }
+    {
+        self.log.cycles
+    }
+
+    /// The wires, as the last cycle drove them. Of a network of accepted inputs they carry what the
+    /// private servers of its run send.
+    pub fn wires(&self) -> &Wires
+        ensures wires { result.now ≡ self.now.components.wires }
+        ensures run { (inputs : Inputs) → IsNetworkOf inputs self.now
+            → AreWiresOf inputs self.now.time result.now }
+    {
+        aeth_running::laws::networks_carry();
+        aeth_running::laws::networks_lose_nothing();
+        self.state.components.wires()
+    }
+
+    /// One more cycle of the run: sessions go, words are offered, receivers take as their rows say,
+    /// and the components do a cycle with its events. It takes no memory and can't fail.
+    pub fn cycle(&mut self, order: &Order)
+        requires order { length order.now ≡ length self.old.components.parts }
+        requires time { self.old.time < self.old.log.cycles }
+        ensures steps { self.new ≡ stepped self.old }
+        ensures parts { length self.new.components.parts ≡ length self.old.components.parts }
+        ensures run { (inputs : Inputs) → IsNetworkOf inputs self.old
+            → IsNetworkOf inputs self.new }
+    {
+        let rows = self.given.rows(self.cursors, self.time);
+        self.state.bring(&rows, self.time);
+        run(&mut self.state.components, order, &rows, self.time);
+        self.cursors = rows.behind;
+        self.time += 1;
+    }
+
+    /// The log of the cycles that are done. Of a network of accepted inputs that has done all their
+    /// cycles it is the log of their run.
+    pub fn log(mut self) -> SimLog
+        ensures told { result ≡ told self }
+        ensures run { (inputs : Inputs) → IsNetworkOf inputs self → self.time ≡ inputs.cycles
+            → result ≡ log_of (run_of inputs) }
+    {
+        aeth_running::laws::networks_log();
+        tell(
+            &mut self.log,
+            &self.state.components,
+            &self.state.outside,
+            self.given.schedule.goings(),
+            &self.state.replaced,
+            &mut self.state.untils,
+        );
+        self.log
+    }
+}
+
+/// Plays all cycles of the run that are left.
+pub fn simulate(network: &mut RoutedNetwork, order: &Order)
+    requires { length order.now ≡ length network.old.components.parts }
+    ensures played { network.new
+        ≡ played (network.old.log.cycles - network.old.time) network.old }
+    ensures parts { length network.new.components.parts
+        ≡ length network.old.components.parts }
+    ensures run { (inputs : Inputs) → IsNetworkOf inputs network.old
+        → IsNetworkOf inputs network.new × (network.new.time ≡ inputs.cycles) }
+{
+    'cycles: while network.time() < network.cycles() {
+        network.cycle(order);
+    }
+}
+
+// The network of accepted inputs that is given this.
+fn with_given(alloc: Global, inputs: &RunInputs, given: Given) -> Result<RoutedNetwork, NoMemory>
+    requires { stimuli_with given ≡ stimuli_of inputs.now }
+    ensures { IfOk result (λ network. network ≡ first_network inputs.now) }
+{
+    let state = State::of(alloc, inputs, &given.schedule)?;
+    with_state(alloc, inputs, given, state)
+}
+
+// That which is given this, and has this state.
+fn with_state(
+    alloc: Global,
+    inputs: &RunInputs,
+    given: Given,
+    state: State,
+) -> Result<RoutedNetwork, NoMemory>
+    requires given { stimuli_with given ≡ stimuli_of inputs.now }
+    requires state { IsFirstState inputs.now state }
+    ensures { IfOk result (λ network. network ≡ first_network inputs.now) }
+{
+    aeth_events::laws::stimuli_are_stimuli();
+    inputs.are_accepted();
+    let log = first_log(
+        alloc,
+        inputs.chip(),
+        inputs.app(),
+        inputs.words(),
+        given.schedule.goings(),
+        inputs.cycles(),
+    )?;
+    Ok(RoutedNetwork {
+        given,
+        cursors: Cursors {
+            event: 0,
+            going: 0,
+            offer: 0,
+            take: 0,
+        },
+        state,
+        log,
+        time: 0,
+    })
+}

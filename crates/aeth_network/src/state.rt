@@ -1,0 +1,138 @@
+// What changes in a network from cycle to cycle.
+
+ghost use Rattle.std.specs.Prelude.{◌≡◌, ◌<◌, ◌*◌, All, IfOk, length, map, replicate};
+ghost use Rattle.aeth_base.specs.Limits.{max_cycles};
+ghost use Rattle.aeth_ni.specs.Limits.{queues_of_interface};
+ghost use Rattle.aeth_components.specs.Changes.{switched};
+ghost use Rattle.aeth_components.specs.Components.{Cycle, first_components, frames_of};
+ghost use Rattle.aeth_components.specs.Events.{IsDoable};
+ghost use Rattle.aeth_components.specs.Frames.{frame_of};
+ghost use Rattle.aeth_components.specs.Making.{new_parts};
+ghost use Rattle.aeth_schedule.specs.Schedule.{schedule_of};
+ghost use Rattle.aeth_schedule.specs.Values.{values_of};
+ghost use Rattle.aeth_stimuli.specs.Loaded.{no_lane};
+ghost use Rattle.aeth_network.specs.Brought.{CanBring, IsBrought};
+ghost use Rattle.aeth_network.specs.First.{IsFirstState};
+
+use crate::given::CycleRows;
+use crate::giving::{note, offer, start, take};
+use aeth_accepted::RunInputs;
+use aeth_app::App;
+use aeth_base::{NiId, NoMemory};
+use aeth_chip::Chip;
+use aeth_clocked::Order;
+use aeth_components::{ChannelEnd, Components, Lane};
+use aeth_schedule::{Schedule, values};
+use aeth_trace::Words;
+use std::alloc::Global;
+
+// What a receiver takes in a cycle at most where no row says it.
+const USUAL_PULL: u32 = 2;
+
+// The components of a network; for each channel until when the session that went last accepts words,
+// and how many words were offered outside of all sessions; and how the channel of each session that
+// has gone stood before.
+#[derive(Drop)]
+pub(crate) struct State {
+    pub components: Components,
+    pub untils: Vec<u32>,
+    pub outside: Vec<u32>,
+    pub replaced: Vec<Lane>,
+}
+
+impl State {
+    // That before the first cycle, with the tables of the first use case.
+    pub(crate) fn of(
+        alloc: Global,
+        inputs: &RunInputs,
+        schedule: &Schedule,
+    ) -> Result<State, NoMemory>
+        requires { schedule.now ≡ schedule_of inputs.now }
+        ensures { IfOk result (IsFirstState inputs.now) }
+    {
+        aeth_events::laws::stimuli_are_stimuli();
+        inputs.are_accepted();
+        let app = inputs.app();
+        let channels = 2 * app.connections() as usize;
+        Ok(State {
+            components: loaded(alloc, inputs.chip(), app, inputs.words(), schedule)?,
+            untils: vec![in alloc; 0; channels]?,
+            outside: vec![in alloc; 0; channels]?,
+            replaced: Vec::with_capacity(alloc, schedule.goings().len())?,
+        })
+    }
+
+    // What a cycle brings: sessions go, words are offered, and receivers take as their rows say.
+    pub(crate) fn bring(&mut self, rows: &CycleRows, time: u32)
+        requires { CanBring self.old rows.now time }
+        ensures { IsBrought rows.now time self.old self.new }
+    {
+        note(&mut self.replaced, self.components.lanes(), rows.goings);
+        start(&mut self.components, &mut self.untils, rows.goings);
+        offer(
+            &mut self.components,
+            &self.untils,
+            &mut self.outside,
+            rows.offers,
+            time,
+        );
+        take(&mut self.components, rows.takes);
+    }
+}
+
+// The components do a cycle, with its events.
+pub(crate) fn run(components: &mut Components, order: &Order, rows: &CycleRows, time: u32)
+    requires order { length order.now ≡ length components.old.parts }
+    requires time { time < max_cycles }
+    requires events { All (IsDoable (frames_of components.old)) rows.now.events.now }
+    ensures { Cycle rows.now.events.now time components.old components.new }
+{
+    components.step(order, time, rows.events);
+}
+
+// The components of a chip, once they are loaded.
+fn loaded(
+    alloc: Global,
+    chip: &Chip,
+    app: &App,
+    words: &Words,
+    schedule: &Schedule,
+) -> Result<Components, NoMemory>
+    requires rooms { length schedule.now.rooms ≡ queues_of_interface * length chip.now.nis }
+    requires some { 0 < length chip.now.nis }
+    requires loaded { All (IsDoable (map frame_of (new_parts chip.now schedule.now.rooms)))
+        schedule.now.loaded }
+    ensures { IfOk result (λ components. let made = first_components chip.now schedule.now.rooms
+        (replicate (2 * length app.now.connections) no_lane)
+        (values_of words.now (length app.now.connections)) in
+        components ≡ record made { parts = switched schedule.now.loaded made.parts }) }
+{
+    let channels = 2 * app.connections() as usize;
+    let lanes = vec![in alloc; no_lane(); channels]?;
+    let values = values(alloc, app, words)?;
+    let mut components = Components::new(alloc, chip, schedule.rooms(), lanes, values)?;
+    components.prepare(schedule.loaded());
+    Ok(components)
+}
+
+// A channel of which no session has gone.
+fn no_lane() -> Lane
+    ensures { result ≡ no_lane }
+{
+    let nowhere = ChannelEnd {
+        ni: NiId(0),
+        queue: 0,
+    };
+    Lane {
+        sender: nowhere,
+        receiver: nowhere,
+        go: 0,
+        fin: 0,
+        first: 0,
+        accepted: 0,
+        pull: USUAL_PULL,
+        handed: 0,
+        landed: 0,
+        taken: 0,
+    }
+}

@@ -1,8 +1,0 @@
-use Rattle.std.proofs.Common.{◌≡◌, filter, map, nat_lt, take}
-use Rattle.aeth_stimuli.specs.Stimuli.{take_of}
-use Rattle.aeth_sim.proofs.rows.takes_of.Given as goal
-
--- The rows so far.
-abbrev pub invariant-loop-row : goal.invariant-loop-row
-invariant-loop-row l = l.takes.items
-    ≡ map take_of (filter (λ row. nat_lt row.cycle l.cycles) (take l.row-index l.pulls))
