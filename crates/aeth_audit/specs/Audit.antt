@@ -5,8 +5,8 @@
 --   path_at, is_of_channel, is_joined      rules 2 and 3 at a reserved place
 --   rule_at, broken_by      the rule that a row breaks
 --   fault_before, first_fault, audit_of      the audit of a log
--- A header that names route and queue, and brings credits back: after Æthereal (2005). The rest: this
--- project's own.
+-- A header that names route and queue, and brings credits back: after Æthereal (2005). The rest:
+-- this project's own.
 use Rattle.std.specs.Prelude.{ℕ, ◌+◌, ◌-◌, ◌*◌, ◌/◌, ◌^◌, ◌==◌, ◌&&◌, ◌||◌, not, nat_le, nat_lt}
 use Rattle.std.specs.Prelude.{Bool, true, false, List, [], ◌∷◌, filter, find, Option, Some, None}
 use Rattle.std.specs.Prelude.{slice_get, if◌then◌else◌}
@@ -34,8 +34,8 @@ abbrev pub are_blank : ℕ → Flit → Bool
 are_blank count flit =
     (nat_le 2 count || flit.second == 0) && (nat_le 1 count || flit.first == 0)
 
--- Whether a flit has this route and this queue, a word or a credit, at most two words, and none beyond
--- its count.
+-- Whether a flit has this route and this queue, a word or a credit, at most two words, and none
+-- beyond its count.
 abbrev pub is_addressed : ℕ → ℕ → Flit → Bool
 is_addressed route queue flit =
     let header = fields_of flit.header in
@@ -64,8 +64,8 @@ module _ (links : List Link) (rows : List LinkRow) where
   has_before path place row =
       place == 0 || option_map_or (comes_from row) (slice_get path (place - 1)) false
 
-  -- Whether a flit is on a link a delay after, unless that is the end or later, which goes on from this
-  -- one.
+  -- Whether a flit is on a link a delay after, unless that is the end or later, which goes on from
+  -- this one.
   abbrev pub goes_to : ℕ → LinkRow → LinkId → Bool
   goes_to cycles row link =
       let after = row.cycle + delay_of links row.link in

@@ -27,8 +27,8 @@ module _ (design : Design) (timeline : List (List Session)) (cycles : ℕ)
     pub reserved : IsReserved design timeline row.link.0 row.cycle at
     pub other : is_of_channel design at row.flit ≡ false
 
-  -- It is reserved at a place of a path, and the flit isn't on the link before it or on the one after it
-  -- when it would have to be.
+  -- It is reserved at a place of a path, and the flit isn't on the link before it or on the one
+  -- after it when it would have to be.
   pub record IsBrokenOff (row : LinkRow) : Type 0 where
     pub at : Reservation
     pub reserved : IsReserved design timeline row.link.0 row.cycle at
@@ -43,8 +43,8 @@ module _ (design : Design) (timeline : List (List Session)) (cycles : ℕ)
   abbrev pub IsClean : LinkRow → Type 0
   IsClean row = (rule : ℕ) → Breaks row rule → ⊥
 
-  -- The row of this number, counted from 1, breaks a rule and no lesser one, and no row before it breaks
-  -- any.
+  -- The row of this number, counted from 1, breaks a rule and no lesser one, and no row before it
+  -- breaks any.
   pub record IsFirst (rule number : ℕ) : Type 0 where
     pub place : ℕ
     pub row : LinkRow
@@ -55,8 +55,8 @@ module _ (design : Design) (timeline : List (List Session)) (cycles : ℕ)
     pub first : (k : ℕ) (before : LinkRow) → k < place → slice_get rows k ≡ Some before
         → IsClean before
 
-  -- An audit says that no row breaks a rule, or which row is the first that does, and which is the least
-  -- rule that it breaks.
+  -- An audit says that no row breaks a rule, or which row is the first that does, and which is the
+  -- least rule that it breaks.
   abbrev pub IsAuditOf : Audit → Type 0
   IsAuditOf Clean = (row : LinkRow) → Contains rows row → IsClean row
   IsAuditOf (Fault rule number) = IsFirst rule number

@@ -1,5 +1,5 @@
--- The rules that a log of links breaks, as a refusal shows them. Places are rows; the header is row 0.
--- The first three rules are those of trace files.
+-- The rules that a log of links breaks, as a refusal shows them. Places are rows; the header is row
+-- 0. The first three rules are those of trace files.
 -- This project's own.
 use Rattle.std.specs.Prelude.{ℕ, codes, Option, Some, None}
 use Rattle.aeth_base.specs.Faults.{BrokenRule}

@@ -1,5 +1,5 @@
--- The numbers of the rules on logs of links. A cycle is at most the most cycles of a run, and a word
--- is at most the greatest value of one.
+-- The numbers of the rules on logs of links. A cycle is at most the most cycles of a run, and a
+-- word is at most the greatest value of one.
 -- This project's own.
 use Rattle.std.specs.Prelude.{ℕ}
 

@@ -56,8 +56,8 @@ link_row_in fields =
     (number_at fields 2 max_value) (number_at fields 3 max_value) (number_at fields 4 max_value)
     else None
 
--- Whether a row comes before those of a link in a cycle: in an earlier cycle, or in the same one on an
--- earlier link.
+-- Whether a row comes before those of a link in a cycle: in an earlier cycle, or in the same one on
+-- an earlier link.
 abbrev pub is_before : ℕ → ℕ → LinkRow → Bool
 is_before cycle link row =
     nat_lt row.cycle cycle || (row.cycle == cycle && nat_lt row.link.0 link)
@@ -66,8 +66,8 @@ is_before cycle link row =
 abbrev pub is_later : LinkRow → LinkRow → Bool
 is_later before row = is_before row.cycle row.link.0 before
 
--- Rule 3, OutOfOrder: a row doesn't come later than the one before it. The place is the row; the value
--- is its cycle. The first of the rows has this number.
+-- Rule 3, OutOfOrder: a row doesn't come later than the one before it. The place is the row; the
+-- value is its cycle. The first of the rows has this number.
 abbrev pub are_later : Option LinkRow → ℕ → List LinkRow → Result (Unit {0}) BrokenRule
 are_later before number [] = Ok tt
 are_later before number (row ∷ rows) =
@@ -79,8 +79,8 @@ are_later before number (row ∷ rows) =
 abbrev pub are_few_rows : ℕ → Result (Unit {0}) BrokenRule
 are_few_rows rows = if nat_le rows max_link_rows then Ok tt else Err (too_many_rows rows)
 
--- The rows of a file's bytes, for a chip of so many links, in file order; or the first rule that the
--- file breaks.
+-- The rows of a file's bytes, for a chip of so many links, in file order; or the first rule that
+-- the file breaks.
 unfoldable pub link_log_of : ℕ → List ℕ → Result (List LinkRow) BrokenRule
 link_log_of links bytes = do
   rows ← table_of heads_links link_row_in (records_of bytes)

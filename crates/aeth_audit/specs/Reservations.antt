@@ -1,5 +1,5 @@
--- What a link is reserved for in a cycle: the places of paths at which a flit of an open session would
--- enter it then.
+-- What a link is reserved for in a cycle: the places of paths at which a flit of an open session
+-- would enter it then.
 --
 --   Reservation      a reserved place
 --   may_inject      whether a session may inject a flit in a cycle
@@ -19,7 +19,8 @@ use Rattle.aeth_report.specs.Channels.{channels_of}
 use Rattle.aeth_report.specs.Design.{Design, grant_at}
 use Rattle.aeth_report.specs.declared.session.Session.{Session}
 
--- A reserved place: the channel, the group by whose grant it is reserved, and the place of the path.
+-- A reserved place: the channel, the group by whose grant it is reserved, and the place of the
+-- path.
 pub record Reservation : Type 0 where
   pub channel : Channel
   pub group : ℕ
@@ -31,8 +32,9 @@ may_inject session u =
     nat_le session.go u && option_map_or (λ close. nat_lt u close.stop) session.close true
 
 module _ (design : Design) (l t : ℕ) where
-  -- Whether a link is reserved in a cycle for a session of a channel, at a place of its path: it may
-  -- inject in the cycle from which a flit comes to the link by then, which is in one of its slots.
+  -- Whether a link is reserved in a cycle for a session of a channel, at a place of its path: it
+  -- may inject in the cycle from which a flit comes to the link by then, which is in one of its
+  -- slots.
   abbrev pub is_reserved : Channel → Session → ℕ × LinkId → Bool
   is_reserved channel session place =
       let grant = grant_at design channel session.group.0 in

@@ -10,11 +10,11 @@ use Rattle.aeth_report.specs.Sessions.{MayInject}
 use Rattle.aeth_report.specs.declared.session.Session.{Session}
 use Rattle.aeth_audit.specs.Reservations.{Reservation}
 
--- A link is reserved in a cycle: a session of the channel, by the grants of the group, may inject a flit
--- in a cycle, which is in a slot of the channel's, and the flit would enter the link in this one, at the
--- place of the path.
-pub record IsReserved (design : Design) (timeline : List (List Session)) (l t : ℕ) (at : Reservation)
-    : Type 0 where
+-- A link is reserved in a cycle: a session of the channel, by the grants of the group, may inject a
+-- flit in a cycle, which is in a slot of the channel's, and the flit would enter the link in this
+-- one, at the place of the path.
+pub record IsReserved (design : Design) (timeline : List (List Session)) (l t : ℕ)
+    (at : Reservation) : Type 0 where
   pub session : Session
   pub injected : ℕ
   pub is_channel : Contains (channels_of design.groups.connections) at.channel

@@ -6,17 +6,17 @@ ghost use Rattle.aeth_audit.specs.declared.fault.LogFault.TheVariants.{Memory};
 use aeth_base::{BrokenRule, Fault, NoMemory, Shown};
 use std::alloc::{AllocError, AllocFailed};
 
-/// The first rule that a log of links breaks, and the first row that breaks it. The header is row 0, and
-/// the rows under it count from 1.
+/// The first rule that a log of links breaks, and the first row that breaks it. The header is row
+/// 0, and the rows under it count from 1.
 #[derive(Clone, Copy)]
 pub enum LogFault {
-    /// The record isn't the header, or a row hasn't the fields of its columns. It has no value. A log
-    /// without a header breaks it at row 0.
+    /// The record isn't the header, or a row hasn't the fields of its columns. It has no value. A
+    /// log without a header breaks it at row 0.
     BadRow { row: u32 },
     /// A field of the row names no link of the chip. Fields count from 1.
     Unknown { row: u32, field: u32 },
-    /// The row doesn't come later than the row before it: in a later cycle, or in the same one on a later
-    /// link.
+    /// The row doesn't come later than the row before it: in a later cycle, or in the same one on a
+    /// later link.
     OutOfOrder { row: u32, cycle: u32 },
     /// There are more rows than are allowed: so many.
     TooMany { rows: u32 },

@@ -11,8 +11,8 @@ ghost use Rattle.aeth_audit.specs.Reservations.{Reservation, reserved};
 ghost use Rattle.aeth_audit.specs.Reserved.{IsReserved};
 ghost use Rattle.aeth_audit.specs.declared.row.LinkRow.{LinkRow};
 
-/// The list of reservations of a link in a cycle has just those of the sessions that may inject a flit
-/// which would enter the link then. In a sound run there is one at most.
+/// The list of reservations of a link in a cycle has just those of the sessions that may inject a
+/// flit which would enter the link then. In a sound run there is one at most.
 pub fn reservations()
     ensures only { (design : Design) (timeline : List (List Session)) (l t : ℕ) (at : Reservation)
         → Contains (reserved design timeline l t) at → IsReserved design timeline l t at }
@@ -26,8 +26,8 @@ pub fn reservations()
     aeth_reconf::laws::timelines_have_sessions();
 }
 
-/// An audit in a sound run says that no row breaks a rule, or which row is the first that does, and which
-/// is the least rule that it breaks.
+/// An audit in a sound run says that no row breaks a rule, or which row is the first that does, and
+/// which is the least rule that it breaks.
 pub fn audits()
     ensures { (run : Run) → IsSound run → (log : List LinkRow) (cycles : ℕ)
         → (let timeline = timeline_of run.design.groups run.spans run.switches in

@@ -1,5 +1,5 @@
-//! Judging a log of the links: whether each flit in it is one that the network of an accepted plan may
-//! carry there.
+//! Judging a log of the links: whether each flit in it is one that the network of an accepted plan
+//! may carry there.
 #![tactic(auto)]
 
 mod audit;

@@ -15,8 +15,8 @@ fn push_field(text: &mut Vec<u8>, number: u32) -> Result<(), NoMemory>
     push_number(text, number as u64)
 }
 
-// Appends the line of a row. What was there before stays, and a part of the line may stand behind it where
-// memory is wanting.
+// Appends the line of a row. What was there before stays, and a part of the line may stand behind
+// it where memory is wanting.
 fn push_fields(text: &mut Vec<u8>, row: &LinkRow) -> Result<(), NoMemory>
     ensures ok { OnOk result (text.new.items ≡ text.old.items ++ row_line row.now) }
     ensures kept { take (length text.old.items) text.new.items ≡ text.old.items }
@@ -30,8 +30,8 @@ fn push_fields(text: &mut Vec<u8>, row: &LinkRow) -> Result<(), NoMemory>
     Ok(())
 }
 
-/// Appends the line of a row: its cycle, its link, and the three words of its flit. Where memory is wanting
-/// the text stays as it was.
+/// Appends the line of a row: its cycle, its link, and the three words of its flit. Where memory is
+/// wanting the text stays as it was.
 pub fn push_row(text: &mut Vec<u8>, row: &LinkRow) -> Result<(), NoMemory>
     ensures ok { OnOk result (text.new.items ≡ text.old.items ++ row_line row.now) }
     ensures err { OnErr result (text.new.items ≡ text.old.items) }

@@ -15,9 +15,9 @@ use std::marker::Model;
 /// The most rows of a log of links.
 pub const MAX_LINK_ROWS: u32 = 1_000_000;
 
-/// A log of links: the flits that were seen on the links of a chip, in the order of their cycles, and
-/// within a cycle in that of the links, no two of one link in one cycle. It is seen as the list of its
-/// rows.
+/// A log of links: the flits that were seen on the links of a chip, in the order of their cycles,
+/// and within a cycle in that of the links, no two of one link in one cycle. It is seen as the list
+/// of its rows.
 #[derive(Drop)]
 pub struct LinkLog {
     rows: Vec<LinkRow>,
@@ -41,9 +41,10 @@ impl LinkLog {
     }
 }
 
-/// The log of a file's bytes, for a chip; or the first rule that the file breaks; or memory ran out. Its
-/// columns are `cycle,link,header,first,second`: cycles are 0 to 1,000,000, links are those of the chip by
-/// their numbers, and the three words of a flit are 0 to 4,294,967,295. Rows rise by cycle and link.
+/// The log of a file's bytes, for a chip; or the first rule that the file breaks; or memory ran
+/// out. Its columns are `cycle,link,header,first,second`: cycles are 0 to 1,000,000, links are
+/// those of the chip by their numbers, and the three words of a flit are 0 to 4,294,967,295. Rows
+/// rise by cycle and link.
 #[tactic(auto, unfolding(crate::specs::LinkLog::link_log_of))]
 pub fn read_log(alloc: Global, bytes: &[u8], chip: &Chip) -> Result<LinkLog, LogFault>
     ensures reads { Reads rule_of (λ log. log) result
