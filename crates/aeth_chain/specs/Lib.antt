@@ -2,4 +2,5 @@ pub mod Limits
 pub mod Chain
 pub mod ChainRun
 pub mod ChainBounds
+pub mod ChainText
 pub mod Lanes

@@ -8,9 +8,11 @@ mod lane;
 mod log;
 mod passing;
 mod run;
+mod text;
 
 pub use bound::{ChainBound, chain_bound};
 pub use item::ChainItem;
 pub use log::ChainLog;
 pub use passing::Offer;
 pub use run::run_chain;
+pub use text::chain_text;
