@@ -1,0 +1,68 @@
+// The cuts that a certificate lists for a try.
+ghost use Rattle.std.specs.Prelude.{◌≡◌, ◌≤◌, ◌++◌, ◌∷◌, [], OnErr, OnOk, length};
+ghost use Rattle.aeth_explain.specs.Limits.{max_cuts};
+
+use aeth_base::{NoMemory, Path};
+use std::alloc::Global;
+use std::marker::Model;
+
+/// The greatest number of cuts that one try may have.
+const MAX_CUTS: usize = 4_294_967_295;
+
+/// The lists of links that a certificate has for a try, in their order.
+#[derive(Drop)]
+pub struct Cuts {
+    paths: Vec<Path>,
+}
+
+impl Model for Cuts {
+    ghost use Rattle.std.specs.Prelude.{◌≤◌, List, length};
+    ghost use Rattle.aeth_base.specs.declared.ids.LinkId.{LinkId};
+    ghost use Rattle.aeth_explain.specs.Limits.{max_cuts};
+
+    ghost Value = { List (List LinkId) };
+
+    ghost view = { λ cuts. cuts.paths.items };
+
+    ghost invariant = { λ cuts. length cuts.paths.items ≤ max_cuts };
+}
+
+impl Cuts {
+    /// None.
+    pub fn new(alloc: Global) -> Cuts
+        ensures { result ≡ [] }
+    {
+        Cuts {
+            paths: Vec::new(alloc),
+        }
+    }
+
+    /// Puts a list of links at the end. After `Err`, where there was no memory or no number is left for it, all is
+    /// as before.
+    pub fn push(&mut self, path: Path) -> Result<(), NoMemory>
+        ensures ok { OnOk result (self.new ≡ self.old ++ path ∷ []) }
+        ensures err { OnErr result (self.new ≡ self.old) }
+    {
+        if self.paths.len() >= MAX_CUTS {
+            return Err(NoMemory);
+        }
+        self.paths.push(path)?;
+        Ok(())
+    }
+
+    /// How many there are.
+    pub fn len(&self) -> u32
+        ensures len { result ≡ length self.now }
+        ensures most { result ≤ max_cuts }
+    {
+        self.paths.len() as u32
+    }
+
+    /// The lists.
+    pub fn list(&self) -> &[Path]
+        ensures list { result.now ≡ self.now }
+        ensures most { length self.now ≤ max_cuts }
+    {
+        &self.paths
+    }
+}
