@@ -1,7 +1,9 @@
-//! Tests of what a run shows: worked texts and audits from the definitions, timelines, and programs.
+//! Tests of what a run shows: worked texts, audits and chains from the definitions, timelines, and
+//! programs.
 #![tactic(auto)]
 
 pub mod audits;
+pub mod chains;
 #[cfg(test)]
 mod designs;
 #[cfg(test)]
