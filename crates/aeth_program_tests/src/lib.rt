@@ -7,6 +7,8 @@ mod demo_tests;
 #[cfg(test)]
 mod designs;
 #[cfg(test)]
-mod fault_tests;
+mod read_tests;
 #[cfg(test)]
 mod runs;
+#[cfg(test)]
+mod write_tests;

@@ -51,6 +51,29 @@ pub(crate) fn shelf_of(alloc: Global, files: &[(&str, &str)]) -> Result<MemShelf
     Ok(MemShelf::new(files_of(alloc, files)?, Vec::new(alloc)))
 }
 
+/// A shelf with these files that gives at most so many bytes a call, and at least one, and whose call
+/// of this number fails.
+pub(crate) fn failing_shelf(
+    alloc: Global,
+    files: &[(&str, &str)],
+    most: usize,
+    call: u64,
+) -> Result<MemShelf, Fail> {
+    let files = files_of(alloc, files)?;
+    Ok(MemShelf::short(files, most.max(1), vec![in alloc; call]?))
+}
+
+/// A sink with room for so many bytes that takes at most `most` a call, and at least one, and whose
+/// call of this number fails.
+pub(crate) fn failing_sink(
+    alloc: Global,
+    room: usize,
+    most: usize,
+    call: u64,
+) -> Result<MemSink, Fail> {
+    Ok(MemSink::new(alloc, room, most.max(1), vec![in alloc; call]?)?)
+}
+
 /// What a command does over the shelf: its status, and then what it writes to `out`, and to `err`,
 /// with `;` for each line feed.
 pub(crate) fn said<H: Shelf>(alloc: Global, line: &str, shelf: &mut H) -> Result<String, Fail> {
