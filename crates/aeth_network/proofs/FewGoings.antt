@@ -29,7 +29,7 @@ filter-few : {X : Type 0} (p : X → Bool) (xs : List X) → length (filter p xs
 filter-few p xs = rw (length-filter p xs) (count_by-le-length p xs)
 
 -- Two channels a connection.
-over-two : (cs : List ℕ) → length (flat_map channels_with cs) ≡ 2 * length cs
+pub over-two : (cs : List ℕ) → length (flat_map channels_with cs) ≡ 2 * length cs
 over-two [] = refl
 over-two (c ∷ cs) = let rest = over-two cs in omega arith
 

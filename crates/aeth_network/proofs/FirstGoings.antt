@@ -9,14 +9,12 @@ use Rattle.std.proofs.lemmas.List.{get_or_past}
 use Rattle.std.proofs.lemmas.List.Elements.{All-append, All-cons, All-filter, All-head, All-map}
 use Rattle.std.proofs.lemmas.List.Elements.{All-nil, All-tail}
 use Rattle.std.proofs.lemmas.List.FromFn.{get_or-map-range_with_len, length-map-range_with_len}
-use Rattle.std.proofs.lemmas.List.Sums.{count_by-le-length, length-filter}
 use Rattle.aeth_base.specs.declared.ids.Channel.{Channel}
 use Rattle.aeth_base.specs.declared.ids.UseId.{UseId}
 use Rattle.aeth_server.specs.ChannelShape.{IsShapeInRange}
 use Rattle.aeth_server.specs.declared.shape.ChannelShape.{ChannelShape}
 use Rattle.aeth_group.specs.Members.{GroupsData, groups_of, is_kept}
 use Rattle.aeth_ni.specs.declared.row.ChannelRow.{ChannelRow}
-use Rattle.aeth_trace.specs.Channels.{is_channel}
 use Rattle.aeth_trace.specs.Spans.{SpanData}
 use Rattle.aeth_trace.specs.Words.{words_on}
 use Rattle.aeth_trace.specs.declared.switches.SwitchRow.{SwitchRow}
@@ -87,12 +85,6 @@ lines-shapes P (a ∷ b ∷ rows) (x ∷ y ∷ shapes) all =
     (All-head P x (y ∷ shapes) all)
     (All-cons Q (line_with b y a) (lines_with rows shapes) (All-head P y shapes tail)
     (lines-shapes P rows shapes (All-tail P y shapes tail)))
-
--- A channel has no more words than there are.
-pub on-few : (words : List WordRow) (channel : Channel)
-    → length (words_on words channel) ≤ length words
-on-few words channel = rw (length-filter (λ row. is_channel channel row.channel) words)
-    (count_by-le-length (λ row. is_channel channel row.channel) words)
 
 -- No more words of a channel are offered before a cycle than it has.
 before-few : (words : List WordRow) (channel : Channel) (t : ℕ)

@@ -1,7 +1,7 @@
 -- What holds of the network of accepted inputs before its first cycle.
 use Rattle.std.proofs.Common.{◌≡◌, ◌≤◌, ◌<◌, ◌*◌, ◌∙◌, ◌^◌, ℕ, List, [], ◌∷◌}
 use Rattle.std.proofs.Common.{ap, arith}
-use Rattle.std.proofs.Common.{drop, filter, length, map, nat_lt, refl, replicate, subst, sym}
+use Rattle.std.proofs.Common.{drop, filter, length, map, nat_lt, refl, subst, sym}
 use Rattle.std.specs.List.{All, range_with_len}
 use Rattle.std.specs.Prelude.{flat_map}
 use Rattle.std.proofs.lemmas.List.{length-append, length-drop, length-map}
@@ -15,20 +15,16 @@ use Rattle.aeth_base.specs.declared.ids.Side.TheVariants.{Back, Fwd}
 use Rattle.aeth_trace.specs.Limits.{max_rows}
 use Rattle.aeth_trace.specs.Words.{words_on}
 use Rattle.aeth_trace.specs.declared.words.WordRow.{WordRow}
-use Rattle.aeth_report.specs.Channels.{channels_of, channels_with}
-use Rattle.aeth_components.specs.Components.{ComponentsState, frames_of}
+use Rattle.aeth_report.specs.Channels.{channels_of}
+use Rattle.aeth_components.specs.Components.{frames_of}
 use Rattle.aeth_components.specs.Events.{IsDoable}
 use Rattle.aeth_components.specs.Frames.{Frame, frame_of}
 use Rattle.aeth_components.specs.Making.{new_parts}
-use Rattle.aeth_ni.specs.Limits.{queues_of_interface}
 use Rattle.aeth_report.specs.Log.{LogData}
 use Rattle.aeth_components.specs.Lanes.{IsLane}
-use Rattle.aeth_components.specs.declared.lane.Lane.{Lane}
 use Rattle.aeth_accepted.specs.Inputs.{AreAccepted, Inputs}
 use Rattle.aeth_schedule.specs.Goings.{goings_of}
-use Rattle.aeth_schedule.specs.Lines.{all_lines}
-use Rattle.aeth_schedule.specs.Rooms.{room_at, rooms_of}
-use Rattle.aeth_schedule.specs.Schedule.{ScheduleData, schedule_of}
+use Rattle.aeth_schedule.specs.Rooms.{rooms_of}
 use Rattle.aeth_schedule.specs.Switching.{loaded_of}
 use Rattle.aeth_schedule.specs.Values.{values_of, values_on, values_with}
 use Rattle.aeth_schedule.specs.declared.going.Going.{Going}
@@ -46,7 +42,9 @@ use Rattle.aeth_network.specs.Records.{IsFresh}
 use Rattle.aeth_network.proofs.FirstComponents.{AreFit-none, HaveCounts-none, IsComponents-loaded}
 use Rattle.aeth_network.proofs.FirstComponents.{few-parts, loaded-frames, loaded-size}
 use Rattle.aeth_network.proofs.FewGoings.{goings-few}
-use Rattle.aeth_network.proofs.FirstGoings.{fresh-goings, on-few}
+use Rattle.aeth_schedule.proofs.Places.{on-few}
+use Rattle.aeth_network.proofs.FewGoings.{over-two}
+use Rattle.aeth_network.proofs.FirstGoings.{fresh-goings}
 use Rattle.aeth_network.proofs.Passed.{passed-first}
 
 -- The channels of connections have no more words than twice so often the most rows.
@@ -83,10 +81,6 @@ values-few words n few within =
     omega arith
 
 -- Two channels a connection.
-over-two : (cs : List ℕ) → length (flat_map channels_with cs) ≡ 2 * length cs
-over-two [] = refl
-over-two (c ∷ cs) = let rest = over-two cs in omega arith
-
 pub length-channels_of : (n : ℕ) → length (channels_of n) ≡ 2 * n
 length-channels_of n =
     over-two (range_with_len 0 n) ∙ ap (λ k. 2 * k) (count-range n)
@@ -162,14 +156,6 @@ AreCursors-first cursors all event going offer take = record {
   offer_is = offer ∙ sym (passed-first (λ (one : Offer). one.cycle) all.offers);
   take_is = take ∙ sym (passed-first (λ (one : Take). one.cycle) all.takes);
 }
-
--- There is a room for each queue of each interface.
-pub rooms-count : (inputs : Inputs)
-    → length (rooms_of inputs) ≡ queues_of_interface * length inputs.chip.nis
-unfolding rooms_of
-rooms-count inputs =
-    length-map-range_with_len (room_at (flat_map (λ lines. lines) (all_lines inputs))) 0
-    (queues_of_interface * length inputs.chip.nis)
 
 -- The components can do what is written before the first cycle.
 pub loaded-doable : (inputs : Inputs) (accepted : AreAccepted inputs)

@@ -20,7 +20,7 @@ use Rattle.aeth_stimuli.specs.Stimuli.{Offer, Take, is_over}
 use Rattle.aeth_schedule.specs.declared.going.Going.{Going}
 use Rattle.aeth_trace.specs.Channels.{channel_number}
 use Rattle.aeth_network.specs.Fits.{AreFit, HaveCounts, IsFit, is_accepted}
-use Rattle.aeth_network.proofs.Lanes.{each-with_lane, length-with_lane}
+use Rattle.aeth_components.proofs.LaneLemmas.{each-with_lane, length-with_lane}
 
 -- A word that passes a test counts once more.
 pub count-cons : {X : Type 0} (p : X → Bool) (x : X) (xs : List X)
@@ -251,14 +251,6 @@ HaveCounts-offered t untils (offer ∷ offers) coming outside within counts =
     (rw size (All-tail (λ (one : Offer). one.number < length outside) offer offers within))
     (HaveCounts-outside t untils offer (offers ++ coming) outside
     (All-head (λ (one : Offer). one.number < length outside) offer offers within) counts)
-
--- Their number stays.
-pub length-all_outside : (t : ℕ) (untils : List ℕ) (offers : List Offer) (outside : List ℕ)
-    → length (fold (outside_with t untils) outside offers) ≡ length outside
-length-all_outside t untils [] outside = refl
-length-all_outside t untils (offer ∷ offers) outside =
-    length-all_outside t untils offers (outside_with t untils outside offer)
-    ∙ length-outside t untils outside offer
 
 pub length-untils : (goings : List Going) (untils : List ℕ)
     → length (fold until_with untils goings) ≡ length untils

@@ -1,48 +1,12 @@
 -- Channels that change one by one.
-use Rattle.std.proofs.Common.{◌≡◌, ◌≢◌, ◌<◌, ◌+◌, ◌∙◌, ℕ, zero, suc, List, [], ◌∷◌, Some, ap, arith}
-use Rattle.std.proofs.Common.{get_or, length, refl, set, slice_get, nat_lt, subst, true}
+use Rattle.std.proofs.Common.{◌≡◌, ◌<◌, ◌+◌, ◌∙◌, ℕ, zero, suc, List, [], ◌∷◌, ap, arith}
+use Rattle.std.proofs.Common.{get_or, length, refl, nat_lt, subst, true}
 use Rattle.std.specs.Prelude.{slice_index}
 use Rattle.std.proofs.lemmas.Bool.Decides.{nat_tests}
 use Rattle.aeth_running.specs.Network.{accepted_with}
 use Rattle.aeth_stimuli.specs.Stimuli.{Offer}
-use Rattle.std.proofs.lemmas.Option.{same_Some}
 use Rattle.aeth_components.specs.Lanes.{with_lane}
 use Rattle.aeth_components.specs.declared.lane.Lane.{Lane}
-
--- A channel that is written at its place has changed.
-pub set-with_lane : (lanes : List Lane) (number : ℕ) (change : Lane → Lane) (default : Lane)
-    → number < length lanes
-    → set lanes number (change (get_or lanes number default)) ≡ with_lane number change lanes
-set-with_lane [] number change default within = refl
-set-with_lane (first ∷ lanes) zero change default within = refl
-set-with_lane (first ∷ lanes) (suc number) change default within =
-    ap (λ (rest : List Lane). first ∷ rest)
-    (set-with_lane lanes number change default (omega arith))
-
--- A change of one keeps their number.
-pub length-with_lane : (number : ℕ) (change : Lane → Lane) (lanes : List Lane)
-    → length (with_lane number change lanes) ≡ length lanes
-length-with_lane number change [] = refl
-length-with_lane zero change (lane ∷ lanes) = refl
-length-with_lane (suc number) change (lane ∷ lanes) =
-    ap (λ n. suc n) (length-with_lane number change lanes)
-
--- What is true of each channel is true of them once one has changed, if it is true of that one.
-pub each-with_lane : (P : ℕ → Lane → Type 0) (number : ℕ) (change : Lane → Lane) (lanes : List Lane)
-    → ((k : ℕ) (lane : Lane) → slice_get lanes k ≡ Some lane → k ≡ number → P k (change lane))
-    → ((k : ℕ) (lane : Lane) → slice_get lanes k ≡ Some lane → k ≢ number → P k lane)
-    → (k : ℕ) (lane : Lane) → slice_get (with_lane number change lanes) k ≡ Some lane → P k lane
-each-with_lane P number change [] own other k lane at = absurd (cc at)
-each-with_lane P zero change (first ∷ lanes) own other zero lane at =
-    rw (same_Some (change first) lane at) at (own zero first refl refl)
-each-with_lane P zero change (first ∷ lanes) own other (suc k) lane at =
-    other (suc k) lane at (omega arith)
-each-with_lane P (suc number) change (first ∷ lanes) own other zero lane at =
-    other zero lane at (omega arith)
-each-with_lane P (suc number) change (first ∷ lanes) own other (suc k) lane at =
-    each-with_lane (λ n. P (suc n)) number change lanes
-    (λ n one there same. own (suc n) one there (omega arith))
-    (λ n one there apart. other (suc n) one there (omega arith)) k lane at
 
 -- A channel without anything.
 abbrev pub empty : Lane

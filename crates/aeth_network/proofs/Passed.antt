@@ -9,16 +9,8 @@ use Rattle.std.proofs.lemmas.Bool.Decides.{nat_tests}
 use Rattle.std.proofs.lemmas.List.Elements.{All-cons, All-head, All-nil, All-tail, All-weaker}
 use Rattle.std.proofs.lemmas.List.Elements.{All-get_or}
 use Rattle.std.proofs.lemmas.List.Sums.{length-filter, count_by-le-length}
+use Rattle.aeth_trace.proofs.OrderLemmas.{first_least, later_rise}
 use Rattle.aeth_network.specs.Behind.{IsBehind, passed}
-
--- The first isn't above the later ones, and these don't fall.
-first-least : {X : Type 0} (key : X → ℕ) (x : X) (xs : List X) → IsNonDecreasingBy key (x ∷ xs)
-    → All (λ y. key x ≤ key y) xs
-first-least key x xs rises = λ k d within. rises 0 (suc k) d (omega arith) (omega arith)
-
-later-rise : {X : Type 0} (key : X → ℕ) (x : X) (xs : List X) → IsNonDecreasingBy key (x ∷ xs)
-    → IsNonDecreasingBy key xs
-later-rise key x xs rises = λ i j d le within. rises (suc i) (suc j) d (omega arith) (omega arith)
 
 -- None lies before a cycle that is above none.
 none-passed : {X : Type 0} (key : X → ℕ) (cycle : ℕ) (xs : List X) → All (λ y. cycle ≤ key y) xs
@@ -62,13 +54,13 @@ passed-at key cycle (x ∷ xs) zero d rises within = (
   λ high.
       let none = none-passed key cycle (x ∷ xs) (All-cons (λ y. cycle ≤ key y) x xs high
       (All-weaker (λ y. key x ≤ key y) (λ y. cycle ≤ key y) (λ y le. omega arith) xs
-      (first-least key x xs rises))) in
+      (first_least key x xs rises))) in
       omega arith,
 )
 passed-at key cycle (x ∷ xs) (suc k) d rises within =
-    let later = passed-at key cycle xs k d (later-rise key x xs rises) (omega arith) in
+    let later = passed-at key cycle xs k d (later_rise key x xs rises) (omega arith) in
     let least : key x ≤ key (get_or xs k d) =
-    All-get_or (λ y. key x ≤ key y) xs k d (omega arith) (first-least key x xs rises) in (
+    All-get_or (λ y. key x ≤ key y) xs k d (omega arith) (first_least key x xs rises) in (
       λ low.
           let rest = later.0 low in
           let more = passed-yes key cycle x xs (omega arith) in
@@ -86,11 +78,11 @@ passed-behind key cycle (x ∷ xs) rises =
     elim (cases_lt (key x) cycle) [
       | inl low ↦
           rw (passed-yes key cycle x xs low)
-          (passed-behind key cycle xs (later-rise key x xs rises))
+          (passed-behind key cycle xs (later_rise key x xs rises))
       | inr high ↦
           let above = All-cons (λ y. cycle ≤ key y) x xs high
           (All-weaker (λ y. key x ≤ key y) (λ y. cycle ≤ key y) (λ y le. omega arith) xs
-          (first-least key x xs rises)) in
+          (first_least key x xs rises)) in
           rw (none-passed key cycle (x ∷ xs) above) above
     ]
 
@@ -100,8 +92,8 @@ pub passed-range : {X : Type 0} (key : X → ℕ) (cycle : ℕ) (xs : List X) �
     ≡ filter (λ y. key y == cycle) xs
 passed-range key cycle [] rises = refl
 passed-range {X} key cycle (x ∷ xs) rises =
-    let rest = passed-range key cycle xs (later-rise key x xs rises) in
-    let least = first-least key x xs rises in
+    let rest = passed-range key cycle xs (later_rise key x xs rises) in
+    let least = first_least key x xs rises in
     elim (cases_lt (key x) cycle) [
       | inl low ↦
           let now = passed-yes key cycle x xs low in

@@ -6,19 +6,11 @@ use Rattle.aeth_accepted.specs.Inputs.{AreAccepted, Inputs}
 use Rattle.aeth_schedule.specs.Rooms.{rooms_of}
 use Rattle.aeth_schedule.specs.Switching.{loaded_of}
 use Rattle.aeth_schedule.specs.Values.{values_of}
+use Rattle.aeth_running.proofs.Played.{stepped-log, stepped-time}
 use Rattle.aeth_running.specs.Network.{NetworkState, first_network, played, stepped}
 use Rattle.aeth_running.specs.Told.{network_log, told}
 use Rattle.aeth_network.specs.Runs.{IsNetworkOf}
 use Rattle.aeth_network.proofs.FirstComponents.{loaded-size}
-
--- A cycle comes after the other, and the run has as many as before.
-pub stepped-time : (old : NetworkState) → (stepped old).time ≡ old.time + 1
-unfolding stepped
-stepped-time old = refl
-
-pub stepped-log : (old : NetworkState) → (stepped old).log ≡ old.log
-unfolding stepped
-stepped-log old = refl
 
 -- No cycle, and one more.
 pub played-none : (cycles : ℕ) (old : NetworkState) → cycles ≡ 0 → played cycles old ≡ old

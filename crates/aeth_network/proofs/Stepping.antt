@@ -18,6 +18,7 @@ use Rattle.aeth_components.specs.Lanes.{IsLane}
 use Rattle.aeth_components.proofs.CountingLemmas.{length-flits_counted}
 use Rattle.aeth_schedule.specs.declared.going.Going.{Going}
 use Rattle.aeth_events.specs.Events.{events_in}
+use Rattle.aeth_running.proofs.OutsideTold.{length-all_outside}
 use Rattle.aeth_running.specs.Network.{NetworkState, accepted_with, gone_with, goings_in}
 use Rattle.aeth_running.specs.Network.{offers_in, outside_in, ready_in}
 use Rattle.aeth_stimuli.specs.Loaded.{no_lane}
@@ -29,7 +30,7 @@ use Rattle.aeth_network.specs.Fits.{AreFit, HaveCounts}
 use Rattle.aeth_network.proofs.CycleLemmas.{All-fit, AreFit-Cycle, Cycle-is, IsComponents-Cycle}
 use Rattle.aeth_network.proofs.FitLemmas.{AreFit-all_gone, AreFit-offered, AreFit-taking, HasWay}
 use Rattle.aeth_network.proofs.FitLemmas.{HaveCounts-offered, count-behind, length-all_accepted}
-use Rattle.aeth_network.proofs.FitLemmas.{length-all_outside, length-gone, length-taking, length-untils}
+use Rattle.aeth_network.proofs.FitLemmas.{length-gone, length-taking, length-untils}
 use Rattle.aeth_network.proofs.Passed.{passed-behind, passed-few, passed-more, passed-range}
 
 -- What passes a test has what all that pass it have.

@@ -19,15 +19,15 @@ use Rattle.aeth_running.proofs.Outside.{counted-outside, lost-next, lost_in}
 use Rattle.aeth_running.proofs.Played.{outside-first, outside-next}
 
 -- Counting words leaves as many counts.
-length-outside : (t : ℕ) (untils : List ℕ) (offers : List Offer) (outside : List ℕ)
+pub length-all_outside : (t : ℕ) (untils : List ℕ) (offers : List Offer) (outside : List ℕ)
     → length (fold (outside_with t untils) outside offers) ≡ length outside
-length-outside t untils [] outside = refl
-length-outside t untils (offer ∷ offers) outside =
+length-all_outside t untils [] outside = refl
+length-all_outside t untils (offer ∷ offers) outside =
     let own = offer.number in
     let more = slice_index outside own + 1 in
     elim (cases_Bool (nat_lt t (slice_index untils own))) [
-      | inl is ↦ rw is (length-outside t untils offers outside)
-      | inr isnt ↦ rw isnt (length-outside t untils offers (slice_set outside own more)
+      | inl is ↦ rw is (length-all_outside t untils offers outside)
+      | inr isnt ↦ rw isnt (length-all_outside t untils offers (slice_set outside own more)
           ∙ length-set outside own more)
     ]
 
@@ -56,7 +56,7 @@ module _ (inputs : Inputs) (channel : Channel)
       let next : suc t ≡ t + 1 = omega arith in
       ap (λ n. length (outside_at n)) next
       ∙ ap length (outside-next inputs t)
-      ∙ length-outside t (untils_at t) (offers_in (stimuli_of inputs) t) (outside_at t)
+      ∙ length-all_outside t (untils_at t) (offers_in (stimuli_of inputs) t) (outside_at t)
       ∙ length-at t
 
   module _ (accepted_until : (t : ℕ) → t < inputs.cycles → (row : WordRow) → row.cycle ≡ t

@@ -22,11 +22,11 @@ stepped-stimuli : (all : NetworkState) → (stepped all).stimuli ≡ all.stimuli
 unfolding stepped
 stepped-stimuli all = refl
 
-stepped-log : (all : NetworkState) → (stepped all).log ≡ all.log
+pub stepped-log : (all : NetworkState) → (stepped all).log ≡ all.log
 unfolding stepped
 stepped-log all = refl
 
-stepped-time : (all : NetworkState) → (stepped all).time ≡ all.time + 1
+pub stepped-time : (all : NetworkState) → (stepped all).time ≡ all.time + 1
 unfolding stepped
 stepped-time all = refl
 

@@ -1,6 +1,6 @@
 mod GoingLemmas
 pub mod LineLemmas
-mod Places
+pub mod Places
 pub mod RoomLemmas
 pub mod ScheduleLemmas
 mod Within

@@ -3,7 +3,8 @@ use Rattle.std.proofs.lemmas.List.Elements.{All-weaker}
 use Rattle.aeth_components.specs.Components.{ComponentsState}
 use Rattle.aeth_stimuli.specs.Stimuli.{Offer}
 use Rattle.aeth_network.specs.Fits.{AreFit}
-use Rattle.aeth_network.proofs.FitLemmas.{AreFit-next, HaveCounts-next, length-all_outside}
+use Rattle.aeth_running.proofs.OutsideTold.{length-all_outside}
+use Rattle.aeth_network.proofs.FitLemmas.{AreFit-next, HaveCounts-next}
 use Rattle.aeth_network.proofs.Stepping.{lanes-accepted}
 use Rattle.aeth_network.proofs.giving.offer.Goals as goal
 

@@ -11,7 +11,7 @@ use Rattle.aeth_trace.specs.Channels.{is_channel}
 use Rattle.aeth_trace.specs.Words.{words_on}
 use Rattle.aeth_trace.specs.declared.words.WordRow.{WordRow}
 use Rattle.aeth_running.specs.FirstLog.{first_row, rows_of}
-use Rattle.aeth_network.proofs.FirstGoings.{on-few}
+use Rattle.aeth_schedule.proofs.Places.{on-few}
 use Rattle.aeth_network.proofs.RowLemmas.{due-more, get-behind, index-map}
 use Rattle.aeth_network.proofs.logging.first_rows.Goals as goal
 

@@ -1,7 +1,8 @@
 use Rattle.std.proofs.Common.{◌≡◌, ◌∙◌, ◌<◌, ◌+◌, ◌-◌, ap, arith, refl, sym}
 use Rattle.aeth_report.specs.Log.{LogData}
 use Rattle.aeth_running.specs.Network.{NetworkState, played, stepped}
-use Rattle.aeth_network.proofs.Playing.{done-of, played-more, played-none, stepped-log, stepped-time}
+use Rattle.aeth_running.proofs.Played.{stepped-log, stepped-time}
+use Rattle.aeth_network.proofs.Playing.{done-of, played-more, played-none}
 use Rattle.aeth_network.proofs.network.simulate.Goals as goal
 
 -- None is played yet.

@@ -1,22 +1,14 @@
-use Rattle.std.proofs.Common.{◌≡◌, ◌∙◌, ◌*◌, ℕ, ap, arith, length, map, replicate, subst, sym}
-use Rattle.std.specs.List.{All}
-use Rattle.aeth_chip.specs.Chip.{ChipData}
-use Rattle.aeth_components.specs.Changes.{switched}
-use Rattle.aeth_components.specs.Components.{first_components}
-use Rattle.aeth_components.specs.Events.{IsDoable}
-use Rattle.aeth_components.specs.Frames.{frame_of}
-use Rattle.aeth_components.specs.Making.{new_parts}
+use Rattle.std.proofs.Common.{◌∙◌, ap, length}
 use Rattle.aeth_schedule.specs.Schedule.{ScheduleData}
-use Rattle.aeth_schedule.specs.Values.{values_of}
-use Rattle.aeth_stimuli.specs.Loaded.{no_lane}
-use Rattle.aeth_network.proofs.FirstNetwork.{loaded-doable, rooms-count}
+use Rattle.aeth_events.proofs.FittingEvents.{rooms-counted}
+use Rattle.aeth_network.proofs.FirstNetwork.{loaded-doable}
 use Rattle.aeth_network.proofs.state.State.of.Goals as goal
 
 -- There is a room for each queue.
 pub loaded-requires-clause-rooms : goal.loaded-requires-clause-rooms
 loaded-requires-clause-rooms c =
     rw c.chip.ensures (ap (λ (schedule : ScheduleData). length schedule.rooms) c.requires
-    ∙ rooms-count c.args.inputs.now)
+    ∙ rooms-counted c.args.inputs.now)
 
 -- There are interfaces.
 pub loaded-requires-clause-some : goal.loaded-requires-clause-some
