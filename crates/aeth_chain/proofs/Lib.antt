@@ -9,3 +9,7 @@ mod ReceiverLemmas
 mod RunningLemmas
 mod LandedLemmas
 mod FirstLemmas
+mod MergedLemmas
+mod ChannelLogs
+mod LoggedLemmas
+mod ChainedLemmas

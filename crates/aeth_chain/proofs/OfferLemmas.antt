@@ -22,7 +22,7 @@ use Rattle.aeth_chain.specs.Lanes.{AreOffers}
 use Rattle.aeth_chain.specs.declared.passing.Offer.{Offer}
 
 -- One function after another.
-map-map : {X Y Z : Type 0} (g : Y → Z) (f : X → Y) (xs : List X)
+pub map-map : {X Y Z : Type 0} (g : Y → Z) (f : X → Y) (xs : List X)
     → map g (map f xs) ≡ map (λ x. g (f x)) xs
 map-map g f [] = refl
 map-map g f (x ∷ xs) = ap (λ ys. g (f x) ∷ ys) (map-map g f xs)

@@ -6,6 +6,11 @@ ghost use Rattle.aeth_server.specs.Shape.{IsGranted};
 ghost use Rattle.aeth_trace.specs.Words.{words_on};
 ghost use Rattle.aeth_chain.specs.Chain.{AreDistinct, IsChain, legs_of};
 ghost use Rattle.aeth_chain.specs.ChainBounds.{HasLandedBy, IsDueInChain};
+ghost use Rattle.aeth_accepted.specs.Inputs.{Inputs, run_of};
+ghost use Rattle.aeth_base.specs.declared.ids.UseId.{UseId};
+ghost use Rattle.aeth_report.specs.RunLog.{log_of};
+ghost use Rattle.aeth_chain.specs.ChainInputs.{AreTabled, forwarding_inputs, landings_on};
+ghost use Rattle.aeth_chain.specs.ChainInputs.{last_channel, told};
 ghost use Rattle.aeth_chain.specs.ChainRun.{chain_log, first_offers, landings_along, offer_of};
 ghost use Rattle.aeth_chain.specs.ChainRun.{runs_along, servers_along};
 ghost use Rattle.aeth_chain.specs.Lanes.{AreOffers, IsRunning, legs_in};
@@ -57,6 +62,11 @@ pub fn run_chain(
         let first = first_offers words.now cycles legs in
         IsDueInChain legs first (servers_along receivers.now cycles first legs) cycles i t
         → HasLandedBy log.landings i t)) }
+    ensures logged { IfOk result (λ log. (inputs : Inputs) (u : UseId)
+        → AreTabled inputs u items.now shapes.now → inputs.pulls ≡ receivers.now
+        → inputs.cycles ≡ cycles → told log.landings
+        ≡ told (landings_on (log_of (run_of (forwarding_inputs inputs u items.now log.offers)))
+        (last_channel items.now))) }
 {
     are_granted(shapes);
     // Offered on the first channel, and beside it for the due cycles.

@@ -1,9 +1,11 @@
 use Rattle.std.proofs.Common.{◌∙◌, ◌-◌, ap, length, subst, arith}
 use Rattle.aeth_base.specs.declared.ids.Side.TheVariants.{Fwd}
 use Rattle.aeth_chain.specs.Chain.{legs_of, size_of}
+use Rattle.aeth_chain.specs.ChainRun.{ChainData}
 use Rattle.aeth_chain.specs.Lanes.{AreOffers}
 use Rattle.aeth_chain.specs.declared.item.ChainItem.{ChainItem}
 use Rattle.aeth_chain.proofs.AlongLemmas.{first-is, legs-count, legs-lands}
+use Rattle.aeth_chain.proofs.ChainedLemmas.{log-runs}
 use Rattle.aeth_chain.proofs.ShapeLemmas.{chain-legs}
 use Rattle.aeth_chain.proofs.run.run_chain.Goals as goal
 
@@ -27,12 +29,10 @@ returns-clause-gives c =
 -- And so a word that is due has landed.
 pub returns-clause-lands : goal.returns-clause-lands
 returns-clause-lands c = λ i t is.
-    let first-same = first-is c.args.items.now c.args.shapes.now no_item c.args.words.now
-    c.args.cycles c.requires.chain.some c.requires.chain.beside in
-    let first = c.in_ok-first.ensures.gives ∙ first-same in
-    let own = c.in_ok-own.ensures.gives ∙ first-same in
-    let landings = rw (c.deref.ensures.value, first, own) at c.in_ok-landings.ensures.landings in
-    let legs = legs_of c.args.items.now c.args.shapes.now in
+    let landings = ap (λ (log : ChainData). log.landings) (returns-clause-gives c) in
+    let first = c.in_ok-first.ensures.gives
+    ∙ first-is c.args.items.now c.args.shapes.now no_item c.args.words.now c.args.cycles
+    c.requires.chain.some c.requires.chain.beside in
     let count = legs-count c.args.items.now c.args.shapes.now c.requires.chain.beside in
     rw landings (legs-lands c.args.receivers.now c.args.cycles
     (size_of (legs_of c.args.items.now c.args.shapes.now))
@@ -40,3 +40,13 @@ returns-clause-lands c = λ i t is.
     (subst (AreOffers c.args.cycles) first c.in_ok-first.ensures.offers)
     (chain-legs c.args.items.now c.args.shapes.now c.requires.chain c.are_granted.ensures) i t is
     (omega (arith, count, c.requires.chain.some)))
+
+-- And the landings are those of a run.
+pub returns-clause-logged : goal.returns-clause-logged
+returns-clause-logged c =
+    let first = c.in_ok-first.ensures.gives
+    ∙ first-is c.args.items.now c.args.shapes.now no_item c.args.words.now c.args.cycles
+    c.requires.chain.some c.requires.chain.beside in
+    log-runs _ c.args.items.now c.args.shapes.now c.args.words.now c.args.receivers.now
+    c.args.cycles c.requires.chain c.requires.distinct c.requires.least c.requires.most
+    (subst (AreOffers c.args.cycles) first c.in_ok-first.ensures.offers) (returns-clause-gives c)
