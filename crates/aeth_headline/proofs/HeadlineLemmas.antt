@@ -6,7 +6,7 @@ use Rattle.aeth_accepted.specs.Inputs.{AreAccepted, Inputs}
 use Rattle.aeth_alloc.specs.Allocation.{OutcomeData, allocation, last_state}
 use Rattle.aeth_alloc.specs.Channels.{Design}
 use Rattle.aeth_alloc.specs.Prices.{prices_of}
-use Rattle.aeth_alloc.specs.Refusals.{IsRefused}
+use Rattle.aeth_alloc.specs.Refusals.{IsRefused, RefusesExactly}
 use Rattle.aeth_alloc.specs.declared.outcome.Refused.{Refused}
 use Rattle.aeth_app.specs.App.{AppData, IsApp, IsAppOf}
 use Rattle.aeth_base.specs.Limits.{max_cycles}
@@ -82,6 +82,17 @@ pub record Laws : Type 0 where
       → IsAppOf design.chip design.app → (refused : Refused)
       → Contains (last_state design (groups_of design.app)).refused refused
       → IsRefused design (groups_of design.app) refused
+  pub exactly : (design : Design) → IsChip design.chip → IsApp design.app
+      → IsAppOf design.chip design.app → RefusesExactly design (groups_of design.app)
+      (last_state design (groups_of design.app)).refused
+
+-- The refusals of an allocation are exactly those after its last turn.
+refused_exactly : (chip : ChipData) (app : AppData)
+    → RefusesExactly (design_of chip app) (groups_of app)
+    (last_state (design_of chip app) (groups_of app)).refused
+    → RefusesExactly (design_of chip app) (groups_of app) (allocated chip app).refused
+unfolding allocation
+refused_exactly chip app exactly = exactly
 
 -- What is refused by an allocation is refused after its last turn.
 refused_last : (chip : ChipData) (app : AppData) (refused : Refused)
@@ -161,6 +172,8 @@ module _ {H O E : Type 0} (laws : Laws) (h : shelf.Ghosts H) (o : sink.Ghosts O)
               (refused_text asked (refusals_text it.app outcome.refused) (it.job_is ∙ lines));
           refused = λ refused listed. laws.refused (design_of it.chip it.app) it.chip_is it.app_is
               it.of_chip refused (refused_last it.chip it.app refused listed);
+          exactly = refused_exactly it.chip it.app (laws.exactly (design_of it.chip it.app) it.chip_is
+              it.app_is it.of_chip);
         }
 
   -- The headline, from the promise.

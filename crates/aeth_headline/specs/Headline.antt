@@ -14,7 +14,7 @@ use Rattle.aeth_accepted.specs.Wishes.{IsOfferedAlone, latency_at}
 use Rattle.aeth_alloc.specs.Allocation.{OutcomeData, allocation}
 use Rattle.aeth_alloc.specs.Channels.{Design}
 use Rattle.aeth_alloc.specs.Prices.{prices_of}
-use Rattle.aeth_alloc.specs.Refusals.{IsRefused}
+use Rattle.aeth_alloc.specs.Refusals.{IsRefused, RefusesExactly}
 use Rattle.aeth_alloc.specs.declared.outcome.Refused.{Refused}
 use Rattle.aeth_app.specs.App.{AppData}
 use Rattle.aeth_base.specs.declared.ids.Channel.{Channel}
@@ -118,7 +118,8 @@ module _ {H O E : Type 0} (h : shelf.Ghosts H) (o : sink.Ghosts O) (e : sink.Gho
         (allocated stands_on.chip stands_on.app).plan
 
   -- The files told a chip and an application, `err` got a line for each refused unit, and a unit is
-  -- refused only where, in its turn, no admissible path leaves a suitable free slot set for its side.
+  -- refused only where, in its turn, no admissible path leaves a suitable free slot set for its side,
+  -- and wherever that is so.
   pub record AreRefusals (chip_name app_name : List ℕ) (asked : Job) : Type 0 where
     pub stands_on : IsAllocated (h.content old.shelf) chip_name app_name asked
     pub printed : e.written new.err ≡ appended (e.written old.err)
@@ -126,6 +127,8 @@ module _ {H O E : Type 0} (h : shelf.Ghosts H) (o : sink.Ghosts O) (e : sink.Gho
     pub refused : (refused : Refused)
         → Contains (allocated stands_on.chip stands_on.app).refused refused
         → IsRefused (design_of stands_on.chip stands_on.app) (groups_of stands_on.app) refused
+    pub exactly : RefusesExactly (design_of stands_on.chip stands_on.app) (groups_of stands_on.app)
+        (allocated stands_on.chip stands_on.app).refused
 
   -- What a run of the program keeps, over a shelf that tells the contents of the files: the job that
   -- is asked for rests on these.

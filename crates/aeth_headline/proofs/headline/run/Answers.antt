@@ -22,4 +22,5 @@ returns g c =
       };
       accepted = c.plans.ensures.accepted;
       refused = c.refusals.ensures.rightly;
+      exactly = c.refusals.ensures.exactly;
     }) g.H.Shelf g.O.Sink g.E.Sink _ _ _ _ c.run.ensures
