@@ -127,7 +127,7 @@ else
         echo "aeth: install the Rattle kit that README.md names, and put its folder bin on PATH" >&2
         exit 127
     fi
-    echo "aeth: proving and building; with nothing kept this takes half an hour on four processors, 45 min on two" >&2
+    echo "aeth: proving and building; with nothing kept this takes about 45 min on two processors, half an hour on four" >&2
     tell_progress &
     teller=$!
     trap 'stopped INT' INT
