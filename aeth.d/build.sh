@@ -91,7 +91,8 @@ note_sources() {
 }
 
 # Whether `rt ci` has left a program here, and no source was changed, made, deleted or put back since that run made its
-# first folder. (It makes a crate's folder `out` when the crate's turn comes, and aeth_base is the lowest crate.)
+# first folder. (It makes a crate's folder `out` when the crate's turn comes, and aeth_base is the lowest crate.) The clock
+# of files goes in steps of up to 10 ms, so what changed within 20 ms before that counts too.
 is_left_by_gate() {
     if ! [ -x "$built" ]; then return 1; fi
     for crate in "$home/crates"/*; do
@@ -99,6 +100,7 @@ is_left_by_gate() {
     done
     began=$(stat -c %.9W "$home/crates/aeth_base/out" 2>/dev/null) || return 1
     if [ "${began%%[.,]*}" -le 0 ]; then return 1; fi
+    began=$(echo "$began" | LC_ALL=C awk '{ sub(/,/, "."); printf "%.6f", $1 - 0.02 }')
     changed=$(find "$home/crates.txt" "$home/HANDLES" "$home/crates" -name out -prune -o \
         \( -path "$home/crates/*/*" -type d -o -path "$home/crates" -o -name '*.rt' -o -name '*.antt' \
         -o -name crates.txt -o -name HANDLES \) -newerct "@$began" -print 2>&1) &&
