@@ -1,6 +1,7 @@
 pub mod AppFileLemmas
 pub mod AppLemmas
 mod DemandLemmas
+mod EndLemmas
 mod NameLemmas
 pub mod NeedLemmas
 pub mod OwnNames

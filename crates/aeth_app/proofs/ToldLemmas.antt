@@ -15,7 +15,7 @@ use Rattle.aeth_document.proofs.WalkLemmas.{first_broken-head}
 use Rattle.aeth_app.specs.App.{AreNames, IsApp, IsAppOf, IsConnection, IsUse}
 use Rattle.aeth_app.specs.AppFile.{told_app}
 use Rattle.aeth_app.specs.Demands.{IsWithinDemands, above}
-use Rattle.aeth_app.specs.Limits.{max_cores, seats_per_ni}
+use Rattle.aeth_app.specs.Limits.{max_connections, max_cores, seats_per_ni}
 use Rattle.aeth_app.specs.Parts.{connection_of, core_of, use_of}
 use Rattle.aeth_app.specs.Ranges.{IsInRange, IsNamed}
 use Rattle.aeth_app.specs.Repeats.{HasDistinctNames}
@@ -82,6 +82,14 @@ pub told_cores-few : (chip : ChipData) (root : Members) → IsInRange root
     → length (told_app chip root).cores ≤ max_cores
 unfolding told_app
 told_cores-few chip root range = rw (length-map (cores_in root) (core_of chip.nis)) range.few_cores
+
+-- And few connections.
+pub told_connections-few : (chip : ChipData) (root : Members) → IsInRange root
+    → length (told_app chip root).connections ≤ max_connections
+unfolding told_app
+told_connections-few chip root range =
+    rw (length-map (connections_in root) (connection_of (names_in (cores_in root))))
+    range.few_connections
 
 -- The application of tables that break no rule is one.
 pub is_app : (chip : ChipData) (root : Members) → IsChip chip → IsInRange root

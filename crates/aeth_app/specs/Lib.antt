@@ -10,6 +10,7 @@ pub mod Unknown
 pub mod Parts
 pub mod AppParts
 pub mod Names
+pub mod Ends
 pub mod Demands
 pub mod Fault
 pub mod AppFile

@@ -1,15 +1,17 @@
 // An application as its file tells it.
 ghost use Rattle.std.specs.Prelude.{◌≡◌, ◌<◌, ◌≤◌, IsTrue, Some, length, map, option_map, position};
-ghost use Rattle.std.specs.Prelude.{◌^◌, count_by, slice_get, IfSome, IsSomeAnd};
+ghost use Rattle.std.specs.Prelude.{◌^◌, slice_get, IfSome, IsSomeAnd};
 ghost use Rattle.std.specs.Str.{bytes_eq};
 ghost use Rattle.aeth_app.specs.App.{AreNames, IsApp, IsConnection, has_connection, is_end};
 ghost use Rattle.aeth_app.specs.App.{is_marked, is_smooth, position_of, wish_of};
 ghost use Rattle.aeth_app.specs.AppParts.{app_with};
+ghost use Rattle.aeth_app.specs.Ends.{ArePositions};
 ghost use Rattle.aeth_app.specs.Limits.{max_connections, max_core_connections, max_cores};
 ghost use Rattle.aeth_app.specs.Limits.{max_detour, max_uses, min_uses};
 ghost use Rattle.aeth_app.specs.Rates.{need_of};
 
 use crate::connection::{Connection, Core, Price, Wish};
+use crate::ends::{Positions, positions_at};
 use crate::rates::need_of;
 use crate::use_case::UseCase;
 use aeth_base::{Channel, ConnId, CoreId, Name, Side, UseId};
@@ -69,12 +71,14 @@ pub struct App {
     settings: Settings,
     parts: Parts,
     names: Names,
+    positions: Vec<Positions>,
 }
 
 impl Model for App {
     ghost use Rattle.std.specs.Prelude.{◌≡◌, map};
     ghost use Rattle.aeth_app.specs.App.{AppData, AreNames, IsApp};
     ghost use Rattle.aeth_app.specs.AppParts.{app_with};
+    ghost use Rattle.aeth_app.specs.Ends.{ArePositions};
 
     ghost Value = { AppData };
 
@@ -82,20 +86,28 @@ impl Model for App {
 
     ghost invariant = { λ app. IsApp (app_with app.settings app.parts)
         × AreNames app.names.cores.keys app.names.connections.keys app.names.uses.keys
-        app.parts.cores.items app.parts.connections.items app.parts.uses.items };
+        app.parts.cores.items app.parts.connections.items app.parts.uses.items
+        × ArePositions app.parts.connections.items app.positions.items };
 }
 
 impl App {
-    pub(crate) fn new(settings: Settings, parts: Parts, names: Names) -> App
+    pub(crate) fn new(
+        settings: Settings,
+        parts: Parts,
+        names: Names,
+        positions: Vec<Positions>,
+    ) -> App
         requires app { IsApp (app_with settings parts) }
         requires names { AreNames names.cores.keys names.connections.keys names.uses.keys
             parts.cores.items parts.connections.items parts.uses.items }
+        requires positions { ArePositions parts.connections.items positions.items }
         ensures { result ≡ app_with settings parts }
     {
         App {
             settings,
             parts,
             names,
+            positions,
         }
     }
 
@@ -197,7 +209,12 @@ impl App {
         ensures position { result ≡ position_of self.now.connections core connection.0 }
         ensures few { result < max_core_connections }
     {
-        count_ends(&self.parts.connections[..connection.0 as usize], core) as u32
+        let its = positions_at(&self.positions, connection.0 as usize);
+        if self.connection(connection).from.0 == core.0 {
+            its.from
+        } else {
+            its.to
+        }
     }
 
     /// Whether a use case has a connection.
@@ -259,13 +276,6 @@ fn place_in(names: &IndexSet<Name>, name: &Name) -> Option<u32>
         Some(place) => Some(place as u32),
         None => None,
     }
-}
-
-/// How many of the connections have the core as an end.
-pub(crate) fn count_ends(connections: &[Connection], core: CoreId) -> usize
-    ensures { result ≡ count_by (is_end core) connections.now }
-{
-    connections.iter().filter(|one| one.is_end(core)).count()
 }
 
 fn is_marked(marks: &[bool], place: u32) -> bool

@@ -1,18 +1,20 @@
 // What the cores and connections of an application ask for.
-ghost use Rattle.std.specs.Prelude.{◌≡◌, ◌≤◌, count_by, flat_map, length, map, slice_get, None, OnOk};
+ghost use Rattle.std.specs.Prelude.{◌≡◌, ◌≤◌, count_by, flat_map, length, map, slice_get, IfOk, None, OnOk};
 ghost use Rattle.aeth_base.specs.Faults.{Reads};
 ghost use Rattle.aeth_app.specs.App.{is_fixed_to};
 ghost use Rattle.aeth_app.specs.Demands.{IsWithinDemands, above, core_to_itself, core_too_busy};
 ghost use Rattle.aeth_app.specs.Demands.{demands, own_end, rate_too_high, seats_overfull, shown_core};
 ghost use Rattle.aeth_app.specs.Demands.{too_fast, too_few_seats};
 ghost use Rattle.aeth_app.specs.Fault.{rule_of};
-ghost use Rattle.aeth_app.specs.Limits.{max_cores};
+ghost use Rattle.aeth_app.specs.Limits.{max_connections, max_cores};
 
-use crate::app::{MAX_CORE_CONNECTIONS, SEATS_PER_NI, count_ends};
+use crate::app::{MAX_CORE_CONNECTIONS, SEATS_PER_NI};
 use crate::connection::{Connection, Core, Wish};
+use crate::ends::{count_at, end_counts};
 use crate::fault::AppFault;
-use aeth_base::{Broken, CoreId, Shown, WORDS_PER_FLIT};
+use aeth_base::{Broken, CoreId, NoMemory, Shown, WORDS_PER_FLIT};
 use aeth_document::Walk;
+use std::alloc::Global;
 
 fn too_fast(wish: &Wish) -> Option<Shown>
     ensures { result ≡ too_fast wish.now }
@@ -70,15 +72,21 @@ fn above(most: u64, count: u64) -> Option<Shown>
 
 // The first core that is an end of too many connections.
 #[tactic(auto, using(aeth_base::proofs::Ranges::range_more), unfolding(aeth_document::specs::Walks::walked))]
-fn core_too_busy(cores: u32, connections: &[Connection]) -> Option<Broken>
-    ensures { result ≡ core_too_busy cores connections.now }
+fn core_too_busy(
+    alloc: Global,
+    cores: u32,
+    connections: &[Connection],
+) -> Result<Option<Broken>, NoMemory>
+    requires { length connections.now ≤ max_connections }
+    ensures { IfOk result (λ found. found ≡ core_too_busy cores connections.now) }
 {
+    let counts = end_counts(alloc, cores, connections)?;
     let mut walk = Walk::from(0);
     for core in 0..cores {
-        let count = count_ends(connections, CoreId(core)) as u64;
+        let count = count_at(&counts, CoreId(core)) as u64;
         walk = walk.check(above(MAX_CORE_CONNECTIONS as u64, count));
     }
-    walk.found()
+    Ok(walk.found())
 }
 
 // The number of cores, where there are more than seats.
@@ -118,11 +126,13 @@ fn seats_overfull(nis: u32, cores: &[Core]) -> Option<Broken>
 /// interfaces.
 #[tactic(auto, unfolding(crate::specs::Demands::demands))]
 pub(crate) fn judge_demands(
+    alloc: Global,
     nis: u32,
     cores: &[Core],
     connections: &[Connection],
 ) -> Result<(), AppFault>
-    requires { length cores.now ≤ max_cores }
+    requires few_cores { length cores.now ≤ max_cores }
+    requires few_connections { length connections.now ≤ max_connections }
     ensures gives { Reads rule_of (λ u. u) result (demands nis cores.now connections.now) }
     ensures within { OnOk result (IsWithinDemands nis cores.now connections.now) }
 {
@@ -133,7 +143,7 @@ pub(crate) fn judge_demands(
     if let Some(broken) = core_to_itself(cores, connections) {
         return Err(AppFault::CoreToItself(broken));
     }
-    if let Some(broken) = core_too_busy(count, connections) {
+    if let Some(broken) = core_too_busy(alloc, count, connections)? {
         return Err(AppFault::CoreTooBusy(broken));
     }
     if let Some(broken) = too_few_seats(nis, count) {

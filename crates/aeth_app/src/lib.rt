@@ -5,6 +5,7 @@
 mod app;
 mod connection;
 mod demands;
+mod ends;
 mod fault;
 mod keys;
 pub mod laws;

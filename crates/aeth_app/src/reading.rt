@@ -15,6 +15,7 @@ ghost use Rattle.toml.specs.View.{table_view};
 
 use crate::app::{App, Names, Parts, Settings};
 use crate::demands::judge_demands;
+use crate::ends::positions_of;
 use crate::fault::AppFault;
 use crate::keys::wrong_keys;
 use crate::names::names_of;
@@ -74,7 +75,7 @@ fn judged_parts(
     ensures chip { IsChip chip.now }
 {
     let (settings, parts) = told_parts(alloc, chip, root, names)?;
-    judge_demands(chip.nis(), &parts.cores, &parts.connections)?;
+    judge_demands(alloc, chip.nis(), &parts.cores, &parts.connections)?;
     Ok((settings, parts))
 }
 
@@ -90,7 +91,8 @@ fn told_app(alloc: Global, chip: &Chip, root: &Table, names: Names) -> Result<Ap
     ensures chip { IfOk result (IsAppOf chip.now) }
 {
     let (settings, parts) = judged_parts(alloc, chip, root, &names)?;
-    Ok(App::new(settings, parts, names))
+    let positions = positions_of(alloc, parts.cores.len() as u32, &parts.connections)?;
+    Ok(App::new(settings, parts, names, positions))
 }
 
 #[tactic(auto, unfolding(crate::specs::AppFile::app_in))]

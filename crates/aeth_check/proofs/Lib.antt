@@ -1,6 +1,7 @@
 mod Walks
 mod UnitLists
 mod SlotLaws
+mod TakenLaws
 mod MeetLaws
 mod TouchLaws
 mod ConflictLaws

@@ -11,7 +11,7 @@ use Rattle.aeth_app.specs.declared.connection.Core.{Core}
 use Rattle.aeth_group.specs.declared.grant.SeatLine.{SeatLine}
 use Rattle.aeth_check.specs.Seats.{IsOneSeat, first_misseated, is_elsewhere, is_misseated}
 use Rattle.aeth_check.specs.Seats.{is_one_seat}
-use Rattle.aeth_check.specs.Seats.{ni_of, seat_line}
+use Rattle.aeth_check.specs.Seats.{AreSeatedAt, ni_of, seat_line}
 
 -- The test decides whether two seats are one.
 pub is_one_seat-Decides : (a b : SeatLine) → Decides (is_one_seat a b) (IsOneSeat a b)
@@ -100,3 +100,9 @@ none_where_home seats cores home =
     let same : core ≡ i = omega (arith, is) in
     at_home one.fixed (ni_of seats (record { 0 = core })) (λ ni fixed.
     home (record { 0 = core }) one ni (ap (slice_get cores) same ∙ at) fixed))
+
+-- The table of the interfaces has that of each of its cores.
+pub seated_at : (seats : List SeatLine) (cores : ℕ) (nis : List (Option NiId)) (core : CoreId)
+    (ni : Option NiId) → AreSeatedAt seats cores nis → slice_get nis core.0 ≡ Some ni
+    → ni ≡ ni_of seats core
+seated_at seats cores nis core ni are at = are.each core.0 ni at

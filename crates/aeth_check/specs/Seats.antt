@@ -1,12 +1,13 @@
 -- Where a plan seats cores. Seats: after UMARS (2005), which places cores on network interfaces.
 --
 --   IsOneSeat, is_one_seat      two lines seat cores on one seat
---   ni_of, seat_line      the interface of a core's seat, and the seat's line
+--   ni_of, AreSeatedAt, seat_line      the interface of a core's seat, a table of these, and the line
 --   is_misseated, first_misseated      cores that are fixed to an interface and not seated there
 use Rattle.std.specs.Prelude.{◌≡◌, ◌+◌, ◌==◌, ◌&&◌, ℕ, Bool, false, not, List, [], ◌∷◌, Option}
 use Rattle.std.specs.Prelude.{Some, None, unwrap_or, if◌then◌else◌}
 use Rattle.aeth_base.specs.declared.ids.CoreId.{CoreId}
 use Rattle.aeth_base.specs.declared.ids.NiId.{NiId}
+use Rattle.aeth_chip.specs.Index.{HasEntries}
 use Rattle.aeth_app.specs.App.{is_ni}
 use Rattle.aeth_app.specs.declared.connection.Core.{Core}
 use Rattle.aeth_group.specs.declared.grant.SeatLine.{SeatLine}
@@ -26,6 +27,11 @@ is_one_seat a b = a.ni.0 == b.ni.0 && a.seat == b.seat
 abbrev pub ni_of : List SeatLine → CoreId → Option NiId
 ni_of [] core = None
 ni_of (line ∷ lines) core = if line.core.0 == core.0 then Some line.ni else ni_of lines core
+
+-- A table has the interface of each core's seat, for so many cores.
+abbrev pub AreSeatedAt : List SeatLine → ℕ → List (Option NiId) → Type 0
+AreSeatedAt seats cores nis =
+    HasEntries (λ core ni. ni ≡ ni_of seats (record { 0 = core })) cores nis
 
 -- The line of a core's seat; 0 where the core isn't seated.
 abbrev pub seat_line : List SeatLine → CoreId → ℕ

@@ -2,7 +2,7 @@
 ghost use Rattle.aeth_check.specs.Calls.{IsPlaced, first_meeting};
 ghost use Rattle.aeth_check.specs.Firsts.{first_line, first_pair};
 ghost use Rattle.aeth_group.specs.Tables.{HasTable};
-ghost use Rattle.aeth_check.specs.Masks.{Holds};
+ghost use Rattle.aeth_check.specs.Masks.{AreTaken, Holds};
 ghost use Rattle.aeth_check.specs.Meetings.{conflicts};
 ghost use Rattle.aeth_check.specs.Verdict.{conflict};
 ghost use Rattle.std.specs.List.{list_any};
@@ -11,7 +11,7 @@ ghost use Rattle.std.specs.Prelude.{◌≡◌, ◌<◌, ◌*◌, ◌∷◌, [], 
 ghost use Rattle.std.specs.Prelude.{length};
 
 use crate::lines::grants_begin;
-use crate::masks::{meets, no_masks, put};
+use crate::masks::{meets, no_masks, put, taken};
 use crate::verdict::Verdict;
 use aeth_base::NoMemory;
 use aeth_chip::Chip;
@@ -22,25 +22,33 @@ use aeth_text::line_after;
 use std::alloc::Global;
 
 /// Whether a grant conflicts with one of those that the masks hold.
-fn meets_some(chip: &Chip, groups: &Groups, grant: &Grant, masks: &[SlotSet]) -> bool
+fn meets_some(
+    chip: &Chip,
+    groups: &Groups,
+    grant: &Grant,
+    sets: &[SlotSet],
+    masks: &[SlotSet],
+) -> bool
+    requires sets { AreTaken chip.now.links grant.now sets.now }
     requires rows { length masks.now ≡ length groups.now.uses * length chip.now.links }
     requires grant { IsPlaced chip.now grant.now }
     requires table { HasTable chip.now.slots (length chip.now.links) masks.now }
     ensures { (grants : List Grant) → Holds chip.now groups.now grants masks.now
         → result ≡ list_any (conflicts chip.now.links groups.now grant.now) grants }
 {
-    meets(chip, groups, grant, masks)
+    meets(chip, groups, grant, sets, masks)
 }
 
 /// Puts a grant before those that the masks hold.
-fn hold(chip: &Chip, groups: &Groups, grant: &Grant, masks: &mut [SlotSet])
+fn hold(chip: &Chip, groups: &Groups, grant: &Grant, sets: &[SlotSet], masks: &mut [SlotSet])
+    requires sets { AreTaken chip.now.links grant.now sets.now }
     requires rows { length masks.old ≡ length groups.now.uses * length chip.now.links }
     requires grant { IsPlaced chip.now grant.now }
     requires table { HasTable chip.now.slots (length chip.now.links) masks.old }
     ensures { (grants : List Grant) → Holds chip.now groups.now grants masks.old
         → Holds chip.now groups.now (grant.now ∷ grants) masks.new }
 {
-    put(chip, groups, grant, masks);
+    put(chip, groups, grant, sets, masks);
 }
 
 /// The place of the first grant that conflicts with one behind it. The grants are put into the
@@ -62,10 +70,11 @@ fn meeting_in(
     'grants: while left > 0 {
         left -= 1;
         let grant = &grants[left];
-        if meets_some(chip, groups, grant, masks) {
+        let sets = taken(chip, grant);
+        if meets_some(chip, groups, grant, &sets, masks) {
             found = Some(left);
         }
-        hold(chip, groups, grant, masks);
+        hold(chip, groups, grant, &sets, masks);
     }
     found
 }
@@ -102,7 +111,7 @@ fn line_in(
 {
     let mut line = first;
     for other in others {
-        if meets_some(chip, groups, other, masks) {
+        if meets_some(chip, groups, other, &taken(chip, other), masks) {
             return Some(line);
         }
         line = line_after(line, 1);
@@ -125,7 +134,7 @@ fn line_with(
     requires others { All (IsPlaced chip.now) others.now }
     ensures { result ≡ first_line (conflicts chip.now.links groups.now one.now) first others.now }
 {
-    hold(chip, groups, one, masks);
+    hold(chip, groups, one, &taken(chip, one), masks);
     line_in(chip, groups, first, others, masks)
 }
 

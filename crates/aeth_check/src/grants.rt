@@ -5,18 +5,19 @@ ghost use Rattle.aeth_check.specs.Channels.{fits_path, fits_slots, receiver, sen
 ghost use Rattle.aeth_check.specs.Firsts.{first_line};
 ghost use Rattle.aeth_check.specs.Verdict.{stray_path, unfit_slots};
 ghost use Rattle.aeth_chip.specs.Chip.{IsChip};
-ghost use Rattle.std.specs.Prelude.{◌≡◌, ◌<◌, All, length, not, slice_get};
+ghost use Rattle.std.specs.Prelude.{◌≡◌, ◌<◌, All, IfOk, length, not, slice_get};
 
 use crate::lines::grants_begin;
 use crate::routes::leads;
-use crate::seats::ni_of;
+use crate::seating::Seating;
 use crate::verdict::Verdict;
 use aeth_app::{App, Connection, Wish};
-use aeth_base::{Channel, CoreId, Side};
+use aeth_base::{Channel, CoreId, NoMemory, Side};
 use aeth_chip::{Chip, Distances};
-use aeth_group::{Grant, SeatLine};
+use aeth_group::Grant;
 use aeth_plan::Plan;
 use aeth_text::line_after;
+use std::alloc::Global;
 
 /// The core that sends on a side of a connection.
 fn sender(connection: &Connection, side: Side) -> CoreId
@@ -43,19 +44,19 @@ fn fits_path(
     chip: &Chip,
     app: &App,
     distances: &Distances,
-    seats: &[SeatLine],
+    seating: &Seating,
     grant: &Grant,
 ) -> bool
     requires chip { IsChip chip.now }
     requires distances { distances.now ≡ chip.now.links }
     requires conn { grant.now.unit.conn.0 < length app.now.connections }
     requires links { All (λ link. link.0 < length chip.now.links) grant.now.path }
-    ensures { result ≡ fits_path chip.now app.now seats.now grant.now
+    ensures { result ≡ fits_path chip.now app.now seating.now grant.now
         (slice_get app.now.connections grant.now.unit.conn.0) }
 {
     let connection = app.connection(grant.unit.conn);
-    let from = ni_of(seats, sender(&connection, grant.side));
-    let to = ni_of(seats, receiver(&connection, grant.side));
+    let from = seating.ni_of(sender(&connection, grant.side));
+    let to = seating.ni_of(receiver(&connection, grant.side));
     leads(chip, distances, app.detour(), from, to, &grant.path)
 }
 
@@ -92,19 +93,19 @@ fn first_stray(
     chip: &Chip,
     app: &App,
     distances: &Distances,
-    plan: &Plan,
+    seating: &Seating,
     first: u32,
     grants: &[Grant],
 ) -> Option<u32>
     requires chip { IsChip chip.now }
     requires distances { distances.now ≡ chip.now.links }
     requires grants { All (IsWithin chip.now app.now) grants.now }
-    ensures { result ≡ first_line (λ grant. not (fits_path chip.now app.now plan.now.seats grant
+    ensures { result ≡ first_line (λ grant. not (fits_path chip.now app.now seating.now grant
         (slice_get app.now.connections grant.unit.conn.0))) first grants.now }
 {
     let mut line = first;
     for grant in grants {
-        if !fits_path(chip, app, distances, plan.seats(), grant) {
+        if !fits_path(chip, app, distances, seating, grant) {
             return Some(line);
         }
         line = line_after(line, 1);
@@ -116,23 +117,27 @@ fn first_stray(
 /// isn't seated.
 #[tactic(auto, unfolding(crate::specs::Verdict::stray_path))]
 pub(crate) fn stray_path(
+    alloc: Global,
     chip: &Chip,
     app: &App,
     distances: &Distances,
     plan: &Plan,
-) -> Option<Verdict>
+) -> Result<Option<Verdict>, NoMemory>
     requires chip { IsChip chip.now }
     requires distances { distances.now ≡ chip.now.links }
     requires grants { All (IsWithin chip.now app.now) plan.now.grants }
-    ensures { result ≡ stray_path chip.now app.now plan.now }
+    ensures { IfOk result (λ verdict. verdict ≡ stray_path chip.now app.now plan.now) }
 {
+    let seating = Seating::of(alloc, plan.seats(), app.cores())?;
     let first = grants_begin(plan);
-    let line = first_stray(chip, app, distances, plan, first, plan.grants())?;
-    Some(Verdict::Broken {
-        rule: 5,
-        line,
-        other: 0,
-    })
+    match first_stray(chip, app, distances, &seating, first, plan.grants()) {
+        Some(line) => Ok(Some(Verdict::Broken {
+            rule: 5,
+            line,
+            other: 0,
+        })),
+        None => Ok(None),
+    }
 }
 
 /// The line of the first grant whose slots don't suffice.

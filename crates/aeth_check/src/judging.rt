@@ -49,7 +49,7 @@ fn judge(
         return Ok(verdict);
     }
     let distances = Distances::of(alloc, chip)?;
-    if let Some(verdict) = stray_path(chip, app, &distances, plan) {
+    if let Some(verdict) = stray_path(alloc, chip, app, &distances, plan)? {
         return Ok(verdict);
     }
     if let Some(verdict) = unfit_slots(chip, app, plan) {

@@ -9,6 +9,7 @@ pub mod laws;
 mod lines;
 mod masks;
 mod routes;
+mod seating;
 mod seats;
 mod verdict;
 

@@ -1,12 +1,13 @@
 // A mask for each use case and link: the slots that grants occupy there.
 ghost use Rattle.aeth_check.specs.Calls.{IsPlaced};
+ghost use Rattle.aeth_check.specs.Masks.{AreTaken};
 ghost use Rattle.aeth_group.specs.Tables.{Changes, HasTable, IsTable, hits_row, hits_uses};
 ghost use Rattle.aeth_check.specs.Meetings.{meets, touches};
 ghost use Rattle.aeth_slots.specs.SlotSet.{common};
-ghost use Rattle.std.specs.Prelude.{◌≡◌, ◌≤◌, ◌+◌, ◌*◌, [], ℕ, Bool, true, All, IfOk};
-ghost use Rattle.std.specs.Prelude.{length, nat_lt};
+ghost use Rattle.std.specs.Prelude.{◌≡◌, ◌<◌, ◌≤◌, ◌+◌, ◌*◌, [], ℕ, Bool, true, All, IfOk};
+ghost use Rattle.std.specs.Prelude.{length, nat_lt, slice_get, Some};
 
-use aeth_base::{NoMemory, UseId};
+use aeth_base::{MAX_PATH_LINKS, NoMemory, UseId};
 use aeth_chip::Chip;
 use aeth_group::{Grant, Groups};
 use aeth_slots::SlotSet;
@@ -32,6 +33,29 @@ pub(crate) fn no_masks(
     Ok(masks)
 }
 
+/// The slots that flits of a grant take, one set for each link of its path.
+pub(crate) fn taken(chip: &Chip, grant: &Grant) -> [SlotSet; MAX_PATH_LINKS as usize]
+    requires { IsPlaced chip.now grant.now }
+    ensures { AreTaken chip.now.links grant.now result }
+{
+    let mut sets = [grant.slots; MAX_PATH_LINKS as usize];
+    let mut offset = 0;
+    for i in 0..grant.path.len() {
+        let link = grant.path.link(i);
+        sets[i as usize] = grant.slots.rotate(offset);
+        offset += chip.link(link).delay;
+    }
+    sets
+}
+
+/// The set of a link of the path.
+fn taken_at(sets: &[SlotSet], i: u32) -> SlotSet
+    requires { i < length sets.now }
+    ensures { slice_get sets.now i ≡ Some result }
+{
+    sets[i as usize]
+}
+
 /// Whether two sets have a slot in common.
 fn have_common(mask: &SlotSet, other: &SlotSet) -> bool
     requires { mask.now.size ≡ other.now.size }
@@ -41,7 +65,8 @@ fn have_common(mask: &SlotSet, other: &SlotSet) -> bool
 }
 
 /// Whether flits of a grant meet the slots of a use case's masks.
-fn meets_row(chip: &Chip, u: u32, grant: &Grant, masks: &[SlotSet]) -> bool
+fn meets_row(chip: &Chip, u: u32, grant: &Grant, sets: &[SlotSet], masks: &[SlotSet]) -> bool
+    requires sets { AreTaken chip.now.links grant.now sets.now }
     requires row { u * length chip.now.links + length chip.now.links ≤ length masks.now }
     requires grant { IsPlaced chip.now grant.now }
     requires table { HasTable chip.now.slots (length chip.now.links) masks.now }
@@ -52,8 +77,8 @@ fn meets_row(chip: &Chip, u: u32, grant: &Grant, masks: &[SlotSet]) -> bool
     for i in 0..grant.path.len() {
         let link = grant.path.link(i);
         let at = u as usize * chip.links() as usize + link.0 as usize;
-        let turned = grant.slots.rotate(chip.offset(&grant.path, i));
-        if have_common(&masks[at], &turned) {
+        let set = taken_at(sets, i);
+        if have_common(&masks[at], &set) {
             return true;
         }
     }
@@ -61,7 +86,14 @@ fn meets_row(chip: &Chip, u: u32, grant: &Grant, masks: &[SlotSet]) -> bool
 }
 
 /// Whether flits of a grant meet the slots of the masks of its use cases.
-pub(crate) fn meets(chip: &Chip, groups: &Groups, grant: &Grant, masks: &[SlotSet]) -> bool
+pub(crate) fn meets(
+    chip: &Chip,
+    groups: &Groups,
+    grant: &Grant,
+    sets: &[SlotSet],
+    masks: &[SlotSet],
+) -> bool
+    requires sets { AreTaken chip.now.links grant.now sets.now }
     requires rows { length masks.now ≡ length groups.now.uses * length chip.now.links }
     requires grant { IsPlaced chip.now grant.now }
     requires table { HasTable chip.now.slots (length chip.now.links) masks.now }
@@ -70,7 +102,7 @@ pub(crate) fn meets(chip: &Chip, groups: &Groups, grant: &Grant, masks: &[SlotSe
         → result ≡ touches chip.now.links groups.now test grant.now }
 {
     for u in 0..groups.uses() {
-        if groups.has_unit(UseId(u), grant.unit) && meets_row(chip, u, grant, masks) {
+        if groups.has_unit(UseId(u), grant.unit) && meets_row(chip, u, grant, sets, masks) {
             return true;
         }
     }
@@ -78,7 +110,8 @@ pub(crate) fn meets(chip: &Chip, groups: &Groups, grant: &Grant, masks: &[SlotSe
 }
 
 /// Puts the slots that flits of a grant take into the masks of a use case.
-fn put_row(chip: &Chip, u: u32, grant: &Grant, masks: &mut [SlotSet])
+fn put_row(chip: &Chip, u: u32, grant: &Grant, sets: &[SlotSet], masks: &mut [SlotSet])
+    requires sets { AreTaken chip.now.links grant.now sets.now }
     requires row { u * length chip.now.links + length chip.now.links ≤ length masks.old }
     requires grant { IsPlaced chip.now grant.now }
     requires table { HasTable chip.now.slots (length chip.now.links) masks.old }
@@ -88,13 +121,20 @@ fn put_row(chip: &Chip, u: u32, grant: &Grant, masks: &mut [SlotSet])
     for i in 0..grant.path.len() {
         let link = grant.path.link(i);
         let at = u as usize * chip.links() as usize + link.0 as usize;
-        let slots = grant.slots.rotate(chip.offset(&grant.path, i));
-        masks[at] = masks[at].join(&slots);
+        let set = taken_at(sets, i);
+        masks[at] = masks[at].join(&set);
     }
 }
 
 /// Puts the slots that flits of a grant take into the masks of its use cases.
-pub(crate) fn put(chip: &Chip, groups: &Groups, grant: &Grant, masks: &mut [SlotSet])
+pub(crate) fn put(
+    chip: &Chip,
+    groups: &Groups,
+    grant: &Grant,
+    sets: &[SlotSet],
+    masks: &mut [SlotSet],
+)
+    requires sets { AreTaken chip.now.links grant.now sets.now }
     requires rows { length masks.old ≡ length groups.now.uses * length chip.now.links }
     requires grant { IsPlaced chip.now grant.now }
     requires table { HasTable chip.now.slots (length chip.now.links) masks.old }
@@ -104,7 +144,7 @@ pub(crate) fn put(chip: &Chip, groups: &Groups, grant: &Grant, masks: &mut [Slot
 {
     for u in 0..groups.uses() {
         if groups.has_unit(UseId(u), grant.unit) {
-            put_row(chip, u, grant, masks);
+            put_row(chip, u, grant, sets, masks);
         }
     }
 }

@@ -17,15 +17,15 @@ use Rattle.aeth_base.specs.declared.ids.LinkId.{LinkId}
 use Rattle.aeth_base.specs.declared.ids.NiId.{NiId}
 use Rattle.aeth_chip.specs.declared.node.Link.{Link}
 use Rattle.aeth_chip.specs.declared.node.Node.{Node}
-use Rattle.aeth_chip.specs.declared.node.Node.TheVariants.{Router, Ni}
-use Rattle.aeth_chip.specs.Chip.{ChipData, IsChip, IsNode}
+use Rattle.aeth_chip.specs.declared.node.Node.TheVariants.{Ni}
+use Rattle.aeth_chip.specs.Chip.{ChipData, IsChip}
 use Rattle.aeth_chip.specs.Distances.{AreBelow}
 use Rattle.aeth_chip.specs.Joined.{IsJoined}
 use Rattle.aeth_chip.specs.LeastDistance.{below, has_path, least_distance, link_ids, lists_of}
-use Rattle.aeth_chip.specs.Nodes.{IsBelow}
 use Rattle.aeth_chip.specs.PathTests.{is_path_between}
 use Rattle.aeth_chip.specs.Paths.{BeginsAt, IsPath, IsLeast, IsDistance, to_of}
 use Rattle.aeth_chip.proofs.JoinedLaws.{joined-each, joins-length}
+use Rattle.aeth_chip.proofs.LinkLemmas.{node_below}
 use Rattle.aeth_chip.proofs.PathTestLemmas.{is_path_between-Decides}
 use Rattle.aeth_chip.proofs.RouterLemmas.{length-distinct_routers}
 
@@ -169,12 +169,6 @@ IsLeast-unique P (Some m) (Some n) first second =
 IsLeast-unique P (Some m) None first second = absurd (second first.path first.has)
 IsLeast-unique P None (Some n) first second = absurd (first second.path second.has)
 IsLeast-unique P None None first second = refl
-
--- The links of a chip lead to its routers and interfaces.
-pub node_below : (routers nis : List (List ℕ)) (node : Node) → IsNode routers nis node
-    → IsBelow (length routers) node
-node_below routers nis (Router r) within = within
-node_below routers nis (Ni n) within = tt
 
 -- For each chip, `least_distance` gives the least number of links.
 pub least_distance_is_distance : (chip : ChipData) → IsChip chip → (a b : NiId)

@@ -18,7 +18,7 @@ use Rattle.aeth_chip.specs.PathTests.{is_fresh}
 use Rattle.aeth_chip.specs.Paths.{IsOnward, IsOnwardDistance}
 use Rattle.aeth_chip.proofs.JoinedLaws.{joins-length, joins-none}
 use Rattle.aeth_chip.proofs.LeastDistanceLemmas.{IsLeast-unique, joined-within, least-is}
-use Rattle.aeth_chip.proofs.LeastDistanceLemmas.{node_below}
+use Rattle.aeth_chip.proofs.LinkLemmas.{node_below}
 use Rattle.aeth_chip.proofs.PathTestLemmas.{comes-is, follows-true, fresh-Decides, true-follows}
 use Rattle.aeth_chip.proofs.RouterLemmas.{length-distinct_routers}
 

@@ -132,7 +132,8 @@ told_is_chip root keeps =
       single = each_is_single (nis_of root) (told_links root) keeps.single;
     }
 
-node_below : (routers nis : List (List ℕ)) (node : Node) → IsNode routers nis node
+-- A node of a chip is a router below their number, or an interface.
+pub node_below : (routers nis : List (List ℕ)) (node : Node) → IsNode routers nis node
     → IsBelow (length routers) node
 node_below routers nis (Router r) within = within
 node_below routers nis (Ni n) within = tt

@@ -1,5 +1,5 @@
 -- The closed table of smooth pairs says which use cases are in one group.
-use Rattle.std.proofs.Common.{◌≡◌, ◌<◌, ℕ, Bool, true, false, List, [], ◌∷◌, length, refl, sym}
+use Rattle.std.proofs.Common.{◌≡◌, ◌<◌, ℕ, Bool, true, List, [], ◌∷◌, length, refl}
 use Rattle.std.proofs.Common.{subst, inl, inr}
 use Rattle.aeth_app.specs.App.{UseData}
 use Rattle.aeth_group.specs.Chains.{SmoothChain}
@@ -8,6 +8,7 @@ use Rattle.aeth_group.specs.Marks.{IsClosure, IsPair, IsTransitive, marked}
 use Rattle.aeth_group.proofs.ChainLemmas.{in_one_group-refl, in_one_group-trans}
 use Rattle.aeth_group.proofs.ChainLemmas.{in_one_group_from_same_group, same_group-smooth}
 use Rattle.aeth_group.proofs.ChainLemmas.{same_group_from_in_one_group}
+use Rattle.aeth_group.proofs.ListLemmas.{same_tests}
 
 -- A pair is in one group.
 pair_in_one_group : (uses : List UseData) (u v : ℕ) → IsPair uses u v
@@ -31,19 +32,13 @@ marked_from_chain uses marks closed each u (w ∷ chain) v within leads =
     (each u w (record { first = within; second = leads.0; joined = inr leads.1 }))
     (marked_from_chain uses marks closed each w chain v leads.0 leads.2)
 
--- Tests that hold where the other does are equal.
-same_test : (a b : Bool) → (a ≡ true → b ≡ true) → (b ≡ true → a ≡ true) → a ≡ b
-same_test true b to from = sym (to refl)
-same_test false true to from = from refl
-same_test false false to from = refl
-
 -- The closure of all pairs.
 pub closure_is_groups : (uses : List UseData) (old new : List Bool)
     → ((u v : ℕ) → marked old u v ≡ true → IsPair uses u v)
     → ((u v : ℕ) → IsPair uses u v → marked old u v ≡ true) → IsClosure old new
     → (u v : ℕ) → u < length uses → marked new u v ≡ in_one_group uses u v
 closure_is_groups uses old new only each closure u v within =
-    same_test (marked new u v) (in_one_group uses u v)
+    same_tests (marked new u v) (in_one_group uses u v)
     (closure.extends.least (in_one_group uses) (in_one_group-trans uses)
     (λ a b is. pair_in_one_group uses a b (only a b is)) u v)
     (λ is.

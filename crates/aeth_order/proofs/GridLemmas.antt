@@ -1,13 +1,15 @@
 -- Laws of marked lists: one more place, and one mark less.
 use Rattle.std.proofs.Common.{◌≡◌, ◌≢◌, ◌<◌, ◌∙◌, ◌+◌, ◌++◌, ℕ, zero, suc, Bool, true, false, cond}
-use Rattle.std.proofs.Common.{List, [], ◌∷◌, Contains, Some, refl, sym, ap, inl, inr}
+use Rattle.std.proofs.Common.{List, [], ◌∷◌, Contains, Some, refl, sym, ap, subst, inl, inr}
 use Rattle.std.proofs.Common.{arith, filter, length, get_or, map, not, set, slice_get, take}
 use Rattle.std.specs.List.{items_where_true}
 use Rattle.std.proofs.lemmas.Bool.{cases_Bool}
 use Rattle.std.proofs.lemmas.List.{append-nil}
 use Rattle.aeth_order.specs.declared.keys.UnitKeys.{UnitKeys}
 use Rattle.aeth_order.specs.Units.{UnitsData}
-use Rattle.aeth_base.proofs.Members.{Contains-nil, Contains-cases}
+use Rattle.std.proofs.lemmas.Option.{same_Some}
+use Rattle.aeth_app.specs.App.{is_marked}
+use Rattle.aeth_base.proofs.Members.{Contains-nil, Contains-here, Contains-there, Contains-cases}
 
 -- The marked ones up to a place, with the one there where it is marked.
 pub marked-more : {X : Type 0} (marks : List Bool) (xs : List X) (i : ℕ) (d : Bool) (e : X)
@@ -26,18 +28,42 @@ marked-more (false ∷ marks) (x ∷ xs) (suc i) d e low low' =
     let next : suc i + 1 ≡ suc (i + 1) = omega arith in
     rw next (marked-more marks xs i d e (omega arith) (omega arith))
 
--- A marked one stands at a place.
+-- A marked one stands at a marked place.
+pub record StandsAt {X : Type 0} (marks : List Bool) (xs : List X) (a : X) : Type 0 where
+  pub place : ℕ
+  pub is : slice_get xs place ≡ Some a
+  pub marked : is_marked marks place ≡ true
+
+stands-behind : {X : Type 0} (b : Bool) (marks : List Bool) (x : X) (xs : List X) (a : X)
+    → StandsAt marks xs a → StandsAt (b ∷ marks) (x ∷ xs) a
+stands-behind b marks x xs a at =
+    record { place = suc at.place; is = at.is; marked = at.marked }
+
 pub marked-at : {X : Type 0} (marks : List Bool) (xs : List X) (a : X)
-    → Contains (items_where_true marks xs) a → (p : ℕ) × (slice_get xs p ≡ Some a)
+    → Contains (items_where_true marks xs) a → StandsAt marks xs a
 marked-at [] xs a has = Contains-nil has
 marked-at (b ∷ marks) [] a has = Contains-nil has
 marked-at (true ∷ marks) (x ∷ xs) a has =
     elim (Contains-cases x (items_where_true marks xs) a has) [
-      | inl here ↦ (0, ap Some here)
-      | inr later ↦ let rest = marked-at marks xs a later in (suc rest.0, rest.1)
+      | inl here ↦ record { place = 0; is = ap Some here; marked = refl }
+      | inr later ↦ stands-behind true marks x xs a (marked-at marks xs a later)
     ]
 marked-at (false ∷ marks) (x ∷ xs) a has =
-    let rest = marked-at marks xs a has in (suc rest.0, rest.1)
+    stands-behind false marks x xs a (marked-at marks xs a has)
+
+-- What stands at a marked place is a marked one.
+pub at-marked : {X : Type 0} (marks : List Bool) (xs : List X) (place : ℕ) (a : X)
+    → slice_get xs place ≡ Some a → is_marked marks place ≡ true
+    → Contains (items_where_true marks xs) a
+at-marked [] xs place a is marked = cc marked
+at-marked (b ∷ marks) [] place a is marked = cc is
+at-marked (true ∷ marks) (x ∷ xs) zero a is marked =
+    subst (Contains (x ∷ items_where_true marks xs)) (same_Some x a is)
+    (Contains-here x (items_where_true marks xs))
+at-marked (false ∷ marks) (x ∷ xs) zero a is marked = cc marked
+at-marked (true ∷ marks) (x ∷ xs) (suc place) a is marked =
+    Contains-there x (items_where_true marks xs) a (at-marked marks xs place a is marked)
+at-marked (false ∷ marks) (x ∷ xs) (suc place) a is marked = at-marked marks xs place a is marked
 
 -- Where no one is meant, none is taken out.
 pub marked-none : {X : Type 0} (test : X → Bool) (marks : List Bool) (xs : List X)

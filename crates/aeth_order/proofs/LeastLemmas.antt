@@ -1,5 +1,5 @@
 -- None that waits comes before the next unit.
-use Rattle.std.proofs.Common.{◌≡◌, ◌∙◌, ◌↔◌, ◌<◌, ℕ, cond, List, [], ◌∷◌, Contains, Option, Some}
+use Rattle.std.proofs.Common.{◌≡◌, ◌∙◌, ◌↔◌, ℕ, cond, List, [], ◌∷◌, Contains, Option, Some}
 use Rattle.std.proofs.Common.{None, refl, sym, ap, subst, inl, inr}
 use Rattle.std.specs.Prelude.{fold, option_map}
 use Rattle.std.specs.Cmp.{IsTotalOrder, nat_cmp_is}

@@ -1,7 +1,8 @@
 mod FirstByLemmas
 mod TurnLemmas
-mod NextLemmas
+mod SortedLemmas
 mod GridLemmas
-mod QueueLemmas
+mod NextLemmas
+mod DoneLemmas
 mod StartLemmas
 mod LeastLemmas

@@ -1,23 +1,26 @@
--- The next unit is the first among the first units of all cores.
-use Rattle.std.proofs.Common.{◌≡◌, ◌⊎◌, ◌∙◌, ◌||◌, ℕ, true, cond}
-use Rattle.std.proofs.Common.{List, [], ◌∷◌, Contains, Option, Some, None, refl, sym, ap, inl, inr}
-use Rattle.std.proofs.Common.{subst, filter, eqb}
+-- The next unit is the first that waits in their own order, of those with a seated core if there are any.
+use Rattle.std.proofs.Common.{◌≡◌, ◌⊎◌, ◌∙◌, ℕ, Bool, true, false, cond, eqb}
+use Rattle.std.proofs.Common.{List, [], ◌∷◌, Contains, Option, Some, None, refl, sym, ap, subst}
+use Rattle.std.proofs.Common.{inl, inr, arith, drop, slice_get}
 use Rattle.std.specs.Prelude.{fold}
-use Rattle.std.specs.List.{cons_option}
+use Rattle.std.specs.List.{find, items_where_true}
 use Rattle.std.specs.Ordering.{is_lt}
 use Rattle.std.specs.declared.cmp.Ordering.{Ordering}
 use Rattle.std.specs.declared.cmp.Ordering.TheVariants.{Less, Equal, Greater}
-use Rattle.std.proofs.lemmas.Bool.{cases_Bool, eq-eqb, or_left, or_right}
+use Rattle.std.proofs.lemmas.Bool.{and_from, and_parts, eq-eqb, eqb-true}
 use Rattle.std.proofs.lemmas.Option.{same_Some}
+use Rattle.aeth_app.specs.App.{is_marked}
 use Rattle.aeth_seats.specs.Places.{Place}
 use Rattle.aeth_order.specs.declared.keys.UnitKeys.{UnitKeys}
-use Rattle.aeth_order.specs.Grid.{firsts_of}
-use Rattle.aeth_order.specs.Order.{earlier, first_by, has_core, is_seated, seat_key, turn_order, unit_order}
-use Rattle.aeth_base.proofs.Members.{Contains-nil, Contains-here, Contains-there, Contains-cases}
-use Rattle.aeth_base.proofs.Members.{Contains-filter, filter-Contains}
-use Rattle.aeth_order.proofs.FirstByLemmas.{AreTold, HasFirst, IsAfter, first-exists, first_by-is}
-use Rattle.aeth_order.proofs.TurnLemmas.{after-own, key-seated, key-unseated, told-in-turn, turn_total}
-use Rattle.aeth_order.proofs.TurnLemmas.{unit_total}
+use Rattle.aeth_order.specs.Grid.{IsOrdered, grid_place, waits, waits_seated}
+use Rattle.aeth_order.specs.Order.{earlier, first_by, seat_key, turn_order, unit_order}
+use Rattle.aeth_base.proofs.Members.{Contains-here, Contains-there}
+use Rattle.aeth_order.proofs.FirstByLemmas.{first_by-is}
+use Rattle.aeth_order.proofs.GridLemmas.{at-marked, marked-at}
+use Rattle.aeth_order.proofs.SortedLemmas.{Contains-drop, found-first, found-in, found-passes}
+use Rattle.aeth_order.proofs.SortedLemmas.{none-passes, rises-drop}
+use Rattle.aeth_order.proofs.TurnLemmas.{after-in_turn, seat_key-cases, seated-before, turn_total}
+use Rattle.aeth_order.proofs.TurnLemmas.{unit_order-exact}
 
 -- A first unit is in its list.
 earlier-among : (a b : UnitKeys) (o : Ordering) (m : UnitKeys) → cond (is_lt o) b a ≡ m
@@ -50,140 +53,105 @@ first_by-among order units m is = elim (folds-among order units None m is) [
   | inr has ↦ has
 ]
 
--- The first units of lists are those that are the first of one of them.
-option-cases : (o : Option UnitKeys) (rest : List UnitKeys) (m : UnitKeys)
-    → Contains (cons_option o rest) m → (o ≡ Some m) ⊎ Contains rest m
-option-cases None rest m has = inr has
-option-cases (Some a) rest m has = elim (Contains-cases a rest m has) [
-  | inl here ↦ inl (ap Some here)
-  | inr later ↦ inr later
-]
-
-option-there : (o : Option UnitKeys) (rest : List UnitKeys) (m : UnitKeys) → Contains rest m
-    → Contains (cons_option o rest) m
-option-there None rest m has = has
-option-there (Some a) rest m has = Contains-there a rest m has
-
-firsts-in : (queues : List (List UnitKeys)) (queue : List UnitKeys) (m : UnitKeys)
-    → Contains queues queue → first_by unit_order queue ≡ Some m → Contains (firsts_of queues) m
-firsts-in [] queue m has is = Contains-nil has
-firsts-in (q ∷ queues) queue m has is = elim (Contains-cases q queues queue has) [
-  | inl here ↦ subst (λ o. Contains (cons_option o (firsts_of queues)) m)
-      (sym (ap (first_by unit_order) here ∙ is)) (Contains-here m (firsts_of queues))
-  | inr later ↦ option-there (first_by unit_order q) (firsts_of queues) m
-      (firsts-in queues queue m later is)
-]
-
--- Each is in one of the lists.
-firsts-from : (queues : List (List UnitKeys)) (P : UnitKeys → Type 0)
-    → ((queue : List UnitKeys) → Contains queues queue → (a : UnitKeys) → Contains queue a → P a)
-    → (m : UnitKeys) → Contains (firsts_of queues) m → P m
-firsts-from [] P all m has = Contains-nil has
-firsts-from (q ∷ queues) P all m has =
-    elim (option-cases (first_by unit_order q) (firsts_of queues) m has) [
-      | inl is ↦ all q (Contains-here q queues) m (first_by-among unit_order q m is)
-      | inr later ↦ firsts-from queues P
-          (λ queue has'. all queue (Contains-there q queues queue has')) m later
-    ]
-
--- The waiting units of a core, of which the first in a turn is one, where all of them have a seat as
--- it has, or none.
-core-first : (places : List (Option Place)) (units : List UnitKeys) (m : UnitKeys) (core : ℕ)
-    → HasFirst (turn_order places) units m → has_core core m ≡ true
-    → ((a : UnitKeys) → has_core core a ≡ true → IsAfter (turn_order places) m a
-    → seat_key places m ≡ seat_key places a)
-    → HasFirst unit_order (filter (has_core core) units) m
-core-first places units m core first has alike = record {
-  is_in = Contains-filter (has_core core) units m first.is_in has;
-  before = λ a there.
-      let (among, of_core) = filter-Contains (has_core core) units a there in
-      let after = first.before a among in
-      after-own places m a (alike a of_core after) after;
-}
-
--- The core of the first unit in a turn among whose units it is the first in their own order.
-record OwnCore (units : List UnitKeys) (m : UnitKeys) : Type 0 where
-  pub core : ℕ
-  pub of_unit : (core ≡ m.from.0) ⊎ (core ≡ m.to.0)
-  pub first : HasFirst unit_order (filter (has_core core) units) m
-
-has-from : (m : UnitKeys) → has_core m.from.0 m ≡ true
-has-from m = or_left _ _ (eq-eqb m.from.0 m.from.0 refl)
-
-has-to : (m : UnitKeys) → has_core m.to.0 m ≡ true
-has-to m = or_right (eqb m.from.0 m.to.0) _ (eq-eqb m.to.0 m.to.0 refl)
-
--- Behind a unit of which no core has a seat, or as it, come only such units.
-unseated-after : (places : List (Option Place)) (m a : UnitKeys) → seat_key places m ≡ 1
-    → IsAfter (turn_order places) m a → seat_key places a ≡ 1
-unseated-after places m a none (inl same) = ap (seat_key places) same ∙ none
-unseated-after places m a none (inr after) = key-unseated places m a none after
-
-own-core : (places : List (Option Place)) (units : List UnitKeys) (m : UnitKeys)
-    → HasFirst (turn_order places) units m → OwnCore units m
-own-core places units m first = elim (cases_Bool (is_seated places m.from.0)) [
-  | inl from ↦ record {
-    core = m.from.0;
-    of_unit = inl refl;
-    first = core-first places units m m.from.0 first (has-from m) (λ a has after.
-        key-seated places m m.from.0 from (has-from m)
-        ∙ sym (key-seated places a m.from.0 from has));
-  }
-  | inr not_from ↦ elim (cases_Bool (is_seated places m.to.0)) [
-    | inl to ↦ record {
-      core = m.to.0;
-      of_unit = inr refl;
-      first = core-first places units m m.to.0 first (has-to m) (λ a has after.
-          key-seated places m m.to.0 to (has-to m)
-          ∙ sym (key-seated places a m.to.0 to has));
-    }
-    | inr not_to ↦
-        let none : seat_key places m ≡ 1 =
-        ap (λ b. cond (b || is_seated places m.to.0) 0 1) not_from
-        ∙ ap (λ b. cond b 0 1) not_to in
-        record {
-          core = m.from.0;
-          of_unit = inl refl;
-          first = core-first places units m m.from.0 first (has-from m) (λ a has after.
-              none ∙ sym (unseated-after places m a none after));
-        }
-  ]
-]
-
--- What holds of the waiting units of all cores.
-pub record AreQueues (units : List UnitKeys) (queues : List (List UnitKeys)) : Type 0 where
-  pub told : AreTold unit_order units
-  pub among : (queue : List UnitKeys) → Contains queues queue → (a : UnitKeys)
-      → Contains queue a → Contains units a
-  pub each : (a : UnitKeys) → Contains units a → (core : ℕ)
-      → (core ≡ a.from.0) ⊎ (core ≡ a.to.0) → Contains queues (filter (has_core core) units)
-
--- Where nothing waits, no core has a first unit.
+-- Where nothing waits, there is no first.
 none-first : (places : List (Option Place)) (units : List UnitKeys)
     → ((a : UnitKeys) → Contains units a → ⊥) → first_by (turn_order places) units ≡ None
 none-first places [] none = refl
 none-first places (x ∷ units) none = absurd (none x (Contains-here x units))
 
--- The first in a turn of all units is the first in this turn of the first units of the cores.
-pub next-is : (places : List (Option Place)) (units : List UnitKeys)
-    (queues : List (List UnitKeys)) → AreQueues units queues
-    → first_by (turn_order places) (firsts_of queues) ≡ first_by (turn_order places) units
-next-is places [] queues are =
-    none-first places (firsts_of queues)
-    (firsts-from queues (λ a. ⊥) (λ queue has a there.
-    Contains-nil {P = ⊥} (are.among queue has a there)))
-next-is places (x ∷ units) queues are =
-    let order = turn_order places in
-    let first = first-exists order (turn_total places) x units
-    (told-in-turn places (x ∷ units) are.told) in
-    let m = first.first in
-    let own = own-core places (x ∷ units) m first.has in
-    let queue : List UnitKeys = filter (has_core own.core) (x ∷ units) in
-    first_by-is order (turn_total places) (firsts_of queues) m (record {
-      is_in = firsts-in queues queue m
-          (are.each m first.has.is_in own.core own.of_unit)
-          (first_by-is unit_order unit_total queue m own.first);
-      before = firsts-from queues (IsAfter order m) (λ queue has a there.
-          first.has.before a (are.among queue has a there));
-    })
-    ∙ sym (first_by-is order (turn_total places) (x ∷ units) m first.has)
+-- ---- units in their own order, of which those that wait stand from a place on
+
+module _ (grid : List UnitKeys) (marks : List Bool) (order : List UnitKeys) (passed : ℕ)
+    (is : IsOrdered grid marks order passed)
+  where
+    abbrev units : List UnitKeys
+    units = items_where_true marks grid
+
+    abbrev rest : List UnitKeys
+    rest = drop passed order
+
+    -- Units that their order doesn't tell apart are one.
+    told : (a b : UnitKeys) → Contains rest a → Contains rest b → unit_order a b ≡ Equal → a ≡ b
+    told a b has has' alike =
+        let (conn, group) = unit_order-exact a b alike in
+        let place : grid_place a.unit ≡ grid_place b.unit = omega (arith, conn, group) in
+        same_Some a b (sym (is.units a (Contains-drop passed order a has))
+        ∙ ap (slice_get grid) place ∙ is.units b (Contains-drop passed order b has'))
+
+    -- A unit that is left waits exactly where it has a mark.
+    left-waits : (a : UnitKeys) → Contains rest a → waits marks a ≡ true → Contains units a
+    left-waits a has waiting =
+        at-marked marks grid (grid_place a.unit) a
+        (is.units a (Contains-drop passed order a has)) waiting
+
+    pub waiting-mark : (a : UnitKeys) → Contains units a → waits marks a ≡ true
+    waiting-mark a has =
+        let at = marked-at marks grid a has in
+        ap (is_marked marks) (is.table.placed at.place a at.is).unit ∙ at.marked
+
+    -- The first that is left and passes a test is the first in a turn, where each one that waits comes
+    -- later in the turn, or has its first key and passes too.
+    first-left : (places : List (Option Place)) (test : UnitKeys → Bool) (m : UnitKeys)
+        → find test rest ≡ Some m → waits marks m ≡ true
+        → ((a : UnitKeys) → Contains units a → (turn_order places m a ≡ Less)
+        ⊎ ((seat_key places m ≡ seat_key places a) × (test a ≡ true)))
+        → first_by (turn_order places) units ≡ Some m
+    first-left places test m found waiting others =
+        let there = found-in test rest m found in
+        first_by-is (turn_order places) (turn_total places) units m (record {
+          is_in = left-waits m there waiting;
+          before = λ a has. elim (others a has) [
+            | inl after ↦ inr after
+            | inr alike ↦ after-in_turn places m a alike.0
+                (found-first test rest (rises-drop passed order is.rises) m found
+                (λ b has'. told b m has' there) a (is.waiting a has) alike.1)
+          ];
+        })
+
+    -- A unit that waits and has a seated core.
+    seated : (places : List (Option Place)) (a : UnitKeys) → waits marks a ≡ true
+        → seat_key places a ≡ 0 → waits_seated marks places a ≡ true
+    seated places a waiting zero =
+        and_from (waits marks a) (eqb (seat_key places a) 0) waiting (eq-eqb _ 0 zero)
+
+    -- The first that waits and has a seated core is the next.
+    pub next-seated : (places : List (Option Place)) (m : UnitKeys)
+        → find (waits_seated marks places) rest ≡ Some m
+        → first_by (turn_order places) units ≡ Some m
+    next-seated places m found =
+        let (waiting, key) = and_parts (waits marks m) (eqb (seat_key places m) 0)
+        (found-passes (waits_seated marks places) rest m found) in
+        let zero : seat_key places m ≡ 0 = eqb-true _ _ key in
+        first-left places (waits_seated marks places) m found waiting (λ a has.
+        elim (seat_key-cases places a) [
+          | inl too ↦ inr (zero ∙ sym too, seated places a (waiting-mark a has) too)
+          | inr one ↦ inl (seated-before places m a zero one)
+        ])
+
+    -- Where none that waits has a seated core, it is the first that waits, if one does.
+    unseated : (places : List (Option Place)) → find (waits_seated marks places) rest ≡ None
+        → (a : UnitKeys) → Contains rest a → waits marks a ≡ true → seat_key places a ≡ 1
+    unseated places none a has waiting = elim (seat_key-cases places a) [
+      | inl zero ↦
+          let wrong : true ≡ false = sym (seated places a waiting zero)
+          ∙ none-passes (waits_seated marks places) rest none a has in
+          cc wrong
+      | inr one ↦ one
+    ]
+
+    pub next-waiting : (places : List (Option Place)) (next : Option UnitKeys)
+        → find (waits_seated marks places) rest ≡ None → find (waits marks) rest ≡ next
+        → first_by (turn_order places) units ≡ next
+    next-waiting places None none found =
+        none-first places units (λ a has.
+        let wrong : true ≡ false = sym (waiting-mark a has)
+        ∙ none-passes (waits marks) rest found a (is.waiting a has) in
+        cc wrong)
+    next-waiting places (Some m) none found =
+        let waiting = found-passes (waits marks) rest m found in
+        let one = unseated places none m (found-in (waits marks) rest m found) waiting in
+        first-left places (waits marks) m found waiting (λ a has.
+        inr (
+          one ∙ sym (unseated places none a (is.waiting a has) (waiting-mark a has)),
+          waiting-mark a has,
+        ))

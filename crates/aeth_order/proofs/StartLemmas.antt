@@ -8,23 +8,25 @@ use Rattle.std.proofs.Math.Nat.{div-add-mod, mod-eq_of_lt, mod-lt, mul-add-mod_s
 use Rattle.std.proofs.lemmas.Bool.{and_left, cases_Bool, ne_eqb, or_from}
 use Rattle.std.proofs.lemmas.List.{flat_map_more, map-append}
 use Rattle.std.proofs.lemmas.List.Elements.{filter-append}
+use Rattle.std.proofs.lemmas.List.Sorted.{Contains-permutation, IsPermutation-sym}
+use Rattle.std.specs.List.Sorted.{IsPermutation, IsSorted}
 use Rattle.std.proofs.lemmas.List.FromFn.{get_or-map-range_with_len, length-map-range_with_len}
 use Rattle.std.proofs.lemmas.Nat.{div-mul-add}
 use Rattle.std.proofs.lemmas.Option.{same_Some, slice_get-get_or, slice_get_within}
 use Rattle.aeth_base.specs.declared.ids.Unit.{Unit as GroupUnit}
 use Rattle.aeth_base.proofs.Ranges.{range_with_len-more}
-use Rattle.aeth_app.specs.App.{AppData, IsApp, IsConnection, is_marked}
+use Rattle.aeth_app.specs.App.{AppData, IsApp, is_marked}
 use Rattle.aeth_app.specs.Limits.{max_uses}
 use Rattle.aeth_group.specs.Members.{GroupsData, IsGroups, UseGroupData, groups_of, is_member}
 use Rattle.aeth_group.specs.Members.{units_with}
-use Rattle.aeth_group.proofs.ListLemmas.{all_at}
 use Rattle.aeth_group.proofs.MemberLemmas.{connections-groups_of, is_groups-groups_of}
 use Rattle.aeth_order.specs.declared.keys.UnitKeys.{UnitKeys}
-use Rattle.aeth_order.specs.Grid.{IsGrid, IsPlaced, grid_of, is_unit_at, marks_of, places, unit_at}
-use Rattle.aeth_order.specs.Order.{has_core}
+use Rattle.aeth_order.specs.Grid.{IsGrid, IsOrdered, IsPlaced, grid_of, is_unit_at, marks_of}
+use Rattle.aeth_order.specs.Grid.{places, unit_at}
+use Rattle.aeth_order.specs.Order.{unit_order}
 use Rattle.aeth_order.specs.Units.{all_units, keys_by, keys_of}
 use Rattle.aeth_base.proofs.Filters.{filter-no, filter-yes}
-use Rattle.aeth_order.proofs.GridLemmas.{marked-map}
+use Rattle.aeth_order.proofs.GridLemmas.{marked-at, marked-map}
 
 -- ---- lists that are made number by number
 
@@ -40,13 +42,6 @@ made-at f n i x at =
           ∙ get_or-map-range_with_len f 0 n i i x low (omega arith),
     )
 
-at-made : {X : Type 0} (f : ℕ → X) (n i : ℕ) → i < n
-    → slice_get (map f (range_with_len 0 n)) i ≡ Some (f i)
-at-made f n i low =
-    let size = length-map-range_with_len f 0 n in
-    slice_get-get_or (map f (range_with_len 0 n)) i (f i) (omega (arith, size, low))
-    ∙ ap Some (get_or-map-range_with_len f 0 n i i (f i) low (omega arith))
-
 -- Something stands at each place within a list.
 something : {X : Type 0} (xs : List X) (i : ℕ) → i < length xs
     → (x : X) × (slice_get xs i ≡ Some x)
@@ -57,36 +52,20 @@ something (x ∷ xs) (suc i) low = something xs i (omega arith)
 -- ---- each place has its own unit
 
 keys-placed : (app : AppData) (place : ℕ) → IsApp app → place < places (length app.connections)
-    → IsPlaced (length app.cores) place (keys_of app (unit_at place))
+    → IsPlaced place (keys_of app (unit_at place))
 keys-placed app place is low =
     let whole = div-add-mod place max_uses in
     let conn : place / max_uses < length app.connections = omega (arith, whole, low) in
     let (connection, at) = something app.connections (place / max_uses) conn in
-    let joined = all_at (IsConnection (length app.cores)) app.connections (place / max_uses)
-    connection is.joined at in
-    subst (λ o. IsPlaced (length app.cores) place (keys_by app.slots (unit_at place) o)) (sym at)
-    (record {
-      unit = whole;
-      group = mod-lt place (omega arith);
-      from = joined.from;
-      to = joined.to;
-    })
+    subst (λ o. IsPlaced place (keys_by app.slots (unit_at place) o)) (sym at)
+    (record { unit = whole; group = mod-lt place (omega arith) })
 
--- The queues of so many cores.
-abbrev pub queues_from : List UnitKeys → ℕ → List (List UnitKeys)
-queues_from units cores = map (λ core. filter (has_core core) units) (range_with_len 0 cores)
-
--- All units wait at their cores.
+-- The table of an application, with the marks of its units.
 pub grid-start : (app : AppData) (groups : GroupsData) → IsApp app → groups ≡ groups_of app
     → IsGrid (grid_of app) (marks_of groups)
-    (queues_from (items_where_true (marks_of groups) (grid_of app)) (length app.cores))
 grid-start app groups is are =
     let same : groups.connections ≡ length app.connections =
     ap (λ (g : GroupsData). g.connections) are ∙ connections-groups_of app in
-    let units : List UnitKeys = items_where_true (marks_of groups) (grid_of app) in
-    let queue : ℕ → List UnitKeys = λ core. filter (has_core core) units in
-    let size : length (map queue (range_with_len 0 (length app.cores))) ≡ length app.cores =
-    length-map-range_with_len queue 0 (length app.cores) in
     record {
       size = length-map-range_with_len (is_unit_at groups) 0 (places groups.connections)
           ∙ ap places same
@@ -95,11 +74,23 @@ grid-start app groups is are =
       placed = λ place a at.
           let (low, keys) = made-at (λ p. keys_of app (unit_at p))
           (places (length app.connections)) place a at in
-          subst (λ b. IsPlaced (length (map queue (range_with_len 0 (length app.cores)))) place b)
-          (sym keys)
-          (subst (λ n. IsPlaced n place (keys_of app (unit_at place))) (sym size)
-          (keys-placed app place is low));
-      each = λ core within. at-made queue (length app.cores) core (omega (arith, size, within));
+          subst (λ b. IsPlaced place b) (sym keys) (keys-placed app place is low);
+    }
+
+-- All units wait, in their own order.
+pub order-start : (grid : List UnitKeys) (marks : List Bool) (order : List UnitKeys)
+    → IsGrid grid marks → IsPermutation (items_where_true marks grid) order
+    → IsSorted unit_order order → IsOrdered grid marks order 0
+order-start grid marks order is same rises =
+    let units : List UnitKeys = items_where_true marks grid in
+    record {
+      table = is;
+      rises = rises;
+      units = λ a has.
+          let at = marked-at marks grid a
+          (Contains-permutation order units a (IsPermutation-sym units order same) has) in
+          ap (slice_get grid) (is.placed at.place a at.is).unit ∙ at.is;
+      waiting = λ a has. Contains-permutation units order a same has;
     }
 
 -- ---- the marked places are the units

@@ -1,19 +1,16 @@
 -- The table of units behind units: a place for each connection and each number that a group may have.
 -- This project's own.
-use Rattle.std.specs.Prelude.{◌≡◌, ◌<◌, ℕ, ◌+◌, ◌*◌, ◌/◌, ◌%◌, Bool, List, Some, length, map}
-use Rattle.std.specs.Prelude.{Option, filter}
-use Rattle.std.specs.Prelude.{slice_get}
-use Rattle.std.specs.List.{filter_map, items_where_true, range_with_len}
-use Rattle.std.specs.Ordering.{nat_cmp, on, then_cmp}
-use Rattle.std.specs.declared.cmp.Ordering.{Ordering}
+use Rattle.std.specs.Prelude.{◌≡◌, ◌<◌, ℕ, ◌+◌, ◌*◌, ◌/◌, ◌%◌, ◌==◌, ◌&&◌, Bool, true, List, length}
+use Rattle.std.specs.Prelude.{map, drop, Contains, Option, Some, slice_get}
+use Rattle.std.specs.List.{items_where_true, range_with_len}
+use Rattle.std.specs.List.Sorted.{IsSorted}
 use Rattle.aeth_base.specs.declared.ids.Unit.{Unit as GroupUnit}
-use Rattle.aeth_app.specs.App.{AppData}
+use Rattle.aeth_app.specs.App.{AppData, is_marked}
 use Rattle.aeth_app.specs.Limits.{max_uses}
 use Rattle.aeth_group.specs.Members.{GroupsData, is_member}
 use Rattle.aeth_seats.specs.Places.{Place}
-use Rattle.aeth_order.specs.Order.{first_by, has_core, seat_key, unit_order}
+use Rattle.aeth_order.specs.Order.{seat_key, unit_order}
 use Rattle.aeth_order.specs.Units.{keys_of}
-use Rattle.aeth_order.specs.declared.keys.Ranked.{Ranked}
 use Rattle.aeth_order.specs.declared.keys.UnitKeys.{UnitKeys}
 
 -- How many places there are for so many connections.
@@ -41,32 +38,34 @@ grid_of app = map (λ p. keys_of app (unit_at p)) (range_with_len 0 (places (len
 abbrev pub marks_of : GroupsData → List Bool
 marks_of groups = map (is_unit_at groups) (range_with_len 0 (places groups.connections))
 
--- The first units of some lists of units, each by its own order.
-abbrev pub firsts_of : List (List UnitKeys) → List UnitKeys
-firsts_of queues = filter_map (first_by unit_order) queues
+-- Whether a unit waits, by the marks, and whether it waits and has a core with a seat.
+abbrev pub waits : List Bool → UnitKeys → Bool
+waits marks a = is_marked marks (grid_place a.unit)
 
--- A unit with its first key in a turn, and the comparison of two such.
-abbrev pub ranked_keys : Ranked → UnitKeys
-ranked_keys a = a.keys
+abbrev pub waits_seated : List Bool → List (Option Place) → UnitKeys → Bool
+waits_seated marks places a = waits marks a && seat_key places a == 0
 
-abbrev pub IsRanked : List (Option Place) → Ranked → Type 0
-IsRanked places a = a.rank ≡ seat_key places a.keys
+-- What stands in a list from one place on and waits stands there from another place on.
+abbrev pub IsPassed : List Bool → List UnitKeys → ℕ → ℕ → Type 0
+IsPassed marks order from to = (a : UnitKeys) → Contains (drop from order) a
+    → waits marks a ≡ true → Contains (drop to order) a
 
-abbrev pub rank_order : Ranked → Ranked → Ordering
-rank_order = then_cmp (on (λ (a : Ranked). a.rank) nat_cmp) (on ranked_keys unit_order)
-
--- What holds of a table of units: each place has its own unit, between two of so many cores.
-pub record IsPlaced (cores place : ℕ) (a : UnitKeys) : Type 0 where
+-- What holds of a table of units: each place has its own unit.
+pub record IsPlaced (place : ℕ) (a : UnitKeys) : Type 0 where
   pub unit : grid_place a.unit ≡ place
   pub group : a.unit.group.0 < max_uses
-  pub from : a.from.0 < cores
-  pub to : a.to.0 < cores
 
--- What holds of the table, the marks of the units that wait, and the units that wait at each core.
-pub record IsGrid (grid : List UnitKeys) (marks : List Bool) (queues : List (List UnitKeys))
-    : Type 0 where
+-- What holds of the table and the marks of the units that wait.
+pub record IsGrid (grid : List UnitKeys) (marks : List Bool) : Type 0 where
   pub size : length marks ≡ length grid
-  pub placed : (place : ℕ) (a : UnitKeys) → slice_get grid place ≡ Some a
-      → IsPlaced (length queues) place a
-  pub each : (core : ℕ) → core < length queues
-      → slice_get queues core ≡ Some (filter (has_core core) (items_where_true marks grid))
+  pub placed : (place : ℕ) (a : UnitKeys) → slice_get grid place ≡ Some a → IsPlaced place a
+
+-- What holds of units in their own order beside the table: they are the table's, and those that wait
+-- stand from a place on.
+pub record IsOrdered (grid : List UnitKeys) (marks : List Bool) (order : List UnitKeys) (passed : ℕ)
+    : Type 0 where
+  pub table : IsGrid grid marks
+  pub rises : IsSorted unit_order order
+  pub units : (a : UnitKeys) → Contains order a → slice_get grid (grid_place a.unit) ≡ Some a
+  pub waiting : (a : UnitKeys) → Contains (items_where_true marks grid) a
+      → Contains (drop passed order) a

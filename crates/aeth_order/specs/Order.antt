@@ -2,10 +2,9 @@
 --
 --   is_seated, seat_key      whether a core has a seat, and a unit a core with one
 --   unit_order, turn_order      the comparison of two units, without the seats and with them
---   has_core      whether a core is one of a unit's
 --   earlier, first_by      the first of a list of units
 -- This project's own.
-use Rattle.std.specs.Prelude.{ℕ, ◌||◌, ◌==◌, Bool, List, Option, Some, None, fold, is_some}
+use Rattle.std.specs.Prelude.{ℕ, ◌||◌, Bool, List, Option, Some, None, fold, is_some}
 use Rattle.std.specs.Prelude.{if◌then◌else◌}
 use Rattle.std.specs.Ordering.{flip_args, is_lt, nat_cmp, on, then_cmp}
 use Rattle.std.specs.declared.cmp.Ordering.{Ordering}
@@ -33,10 +32,6 @@ unit_order =
 -- has, and units that are alike in this are in their own order.
 abbrev pub turn_order : List (Option Place) → UnitKeys → UnitKeys → Ordering
 turn_order places = then_cmp (on (seat_key places) nat_cmp) unit_order
-
--- Whether a core is one of the two of a unit.
-abbrev pub has_core : ℕ → UnitKeys → Bool
-has_core core a = a.from.0 == core || a.to.0 == core
 
 -- The earlier of what was first, if anything, and one more.
 abbrev pub earlier : (UnitKeys → UnitKeys → Ordering) → Option UnitKeys → UnitKeys → Option UnitKeys

@@ -4,7 +4,7 @@
 mod grid;
 mod keys;
 pub mod laws;
-mod queue;
+mod sorted;
 mod units;
 
 pub use keys::UnitKeys;

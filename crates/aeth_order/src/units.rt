@@ -6,7 +6,7 @@ ghost use Rattle.aeth_order.specs.Units.{first_units, next_unit, without_unit};
 
 use crate::grid::{grid_of, marked, marks_of};
 use crate::keys::UnitKeys;
-use crate::queue::{Queue, first_in_turn, queues_of};
+use crate::sorted::{first_seated, first_waiting, in_order, passed};
 use aeth_app::{App, MAX_USES};
 use aeth_base::{NoMemory, Unit};
 use aeth_group::Groups;
@@ -16,30 +16,31 @@ use std::marker::Model;
 
 /// The units that wait for their turn.
 ///
-/// Beside them it keeps for each core the first of its units by all that doesn't change from turn to
-/// turn. So the next unit is found among these, without a pass over the units.
+/// Beside them it keeps all units in their own order, which doesn't change from turn to turn, and how
+/// many of the first of these wait no more. So the next unit is found near there.
 #[derive(Drop)]
 pub struct Units {
+    cores: u32,
     grid: Vec<UnitKeys>,
     marks: Vec<bool>,
-    queues: Vec<Queue>,
+    order: Vec<UnitKeys>,
+    passed: usize,
 }
 
 impl Model for Units {
-    ghost use Rattle.std.specs.Prelude.{length};
     ghost use Rattle.std.specs.List.{items_where_true};
     ghost use Rattle.aeth_order.specs.Units.{UnitsData};
-    ghost use Rattle.aeth_order.specs.Grid.{IsGrid};
+    ghost use Rattle.aeth_order.specs.Grid.{IsOrdered};
 
     ghost Value = { UnitsData };
 
     ghost view = { λ units. record {
-      cores = length units.queues.items;
+      cores = units.cores;
       waiting = items_where_true units.marks.items units.grid.items;
     } };
 
     ghost invariant = { λ units.
-        IsGrid units.grid.items units.marks.items units.queues.items };
+        IsOrdered units.grid.items units.marks.items units.order.items units.passed };
 }
 
 impl Units {
@@ -52,11 +53,13 @@ impl Units {
         let grid = grid_of(alloc, app)?;
         let marks = marks_of(alloc, groups, app.connections())?;
         let waiting = marked(alloc, &marks, &grid)?;
-        let queues = queues_of(alloc, &waiting, app.cores())?;
+        let order = in_order(waiting)?;
         Ok(Units {
+            cores: app.cores(),
             grid,
             marks,
-            queues,
+            order,
+            passed: 0,
         })
     }
 
@@ -66,10 +69,8 @@ impl Units {
     {
         let place = MAX_USES as usize * unit.conn.0 as usize + unit.group.0 as usize;
         if unit.group.0 < MAX_USES && place < self.grid.len() {
-            let keys = self.grid[place];
             self.marks[place] = false;
-            self.queues[keys.from.0 as usize].remove(unit);
-            self.queues[keys.to.0 as usize].remove(unit);
+            self.passed = passed(&self.order, &self.marks, self.passed);
         }
     }
 
@@ -77,7 +78,10 @@ impl Units {
     fn first(&self, seats: &Seats) -> Option<UnitKeys>
         ensures { result ≡ first_by (turn_order seats.now.places) self.now.waiting }
     {
-        first_in_turn(&self.queues, seats)
+        match first_seated(&self.order, &self.marks, self.passed, seats) {
+            Some(keys) => Some(keys),
+            None => first_waiting(&self.order, &self.marks, self.passed),
+        }
     }
 }
 

@@ -22,11 +22,9 @@ fn push_starts(out: &mut Vec<u8>, set: &SlotSet) -> Result<(), NoMemory>
     ensures { OnOk result (out.new.items ≡ out.old.items ++ numbers_word set.now.slots) }
 {
     let mut first = true;
-    for slot in 0..set.size() {
-        if set.has(slot) {
-            push_item(out, first, slot)?;
-            first = false;
-        }
+    for slot in set.iter() {
+        push_item(out, first, slot)?;
+        first = false;
     }
     Ok(())
 }

@@ -6,7 +6,7 @@ use Rattle.aeth_check.proofs.grants.first_stray.Given as goal
 -- The first stray path is among those that are left.
 abbrev pub invariant-loop-grant : goal.invariant-loop-grant
 invariant-loop-grant l =
-    first_line (λ grant. not (fits_path l.chip l.app l.plan.seats grant
+    first_line (λ grant. not (fits_path l.chip l.app l.seating grant
     (slice_get l.app.connections grant.unit.conn.0))) l.line (drop l.grant-index l.grants)
-    ≡ first_line (λ grant. not (fits_path l.chip l.app l.plan.seats grant
+    ≡ first_line (λ grant. not (fits_path l.chip l.app l.seating grant
     (slice_get l.app.connections grant.unit.conn.0))) l.first l.grants

@@ -1,12 +1,11 @@
 use Rattle.std.proofs.Common.{◌≡◌, ◌++◌, map}
 use Rattle.std.specs.Prelude.{decimal}
 use Rattle.aeth_text.specs.Spelling.{numbers_word}
-use Rattle.aeth_plan.proofs.PrintLaws.{left_from}
 use Rattle.aeth_text.proofs.PrintLaws.{joined_on}
 use Rattle.aeth_plan.proofs.printing.push_starts.Given as goal
 
--- The starts from this slot on are still to be printed.
+-- The starts that are left are still to be printed.
 abbrev pub invariant-loop-slot : goal.invariant-loop-slot
 invariant-loop-slot l =
-    l.out.items ++ joined_on l.first (map decimal (left_from l.slot l.set.slots))
+    l.out.items ++ joined_on l.first (map decimal l.slot-iterator)
     ≡ l.fn.out.items ++ numbers_word l.set.slots

@@ -1,0 +1,63 @@
+// The network interfaces of cores, from a table.
+ghost use Rattle.aeth_check.specs.Seats.{AreSeatedAt, ni_of};
+ghost use Rattle.std.specs.Prelude.{◌≡◌, IfOk};
+
+use crate::seats::ni_of;
+use aeth_base::{CoreId, NiId, NoMemory};
+use aeth_group::SeatLine;
+use std::alloc::Global;
+use std::marker::Model;
+
+/// The seats of a plan, with a table of the network interfaces of cores. Seen as the seats, on which
+/// alone the table rests.
+#[derive(Drop)]
+pub(crate) struct Seating {
+    seats: Vec<SeatLine>,
+    nis: Vec<Option<NiId>>,
+}
+
+impl Model for Seating {
+    ghost use Rattle.std.specs.Prelude.{List, length};
+    ghost use Rattle.aeth_group.specs.declared.grant.SeatLine.{SeatLine};
+    ghost use Rattle.aeth_check.specs.Seats.{AreSeatedAt};
+
+    ghost Value = { List SeatLine };
+
+    ghost view = { λ seating. seating.seats.items };
+
+    ghost invariant = { λ seating.
+        AreSeatedAt seating.seats.items (length seating.nis.items) seating.nis.items };
+}
+
+impl Seating {
+    /// The seats, with a table for so many cores. `Err` where there was no memory.
+    pub fn of(alloc: Global, seats: &[SeatLine], cores: u32) -> Result<Seating, NoMemory>
+        ensures { IfOk result (λ seating. seating ≡ seats.now) }
+    {
+        let nis = nis_of(alloc, seats, cores)?;
+        let mut kept = Vec::new(alloc);
+        kept.extend_from_slice(seats)?;
+        Ok(Seating { seats: kept, nis })
+    }
+
+    /// The network interface of a core's seat; `None` where the core isn't seated.
+    pub fn ni_of(&self, core: CoreId) -> Option<NiId>
+        ensures { result ≡ ni_of self.now core }
+    {
+        match self.nis.get(core.0 as usize) {
+            Some(ni) => *ni,
+            None => ni_of(&self.seats, core),
+        }
+    }
+}
+
+// The network interfaces of the seats of so many cores, by their numbers.
+fn nis_of(alloc: Global, seats: &[SeatLine], cores: u32) -> Result<Vec<Option<NiId>>, NoMemory>
+    ensures { IfOk result (λ nis. AreSeatedAt seats.now cores nis.items) }
+{
+    let mut nis = Vec::new(alloc);
+    for core in 0..cores {
+        nis.push(ni_of(seats, CoreId(core)))?;
+    }
+    Ok(nis)
+}
