@@ -24,3 +24,7 @@ mod LackLemmas
 pub mod PlanLemmas
 pub mod PlanOfLemmas
 pub mod OutcomeLemmas
+mod TrialLists
+mod TryLemmas
+mod KeptTryLemmas
+pub mod TrialLemmas

@@ -16,7 +16,7 @@ use Rattle.aeth_paths.specs.Candidates.{IsAllowed}
 use Rattle.aeth_alloc.specs.Channels.{with_seat, with_seat_by}
 
 -- An interface of a list of those that pass a test is one of the chip, and passes.
-interface-passes : (nis : ℕ) (test : ℕ → Bool) (ni : NiId) → Contains (interfaces nis test) ni
+pub interface-passes : (nis : ℕ) (test : ℕ → Bool) (ni : NiId) → Contains (interfaces nis test) ni
     → (ni.0 < nis) × (test ni.0 ≡ true)
 interface-passes nis test ni has =
     let (n, same, among) = map-Contains (λ n. record { 0 = n }) (filter test (range_with_len 0 nis))

@@ -79,7 +79,8 @@ kept-back : (before : Reserved) (back : Option Reserved) (side : Side)
 kept-back before None side refused = refl
 kept-back before (Some both) side refused = absurd (none-some side refused)
 
-kept-fwd : (design : Design) (before : Reserved) (unit : GroupUnit) (fwd : Option Reserved)
+-- What comes of a unit that is refused leaves what was reserved.
+pub kept-fwd : (design : Design) (before : Reserved) (unit : GroupUnit) (fwd : Option Reserved)
     (side : Side) → (after_fwd design before unit fwd).refused ≡ Some side
     → (after_fwd design before unit fwd).reserved ≡ before
 kept-fwd design before unit None side refused = refl
@@ -175,7 +176,7 @@ module _ (design : Design) (chip : IsChip design.chip) (app : IsApp design.app)
       ]
 
   -- Each refusal after some turns is right.
-  refused-turns : (turns : ℕ) → turns ≤ length (units_of groups) → (refused : Refused)
+  pub refused-turns : (turns : ℕ) → turns ≤ length (units_of groups) → (refused : Refused)
       → Contains (state turns).refused refused → IsRefused design groups refused
   unfolding after_turns after_turn
   refused-turns zero few refused has = Contains-nil has

@@ -5,3 +5,5 @@ pub mod Turns
 pub mod Holds
 pub mod Allocation
 pub mod Refusals
+pub mod Trials
+pub mod Tries

@@ -64,7 +64,7 @@ impl Model for Reserved {
 }
 
 // The core that sends on a side of a connection.
-fn sender(connection: &Connection, side: Side) -> CoreId
+pub(crate) fn sender(connection: &Connection, side: Side) -> CoreId
     ensures { result ≡ sender connection.now side }
 {
     match side {
@@ -74,7 +74,7 @@ fn sender(connection: &Connection, side: Side) -> CoreId
 }
 
 // The core that receives on a side of a connection.
-fn receiver(connection: &Connection, side: Side) -> CoreId
+pub(crate) fn receiver(connection: &Connection, side: Side) -> CoreId
     ensures { result ≡ receiver connection.now side }
 {
     match side {
@@ -84,7 +84,7 @@ fn receiver(connection: &Connection, side: Side) -> CoreId
 }
 
 // What a channel asks of a path.
-fn request_of(app: &App, connection: &Connection, unit: Unit, side: Side) -> Request
+pub(crate) fn request_of(app: &App, connection: &Connection, unit: Unit, side: Side) -> Request
     requires { slice_get app.now.connections unit.conn.0 ≡ Some connection.now }
     ensures { result ≡ request_of app.now connection.now unit side }
 {
@@ -148,7 +148,7 @@ impl Reserved {
     }
 
     // The first candidate for a channel.
-    fn first_for<F: Fn(u32, u32) -> u32>(
+    pub fn first_for<F: Fn(u32, u32) -> u32>(
         &self,
         alloc: Global,
         design: &Design<F>,

@@ -1,5 +1,5 @@
 //! What holds of an allocation, over the definitions alone.
-ghost use Rattle.std.specs.Prelude.{◌≡◌, ◌≢◌, ℕ, [], Contains, List, None, Some};
+ghost use Rattle.std.specs.Prelude.{◌≡◌, ◌≢◌, ℕ, [], All, Contains, List, None, Some, map};
 ghost use Rattle.aeth_app.specs.App.{AppData, IsApp, IsAppOf};
 ghost use Rattle.aeth_base.specs.declared.ids.NiId.{NiId};
 ghost use Rattle.aeth_book.specs.Book.{BookData, IsBook};
@@ -8,6 +8,7 @@ ghost use Rattle.aeth_chip.specs.Chip.{ChipData, IsChip};
 ghost use Rattle.aeth_group.specs.Members.{GroupsData, groups_of};
 ghost use Rattle.aeth_group.specs.declared.grant.Grant.{Grant};
 ghost use Rattle.aeth_paths.specs.Candidates.{IsCandidate, IsFirst};
+ghost use Rattle.aeth_paths.specs.Trials.{IsTrialOf, TrialData, book_of};
 ghost use Rattle.aeth_paths.specs.declared.request.Found.{Found};
 ghost use Rattle.aeth_paths.specs.declared.request.Request.{Request};
 ghost use Rattle.aeth_plan.specs.Plan.{IsPlanOf};
@@ -15,6 +16,7 @@ ghost use Rattle.aeth_alloc.specs.Allocation.{allocation, last_state};
 ghost use Rattle.aeth_alloc.specs.Channels.{Design};
 ghost use Rattle.aeth_alloc.specs.FirstCandidate.{first_candidate};
 ghost use Rattle.aeth_alloc.specs.Refusals.{IsRefused, LacksOnlyRefused, RefusesExactly};
+ghost use Rattle.aeth_alloc.specs.Trials.{refused_of, trials_of};
 ghost use Rattle.aeth_alloc.specs.declared.outcome.Refused.{Refused};
 
 /// The first candidate as a function is the first candidate as a fact, and there is none exactly
@@ -68,4 +70,21 @@ pub fn plans()
         → IsApp app → IsAppOf chip app
         → (allocation chip app (groups_of app) prices).refused ≡ []
         → IsAccepted chip app (groups_of app) (allocation chip app (groups_of app) prices).plan }
+{}
+
+/// The trials of an allocation tell of its refusals, one by one. Each is one on the chip, and nothing
+/// is a candidate for it.
+pub fn trials()
+    ensures refused { (design : Design) → IsChip design.chip → IsApp design.app
+        → IsAppOf design.chip design.app
+        → map refused_of (trials_of design.chip design.app (groups_of design.app) design.prices)
+        ≡ (last_state design (groups_of design.app)).refused }
+    ensures fit { (design : Design) → IsChip design.chip → IsApp design.app
+        → IsAppOf design.chip design.app → All (IsTrialOf design.chip)
+        (trials_of design.chip design.app (groups_of design.app) design.prices) }
+    ensures none { (design : Design) → IsChip design.chip → IsApp design.app
+        → IsAppOf design.chip design.app → (trial : TrialData)
+        → Contains (trials_of design.chip design.app (groups_of design.app) design.prices) trial
+        → (found : Found) → IsCandidate (book_of design.chip (groups_of design.app) trial)
+        trial.ask trial.from trial.to trial.crowded found → ⊥ }
 {}

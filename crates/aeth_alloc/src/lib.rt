@@ -5,7 +5,9 @@ mod allocation;
 mod channels;
 pub mod laws;
 mod outcome;
+mod tries;
 mod turns;
 
 pub use allocation::{allocate, allocate_with};
 pub use outcome::{Outcome, Refused};
+pub use tries::{Tries, trials};

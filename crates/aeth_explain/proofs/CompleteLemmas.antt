@@ -1,6 +1,9 @@
--- Without a candidate the shortest cuts are complete: each path that the try may take begins with one.
-use Rattle.std.proofs.Common.{◌≡◌, ◌∙◌, ◌+◌, ◌-◌, ◌<◌, ◌≤◌, ◌++◌, ◌&&◌, ◌⊎◌, ℕ, zero, suc, Bool, true, false, not}
-use Rattle.std.proofs.Common.{List, [], ◌∷◌, length, map, filter, take, Contains, refl, sym, ap, subst, arith, inl, inr}
+-- Without a candidate the shortest cuts are complete: each path that the try may take begins with
+-- one.
+use Rattle.std.proofs.Common.{◌≡◌, ◌∙◌, ◌+◌, ◌-◌, ◌<◌, ◌≤◌, ◌++◌, ◌&&◌, ◌⊎◌, ℕ, zero, suc, Bool}
+use Rattle.std.proofs.Common.{true, false, not}
+use Rattle.std.proofs.Common.{List, [], ◌∷◌, length, map, filter, take, Contains, refl, sym, ap}
+use Rattle.std.proofs.Common.{subst, arith, inl, inr}
 use Rattle.std.proofs.Common.{eqb}
 use Rattle.std.specs.List.{list_any, range_with_len}
 use Rattle.std.proofs.lemmas.Bool.{and_from, both_ways, cases_lt, eq-eqb, false_from_ne_true}
@@ -22,7 +25,8 @@ use Rattle.aeth_chip.specs.declared.node.Node.TheVariants.{Router, Ni}
 use Rattle.aeth_group.specs.Members.{GroupsData}
 use Rattle.aeth_paths.specs.Task.{links_from}
 use Rattle.aeth_paths.specs.Trials.{TrialData}
-use Rattle.aeth_explain.specs.TryPaths.{MayTake, is_dead, leaves_one, leaving_lists, may_take, onward_lists}
+use Rattle.aeth_explain.specs.TryPaths.{MayTake, is_dead, leaves_one, leaving_lists, may_take}
+use Rattle.aeth_explain.specs.TryPaths.{onward_lists}
 use Rattle.aeth_explain.specs.Certificate.{cuts_of, is_first_cut, shorter_fronts}
 use Rattle.aeth_explain.specs.Cuts.{IsComplete, begins_with}
 use Rattle.aeth_explain.proofs.ListLemmas.{GoesOn, behind_link, onward-has}
@@ -79,7 +83,8 @@ take-take : {X : Type 0} (k m : ℕ) (xs : List X) → k ≤ m → take k (take 
 take-take zero m xs few = refl
 take-take (suc k) zero xs few = absurd (omega (arith, few))
 take-take (suc k) (suc m) [] few = refl
-take-take (suc k) (suc m) (x ∷ xs) few = ap (λ rest. x ∷ rest) (take-take k m xs (omega (arith, few)))
+take-take (suc k) (suc m) (x ∷ xs) few =
+    ap (λ rest. x ∷ rest) (take-take k m xs (omega (arith, few)))
 
 length-front : {X : Type 0} (n : ℕ) (xs : List X) → n ≤ length xs → length (take n xs) ≡ n
 length-front zero xs few = refl
@@ -101,138 +106,157 @@ module _ (chip : ChipData) (groups : GroupsData) (trial : TrialData)
     → Contains (links_from chip.links node) link)
     (known : (link : LinkId) (node : Node) → BeginsAt chip.links link node
     → Contains (link_ids chip.links) link)
-    (decides : (path : List LinkId) → MayTake chip trial path → may_take chip trial path ≡ true) where
-  head-is : (a b : Node) (xs ys : List Node) → a ∷ xs ≡ b ∷ ys → a ≡ b
-  head-is a b xs ys same =
-      let first : List Node → Node = elim [ [] ↦ a | (x ∷ rest) ↦ x ] in
-      ap first same
+    (decides : (path : List LinkId) → MayTake chip trial path → may_take chip trial path ≡ true)
+  where
+    head-is : (a b : Node) (xs ys : List Node) → a ∷ xs ≡ b ∷ ys → a ≡ b
+    head-is a b xs ys same =
+        let first : List Node → Node = elim [ [] ↦ a | (x ∷ rest) ↦ x ] in
+        ap first same
 
-  rest-is : (a b : Node) (xs ys : List Node) → a ∷ xs ≡ b ∷ ys → xs ≡ ys
-  rest-is a b xs ys same =
-      let rest_of : List Node → List Node = elim [ [] ↦ xs | (x ∷ rest) ↦ rest ] in
-      ap rest_of same
+    rest-is : (a b : Node) (xs ys : List Node) → a ∷ xs ≡ b ∷ ys → xs ≡ ys
+    rest-is a b xs ys same =
+        let rest_of : List Node → List Node = elim [ [] ↦ xs | (x ∷ rest) ↦ rest ] in
+        ap rest_of same
 
-  -- What is joined and ends at routers and then at a node goes on through routers.
-  joined-goes : (routers : List RouterId) (r : RouterId) (b : Node) (path : List LinkId)
-      → IsJoined (BeginsAt chip.links) (to_of chip.links) (Router r) path
-      → ends_of chip.links path ≡ map (λ q. Router q) routers ++ b ∷ []
-      → GoesOn chip.links (Router r) path
-  joined-goes routers r b [] joined ends = tt
-  joined-goes [] r b (link ∷ []) joined ends = (leaves link (Router r) b joined.0, tt)
-  joined-goes [] r b (link ∷ other ∷ path) joined ends =
-      absurd (cc (rest-is (to_of chip.links link) b (ends_of chip.links (other ∷ path)) [] ends))
-  joined-goes (q ∷ routers) r b (link ∷ path) joined ends =
-      let at : to_of chip.links link ≡ Router q =
-      head-is (to_of chip.links link) (Router q) (ends_of chip.links path)
-      (map (λ q. Router q) routers ++ b ∷ []) ends in
-      let later = rest-is (to_of chip.links link) (Router q) (ends_of chip.links path)
-      (map (λ q. Router q) routers ++ b ∷ []) ends in (
-        leaves link (Router r) b joined.0,
-        subst (λ (n : Node). GoesOn chip.links n path) (sym at)
-            (joined-goes routers q b path
-            (subst (λ (n : Node). IsJoined (BeginsAt chip.links) (to_of chip.links) n path) at joined.1) later),
-      )
-
-  -- A list with one link that leaves a sender, and what goes on from it, is among those that leave senders.
-  leaving-has : (a : NiId) (link : LinkId) (rest : List LinkId) → Contains trial.from a
-      → BeginsAt chip.links link (Ni a) → length rest ≤ max_path_links - 1
-      → GoesOn chip.links (to_of chip.links link) rest
-      → Contains (leaving_lists chip trial.from) (link ∷ rest)
-  unfolding leaving_lists
-  leaving-has a link rest sender begins few goes =
-      let one : list_any (λ (other : LinkId). eqb other.0 link.0) (links_from chip.links (Ni a)) ≡ true =
-      any_from_passes (λ (other : LinkId). eqb other.0 link.0) (links_from chip.links (Ni a)) link
-      (leaves link (Ni a) (Ni a) begins) (eq-eqb link.0 link.0 refl) in
-      Contains-flat_map (behind_link chip.links (max_path_links - 1))
-      (filter (leaves_one chip.links trial.from) (link_ids chip.links)) link (link ∷ rest)
-      (Contains-filter (leaves_one chip.links trial.from) (link_ids chip.links) link
-      (known link (Ni a) begins)
-      (any_from_passes (λ (ni : NiId). list_any (λ (other : LinkId). eqb other.0 link.0)
-      (links_from chip.links (Ni ni))) trial.from a sender one))
-      (Contains-map (λ rest. link ∷ rest)
-      (onward_lists chip.links (max_path_links - 1) (to_of chip.links link)) rest
-      (onward-has chip.links (max_path_links - 1) (to_of chip.links link) rest few goes))
-
-  some-by : (b : NiId) (path : List LinkId) (routers : List RouterId)
-      → ends_of chip.links path ≡ map (λ q. Router q) routers ++ Ni b ∷ [] → 1 ≤ length path
-  some-by b [] [] ends = absurd (cc ends)
-  some-by b [] (q ∷ routers) ends = absurd (cc ends)
-  some-by b (link ∷ path) routers ends = omega arith
-
-  front-by : (a b : NiId) → Contains trial.from a → (path : List LinkId) (routers : List RouterId) (n : ℕ)
-      → 1 ≤ n → n ≤ length path → length path ≤ max_path_links → 1 ≤ length routers
-      → IsJoined (BeginsAt chip.links) (to_of chip.links) (Ni a) path
-      → ends_of chip.links path ≡ map (λ q. Router q) routers ++ Ni b ∷ []
-      → Contains (leaving_lists chip trial.from) (take n path)
-  front-by a b sender path routers zero some few fits more joined ends = absurd (omega (arith, some))
-  front-by a b sender [] routers (suc n) some few fits more joined ends = absurd (omega (arith, few))
-  front-by a b sender (link ∷ path) [] (suc n) some few fits more joined ends = absurd (omega (arith, more))
-  front-by a b sender (link ∷ path) (q ∷ routers) (suc n) some few fits more joined ends =
-      let at : to_of chip.links link ≡ Router q =
-      head-is (to_of chip.links link) (Router q) (ends_of chip.links path)
-      (map (λ q. Router q) routers ++ Ni b ∷ []) ends in
-      let later = rest-is (to_of chip.links link) (Router q) (ends_of chip.links path)
-      (map (λ q. Router q) routers ++ Ni b ∷ []) ends in
-      let goes = joined-goes routers q (Ni b) path
-      (subst (λ (n : Node). IsJoined (BeginsAt chip.links) (to_of chip.links) n path) at joined.1) later in
-      let size = length-front n path (omega (arith, few)) in
-      leaving-has a link (take n path) sender joined.0 (omega (arith, size, few, fits))
-      (subst (λ (n' : Node). GoesOn chip.links n' (take n path)) (sym at)
-      (goes-take chip.links n (Router q) path goes))
-
-  -- Each front that isn't empty of a path that the try may take is among the lists that leave senders.
-  pub front-has : (path : List LinkId) → MayTake chip trial path → (n : ℕ) → 1 ≤ n → n ≤ length path
-      → Contains (leaving_lists chip trial.from) (take n path)
-  front-has path may n some few =
-      front-by may.from may.to may.allowed.sender path may.admissible.is_path.routers n some few
-      may.admissible.fits may.admissible.is_path.some may.admissible.is_path.joins.joined
-      may.admissible.is_path.joins.ends
-
-  pub path-some : (path : List LinkId) → MayTake chip trial path → 1 ≤ length path
-  path-some path may = some-by may.to path may.admissible.is_path.routers may.admissible.is_path.joins.ends
-
-  range-below : (n x : ℕ) → Contains (range_with_len 0 n) x → x < n
-  range-below n x (k, within, at) = subst (λ y. y < n) at (All-range n k x within)
-
-  -- The first dead front of a path that the try may take is a shortest cut.
-  first-is : (path : List LinkId) → MayTake chip trial path → (m : ℕ) → 1 ≤ m → m ≤ length path
-      → is_dead chip groups trial (take m path) ≡ true
-      → ((k : ℕ) → 1 ≤ k → k < m → is_dead chip groups trial (take k path) ≡ false)
-      → is_first_cut chip groups trial (take m path) ≡ true
-  first-is path may m some few dead first =
-      let size = length-front m path few in
-      let none : list_any (is_dead chip groups trial) (shorter_fronts (take m path)) ≡ false =
-      false_from_ne_true (list_any (is_dead chip groups trial) (shorter_fronts (take m path))) (λ any.
-      let found = passes_from_any (is_dead chip groups trial) (shorter_fronts (take m path)) any in
-      let from = map-Contains (λ n. take (n + 1) (take m path))
-      (range_with_len 0 (length (take m path) - 1)) found.item found.is_in in
-      let below = range-below (length (take m path) - 1) from.0 from.2 in
-      let live = first (from.0 + 1) (omega arith) (omega (arith, below, size, some)) in
-      let same = sym (take-take (from.0 + 1) m path (omega (arith, below, size, some))) ∙ from.1 in
-      both_ways (is_dead chip groups trial found.item)
-      (subst (λ (p : List LinkId). is_dead chip groups trial p ≡ false) same live) found.passes) in
-      let all = subst (Contains (leaving_lists chip trial.from)) (take-length path)
-      (front-has path may (length path) (omega (arith, some, few)) (omega arith)) in
-      and_from _ _ (and_from _ _ dead (ap not none))
-      (any_from_passes (λ p. may_take chip trial p && begins_with (take m path) p)
-      (leaving_lists chip trial.from) path all (and_from _ _ (decides path may) (begins-take m path)))
-
-  -- Where each path that the try may take is dead, the shortest cuts are complete.
-  pub cuts-complete : ((path : List LinkId) → MayTake chip trial path → is_dead chip groups trial path ≡ true)
-      → IsComplete chip groups trial (cuts_of chip groups trial)
-  unfolding cuts_of
-  cuts-complete dead path may =
-      let test : ℕ → Bool = λ n. is_dead chip groups trial (take n path) in
-      let whole : test (length path) ≡ true =
-      ap (is_dead chip groups trial) (take-length path) ∙ dead path may in
-      let some : 1 ≤ length path = path-some path may in
-      elim (least_or_none test (length path)) [
-        | inl found ↦ (
-          take found.number path,
-          Contains-filter (is_first_cut chip groups trial) (leaving_lists chip trial.from)
-              (take found.number path) (front-has path may found.number found.some found.within)
-              (first-is path may found.number found.some found.within found.passes found.first),
-          begins-take found.number path,
+    -- What is joined and ends at routers and then at a node goes on through routers.
+    joined-goes : (routers : List RouterId) (r : RouterId) (b : Node) (path : List LinkId)
+        → IsJoined (BeginsAt chip.links) (to_of chip.links) (Router r) path
+        → ends_of chip.links path ≡ map (λ q. Router q) routers ++ b ∷ []
+        → GoesOn chip.links (Router r) path
+    joined-goes routers r b [] joined ends = tt
+    joined-goes [] r b (link ∷ []) joined ends = (leaves link (Router r) b joined.0, tt)
+    joined-goes [] r b (link ∷ other ∷ path) joined ends =
+        absurd (cc (rest-is (to_of chip.links link) b (ends_of chip.links (other ∷ path)) [] ends))
+    joined-goes (q ∷ routers) r b (link ∷ path) joined ends =
+        let at : to_of chip.links link ≡ Router q =
+        head-is (to_of chip.links link) (Router q) (ends_of chip.links path)
+        (map (λ q. Router q) routers ++ b ∷ []) ends in
+        let later = rest-is (to_of chip.links link) (Router q) (ends_of chip.links path)
+        (map (λ q. Router q) routers ++ b ∷ []) ends in (
+          leaves link (Router r) b joined.0,
+          subst (λ (n : Node). GoesOn chip.links n path) (sym at)
+              (joined-goes routers q b path
+              (subst (λ (n : Node). IsJoined (BeginsAt chip.links) (to_of chip.links) n path) at
+              joined.1) later),
         )
-        | inr none ↦ absurd (both_ways (test (length path)) (none (length path) some (omega arith)) whole)
-      ]
+
+    -- A list with one link that leaves a sender, and what goes on from it, is among those that
+    -- leave
+    -- senders.
+    leaving-has : (a : NiId) (link : LinkId) (rest : List LinkId) → Contains trial.from a
+        → BeginsAt chip.links link (Ni a) → length rest ≤ max_path_links - 1
+        → GoesOn chip.links (to_of chip.links link) rest
+        → Contains (leaving_lists chip trial.from) (link ∷ rest)
+    unfolding leaving_lists
+    leaving-has a link rest sender begins few goes =
+        let one : list_any (λ (other : LinkId). eqb other.0 link.0) (links_from chip.links (Ni a))
+        ≡ true =
+        any_from_passes (λ (other : LinkId). eqb other.0 link.0) (links_from chip.links (Ni a)) link
+        (leaves link (Ni a) (Ni a) begins) (eq-eqb link.0 link.0 refl) in
+        Contains-flat_map (behind_link chip.links (max_path_links - 1))
+        (filter (leaves_one chip.links trial.from) (link_ids chip.links)) link (link ∷ rest)
+        (Contains-filter (leaves_one chip.links trial.from) (link_ids chip.links) link
+        (known link (Ni a) begins)
+        (any_from_passes (λ (ni : NiId). list_any (λ (other : LinkId). eqb other.0 link.0)
+        (links_from chip.links (Ni ni))) trial.from a sender one))
+        (Contains-map (λ rest. link ∷ rest)
+        (onward_lists chip.links (max_path_links - 1) (to_of chip.links link)) rest
+        (onward-has chip.links (max_path_links - 1) (to_of chip.links link) rest few goes))
+
+    some-by : (b : NiId) (path : List LinkId) (routers : List RouterId)
+        → ends_of chip.links path ≡ map (λ q. Router q) routers ++ Ni b ∷ [] → 1 ≤ length path
+    some-by b [] [] ends = absurd (cc ends)
+    some-by b [] (q ∷ routers) ends = absurd (cc ends)
+    some-by b (link ∷ path) routers ends = omega arith
+
+    front-by : (a b : NiId) → Contains trial.from a → (path : List LinkId) (routers : List RouterId)
+        (n : ℕ) → 1 ≤ n → n ≤ length path → length path ≤ max_path_links → 1 ≤ length routers
+        → IsJoined (BeginsAt chip.links) (to_of chip.links) (Ni a) path
+        → ends_of chip.links path ≡ map (λ q. Router q) routers ++ Ni b ∷ []
+        → Contains (leaving_lists chip trial.from) (take n path)
+    front-by a b sender path routers zero some few fits more joined ends =
+        absurd (omega (arith, some))
+    front-by a b sender [] routers (suc n) some few fits more joined ends =
+        absurd (omega (arith, few))
+    front-by a b sender (link ∷ path) [] (suc n) some few fits more joined ends =
+        absurd (omega (arith, more))
+    front-by a b sender (link ∷ path) (q ∷ routers) (suc n) some few fits more joined ends =
+        let at : to_of chip.links link ≡ Router q =
+        head-is (to_of chip.links link) (Router q) (ends_of chip.links path)
+        (map (λ q. Router q) routers ++ Ni b ∷ []) ends in
+        let later = rest-is (to_of chip.links link) (Router q) (ends_of chip.links path)
+        (map (λ q. Router q) routers ++ Ni b ∷ []) ends in
+        let goes = joined-goes routers q (Ni b) path
+        (subst (λ (n : Node). IsJoined (BeginsAt chip.links) (to_of chip.links) n path) at joined.1)
+        later in
+        let size = length-front n path (omega (arith, few)) in
+        leaving-has a link (take n path) sender joined.0 (omega (arith, size, few, fits))
+        (subst (λ (n' : Node). GoesOn chip.links n' (take n path)) (sym at)
+        (goes-take chip.links n (Router q) path goes))
+
+    -- Each front that isn't empty of a path that the try may take is among the lists that leave
+    -- senders.
+    pub front-has : (path : List LinkId) → MayTake chip trial path → (n : ℕ) → 1 ≤ n
+        → n ≤ length path
+        → Contains (leaving_lists chip trial.from) (take n path)
+    front-has path may n some few =
+        front-by may.from may.to may.allowed.sender path may.admissible.is_path.routers n some few
+        may.admissible.fits may.admissible.is_path.some may.admissible.is_path.joins.joined
+        may.admissible.is_path.joins.ends
+
+    pub path-some : (path : List LinkId) → MayTake chip trial path → 1 ≤ length path
+    path-some path may =
+        some-by may.to path may.admissible.is_path.routers may.admissible.is_path.joins.ends
+
+    range-below : (n x : ℕ) → Contains (range_with_len 0 n) x → x < n
+    range-below n x (k, within, at) = subst (λ y. y < n) at (All-range n k x within)
+
+    -- The first dead front of a path that the try may take is a shortest cut.
+    first-is : (path : List LinkId) → MayTake chip trial path → (m : ℕ) → 1 ≤ m → m ≤ length path
+        → is_dead chip groups trial (take m path) ≡ true
+        → ((k : ℕ) → 1 ≤ k → k < m → is_dead chip groups trial (take k path) ≡ false)
+        → is_first_cut chip groups trial (take m path) ≡ true
+    first-is path may m some few dead first =
+        let size = length-front m path few in
+        let none : list_any (is_dead chip groups trial) (shorter_fronts (take m path)) ≡ false =
+        false_from_ne_true (list_any (is_dead chip groups trial) (shorter_fronts (take m path)))
+        (λ any.
+        let found = passes_from_any (is_dead chip groups trial) (shorter_fronts (take m path))
+        any in
+        let from = map-Contains (λ n. take (n + 1) (take m path))
+        (range_with_len 0 (length (take m path) - 1)) found.item found.is_in in
+        let below = range-below (length (take m path) - 1) from.0 from.2 in
+        let live = first (from.0 + 1) (omega arith) (omega (arith, below, size, some)) in
+        let same = sym (take-take (from.0 + 1) m path (omega (arith, below, size, some)))
+        ∙ from.1 in
+        both_ways (is_dead chip groups trial found.item)
+        (subst (λ (p : List LinkId). is_dead chip groups trial p ≡ false) same live)
+        found.passes) in
+        let all = subst (Contains (leaving_lists chip trial.from)) (take-length path)
+        (front-has path may (length path) (omega (arith, some, few)) (omega arith)) in
+        and_from _ _ (and_from _ _ dead (ap not none))
+        (any_from_passes (λ p. may_take chip trial p && begins_with (take m path) p)
+        (leaving_lists chip trial.from) path all (and_from _ _ (decides path may) (begins-take m
+        path)))
+
+    -- Where each path that the try may take is dead, the shortest cuts are complete.
+    pub cuts-complete : ((path : List LinkId) → MayTake chip trial path
+        → is_dead chip groups trial path ≡ true)
+        → IsComplete chip groups trial (cuts_of chip groups trial)
+    unfolding cuts_of
+    cuts-complete dead path may =
+        let test : ℕ → Bool = λ n. is_dead chip groups trial (take n path) in
+        let whole : test (length path) ≡ true =
+        ap (is_dead chip groups trial) (take-length path) ∙ dead path may in
+        let some : 1 ≤ length path = path-some path may in
+        elim (least_or_none test (length path)) [
+          | inl found ↦ (
+            take found.number path,
+            Contains-filter (is_first_cut chip groups trial) (leaving_lists chip trial.from)
+                (take found.number path) (front-has path may found.number found.some found.within)
+                (first-is path may found.number found.some found.within found.passes found.first),
+            begins-take found.number path,
+          )
+          | inr none ↦ absurd (both_ways (test (length path)) (none (length path) some (omega
+              arith)) whole)
+        ]

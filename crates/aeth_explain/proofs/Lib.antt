@@ -6,3 +6,12 @@ pub mod RefusalLemmas
 mod PositionLemmas
 pub mod VerdictLemmas
 mod MaskLemmas
+mod SenderLemmas
+mod FirstLemmas
+mod FrontLemmas
+mod OpenLemmas
+mod OverLemmas
+mod WalkLemmas
+mod BelowLemmas
+pub mod ReadLemmas
+mod StepLemmas

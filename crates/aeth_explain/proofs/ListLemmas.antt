@@ -1,6 +1,9 @@
--- Lists of links in the order of a dictionary: what is in them, the lists below a list, and what of them are shortest cuts.
-use Rattle.std.proofs.Common.{◌≡◌, ◌∙◌, ◌+◌, ◌-◌, ◌<◌, ◌≤◌, ◌++◌, ◌&&◌, ℕ, zero, suc, Bool, true, false, not}
-use Rattle.std.proofs.Common.{List, [], ◌∷◌, length, map, take, Contains, refl, sym, ap, subst, arith}
+-- Lists of links in the order of a dictionary: what is in them, the lists below a list, and what
+-- of them are shortest cuts.
+use Rattle.std.proofs.Common.{◌≡◌, ◌∙◌, ◌+◌, ◌-◌, ◌<◌, ◌≤◌, ◌++◌, ◌&&◌, ℕ, zero, suc, Bool, true}
+use Rattle.std.proofs.Common.{false, not}
+use Rattle.std.proofs.Common.{List, [], ◌∷◌, length, map, take, Contains, refl, sym, ap, subst}
+use Rattle.std.proofs.Common.{arith}
 use Rattle.std.proofs.Common.{append_assoc, length-append}
 use Rattle.std.specs.List.{flat_map, range_with_len}
 use Rattle.std.proofs.Math.Seq.{take-append_seam}
@@ -33,8 +36,8 @@ abbrev pub behind_link : List Link → ℕ → LinkId → List (List LinkId)
 behind_link links most link = map (λ rest. link ∷ rest) (onward_lists links most (to_of links link))
 
 -- Such links are among the lists that go on from the node.
-pub onward-has : (links : List Link) (most : ℕ) (node : Node) (rest : List LinkId) → length rest ≤ most
-    → GoesOn links node rest → Contains (onward_lists links most node) rest
+pub onward-has : (links : List Link) (most : ℕ) (node : Node) (rest : List LinkId)
+    → length rest ≤ most → GoesOn links node rest → Contains (onward_lists links most node) rest
 unfolding onward_lists
 onward-has links zero node [] few goes = Contains-here [] []
 onward-has links (suc most) (Ni ni) [] few goes = Contains-here [] []
@@ -43,8 +46,10 @@ onward-has links (suc most) (Router router) [] few goes =
 onward-has links zero node (link ∷ rest) few goes = absurd (omega (arith, few))
 onward-has links (suc most) (Ni ni) (link ∷ rest) few goes = absurd goes
 onward-has links (suc most) (Router router) (link ∷ rest) few goes =
-    Contains-there [] (flat_map (behind_link links most) (links_from links (Router router))) (link ∷ rest)
-    (Contains-flat_map (behind_link links most) (links_from links (Router router)) link (link ∷ rest) goes.0
+    Contains-there [] (flat_map (behind_link links most) (links_from links (Router router)))
+    (link ∷ rest)
+    (Contains-flat_map (behind_link links most) (links_from links (Router router)) link
+    (link ∷ rest) goes.0
     (Contains-map (λ rest. link ∷ rest) (onward_lists links most (to_of links link)) rest
     (onward-has links most (to_of links link) rest (omega (arith, few)) goes.1)))
 
@@ -66,27 +71,32 @@ map-append f (x ∷ xs) ys = ap (λ rest. f x ∷ rest) (map-append f xs ys)
 
 over_links : (links : List Link) (most : ℕ) (path : List LinkId) (out : List LinkId)
     → map (λ rest. path ++ rest) (flat_map (behind_link links most) out)
-    ≡ flat_map (λ link. map (λ rest. (path ++ link ∷ []) ++ rest) (onward_lists links most (to_of links link))) out
+    ≡ flat_map (λ link. map (λ rest. (path ++ link ∷ []) ++ rest)
+    (onward_lists links most (to_of links link))) out
 over_links links most path [] = refl
 over_links links most path (link ∷ out) =
     ap (map (λ rest. path ++ rest)) (flat_map-cons (behind_link links most) link out)
-    ∙ map-append (λ rest. path ++ rest) (behind_link links most link) (flat_map (behind_link links most) out)
+    ∙ map-append (λ rest. path ++ rest) (behind_link links most link)
+    (flat_map (behind_link links most) out)
     ∙ ap (λ front. front ++ map (λ rest. path ++ rest) (flat_map (behind_link links most) out))
     (over_link path link (onward_lists links most (to_of links link)))
-    ∙ ap (λ back. map (λ rest. (path ++ link ∷ []) ++ rest) (onward_lists links most (to_of links link)) ++ back)
+    ∙ ap (λ back. map (λ rest. (path ++ link ∷ []) ++ rest)
+    (onward_lists links most (to_of links link)) ++ back)
     (over_links links most path out)
     ∙ sym (flat_map-cons (λ link. map (λ rest. (path ++ link ∷ []) ++ rest)
     (onward_lists links most (to_of links link))) link out)
 
 -- The lists below a list that ends at a router: itself, and those below it with each outgoing link.
 pub lists-step : (links : List Link) (most : ℕ) (node : Node) (path : List LinkId)
-    (out : List LinkId) → onward_lists links (suc most) node ≡ [] ∷ flat_map (behind_link links most) out
+    (out : List LinkId)
+    → onward_lists links (suc most) node ≡ [] ∷ flat_map (behind_link links most) out
     → map (λ rest. path ++ rest) (onward_lists links (suc most) node)
     ≡ path ∷ flat_map (λ link. map (λ rest. (path ++ link ∷ []) ++ rest)
     (onward_lists links most (to_of links link))) out
 lists-step links most node path out is =
     ap (map (λ rest. path ++ rest)) is
-    ∙ ap (λ first. first ∷ map (λ rest. path ++ rest) (flat_map (behind_link links most) out)) (append-nil path)
+    ∙ ap (λ first. first ∷ map (λ rest. path ++ rest) (flat_map (behind_link links most) out))
+    (append-nil path)
     ∙ ap (λ others. path ∷ others) (over_links links most path out)
 
 -- ---- what is put down below a dead list
@@ -98,19 +108,23 @@ front-among path rest some more =
     let sum = length-append path rest in
     let at : length path - 1 < 0 + (length (path ++ rest) - 1) = omega (arith, sum, some, more) in
     let same : (length path - 1) + 1 ≡ length path = omega (arith, some) in
-    let has = Contains-map (λ n. take (n + 1) (path ++ rest)) (range_with_len 0 (length (path ++ rest) - 1))
-    (length path - 1) (Contains-range 0 (length (path ++ rest) - 1) (length path - 1) (omega arith) at) in
+    let has = Contains-map (λ n. take (n + 1) (path ++ rest))
+    (range_with_len 0 (length (path ++ rest) - 1))
+    (length path - 1) (Contains-range 0 (length (path ++ rest) - 1) (length path - 1)
+    (omega arith) at) in
     subst (Contains (shorter_fronts (path ++ rest)))
     (ap (λ n. take n (path ++ rest)) same ∙ take-append_seam path rest) has
 
 module _ (chip : ChipData) (groups : GroupsData) (trial : TrialData) where
   -- No list that goes on from a dead one is a shortest cut.
   pub dead-passed : (path rest : List LinkId) → 1 ≤ length path → 1 ≤ length rest
-      → is_dead chip groups trial path ≡ true → is_first_cut chip groups trial (path ++ rest) ≡ false
+      → is_dead chip groups trial path ≡ true
+      → is_first_cut chip groups trial (path ++ rest) ≡ false
   dead-passed path rest some more dead =
       let found = any_from_passes (is_dead chip groups trial) (shorter_fronts (path ++ rest)) path
       (front-among path rest some more) dead in
       let go : (whole goes : Bool) → ((whole && false) && goes) ≡ false =
       elim [ true ↦ λ goes. refl | false ↦ λ goes. refl ]
-      in ap (λ b. (is_dead chip groups trial (path ++ rest) && not b) && goes_on chip groups trial (path ++ rest)) found
+      in ap (λ b. (is_dead chip groups trial (path ++ rest) && not b) && goes_on chip groups trial
+      (path ++ rest)) found
       ∙ go (is_dead chip groups trial (path ++ rest)) (goes_on chip groups trial (path ++ rest))

@@ -1,5 +1,6 @@
 -- Masks of taken slots: without grants, with one more, and with all.
-use Rattle.std.proofs.Common.{◌≡◌, ◌∙◌, ◌<◌, ◌+◌, ◌*◌, ◌&&◌, ◌||◌, ℕ, zero, suc, Bool, true, false, cond}
+use Rattle.std.proofs.Common.{◌≡◌, ◌∙◌, ◌<◌, ◌+◌, ◌*◌, ◌&&◌, ◌||◌, ℕ, zero, suc, Bool, true}
+use Rattle.std.proofs.Common.{false, cond}
 use Rattle.std.proofs.Common.{List, [], ◌∷◌, All, Some, length, take, eqb, refl, sym, ap, arith}
 use Rattle.std.specs.List.{list_any, range_with_len}
 use Rattle.std.specs.Prelude.{slice_get}
@@ -73,7 +74,8 @@ module _ (links : List Link) (groups : GroupsData) (unit : GroupUnit) where
       → IsTable size (length links) (is_held links groups unit (take i grants)) masks
       → IsTable size (length links) (is_held links groups unit (take (i + 1) grants)) masks
   held-same size grants i grant masks at other table =
-      table-same size (length links) (is_held links groups unit (take i grants)) (is_held links groups unit (take (i + 1) grants)) masks
+      table-same size (length links) (is_held links groups unit (take i grants))
+      (is_held links groups unit (take (i + 1) grants)) masks
       table (λ u l s low within below.
       let hit : Bool = enters grant.slots links 0 grant.path l s in
       let held : Bool = list_any (takes links groups unit l s) (take i grants) in

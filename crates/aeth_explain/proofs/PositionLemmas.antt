@@ -1,5 +1,6 @@
 -- The place of the first element that passes a test.
-use Rattle.std.proofs.Common.{◌≡◌, ◌∙◌, ◌<◌, ℕ, Bool, true, false, List, [], ◌∷◌, None, Some, Contains}
+use Rattle.std.proofs.Common.{◌≡◌, ◌∙◌, ◌<◌, ℕ, Bool, true, false, List, [], ◌∷◌, None, Some}
+use Rattle.std.proofs.Common.{Contains}
 use Rattle.std.proofs.Common.{cond, get_or, length, ltb, refl, sym, ap, arith}
 use Rattle.std.specs.List.{position_or_len}
 use Rattle.std.specs.Prelude.{position, slice_get}

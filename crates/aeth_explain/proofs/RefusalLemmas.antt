@@ -65,7 +65,8 @@ module _ (chip : ChipData) (groups : GroupsData) (trial : TrialData) (is : IsChi
       )
 
   -- The path of a candidate is one that the try may take, and live.
-  candidate-live : (found : Found) → IsCandidate book trial.ask trial.from trial.to trial.crowded found
+  candidate-live : (found : Found)
+      → IsCandidate book trial.ask trial.from trial.to trial.crowded found
       → MayTake chip trial found.path × (is_live book trial.ask found.path ≡ true)
   candidate-live found candidate = (
     record {
@@ -94,10 +95,12 @@ module _ (chip : ChipData) (groups : GroupsData) (trial : TrialData) (is : IsChi
       (path-some chip groups trial leaves (link-known chip.links) decides path may) (omega arith))
 
   -- The test decides whether there is a candidate.
-  pub has_candidate-Decides : Decides (has_candidate chip groups trial) (HasCandidate chip groups trial)
+  pub has_candidate-Decides : Decides (has_candidate chip groups trial)
+      (HasCandidate chip groups trial)
   has_candidate-Decides = (
     (λ told.
-        let found = passes_from_any (λ path. may_take chip trial path && is_live book trial.ask path)
+        let found =
+        passes_from_any (λ path. may_take chip trial path && is_live book trial.ask path)
         (leaving_lists chip trial.from) told in
         let (may, live) = and_parts (may_take chip trial found.item) _ found.passes in
         live-candidate found.item ((may_take-Decides chip trial is found.item).0 may) live),
@@ -117,7 +120,8 @@ module _ (chip : ChipData) (groups : GroupsData) (trial : TrialData) (is : IsChi
       record {
         cuts_are = λ i d low. each-cut chip groups trial (leaving-begins chip.links) _
             (Contains-get_or (cuts_of chip groups trial) i d low);
-        complete = cuts-complete chip groups trial leaves (link-known chip.links) decides (λ path may.
+        complete = cuts-complete chip groups trial leaves (link-known chip.links) decides
+            (λ path may.
             ap not (false_from_ne_true _ (λ live. none (live-candidate path may live))));
       }
 
@@ -132,13 +136,15 @@ module _ (chip : ChipData) (groups : GroupsData) (trial : TrialData) (is : IsChi
       both_ways _ (not-true _ dead) live
 
   certificate-by : (b : Bool) → has_candidate chip groups trial ≡ b
-      → MatchOption (cond b None (Some (cuts_of chip groups trial))) (HasCandidate chip groups trial)
+      → MatchOption (cond b None (Some (cuts_of chip groups trial)))
+      (HasCandidate chip groups trial)
       (IsCertificate chip groups trial)
   certificate-by true told = has_candidate-Decides.0 told
   certificate-by false told =
       certificate-exists (λ some. both_ways _ told (has_candidate-Decides.1 some))
 
   -- The certificate of a try is one; there is none exactly where there is a candidate.
-  pub certificate-is : MatchOption (certificate_of chip groups trial) (HasCandidate chip groups trial)
+  pub certificate-is : MatchOption (certificate_of chip groups trial)
+      (HasCandidate chip groups trial)
       (IsCertificate chip groups trial)
   certificate-is = certificate-by (has_candidate chip groups trial) refl

@@ -1,4 +1,5 @@
--- Which paths a try may take: the test decides the fact; and links that begin at a node are among all.
+-- Which paths a try may take: the test decides the fact; and links that begin at a node are among
+-- all.
 use Rattle.std.proofs.Common.{◌≡◌, ◌&&◌, Bool, true, List, Contains, length, not, ap, arith}
 use Rattle.std.specs.Bool.{Decides}
 use Rattle.std.specs.List.{list_any, range_with_len}

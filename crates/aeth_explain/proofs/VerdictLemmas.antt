@@ -1,5 +1,5 @@
--- What is found of a certificate: that it is complete exactly where it is one; else the first list that
--- is no cut, or an open path.
+-- What is found of a certificate: that it is complete exactly where it is one; else the first list
+-- that is no cut, or an open path.
 use Rattle.std.proofs.Common.{◌+◌, drop}
 use Rattle.std.proofs.Common.{◌≡◌, ◌∙◌, ◌&&◌, ◌↔◌, ℕ, Bool, true, false, not}
 use Rattle.std.proofs.Common.{List, [], ◌∷◌, Option, None, Some, Contains, length, slice_get}
@@ -10,6 +10,7 @@ use Rattle.std.specs.Prelude.{position}
 use Rattle.std.proofs.lemmas.List.Elements.{Contains-get_or}
 use Rattle.std.proofs.lemmas.Bool.{and_from, and_parts, both_ways, false≢true}
 use Rattle.std.proofs.lemmas.Bool.{le-leb, leb-true, not-false, not-true}
+use Rattle.std.proofs.lemmas.Option.{same_Some}
 use Rattle.aeth_base.proofs.Lists.{drop-slice_get}
 use Rattle.aeth_base.proofs.Members.{Contains-filter, Contains-here, Contains-nil, filter-Contains}
 use Rattle.aeth_base.specs.declared.ids.LinkId.{LinkId}
@@ -26,10 +27,11 @@ use Rattle.aeth_chip.proofs.NodeLemmas.{same_node-refl, same_node-true}
 use Rattle.aeth_group.specs.Members.{GroupsData}
 use Rattle.aeth_group.proofs.ListLemmas.{any_from_passes, passes_from_any}
 use Rattle.aeth_paths.specs.Trials.{TrialData}
-use Rattle.aeth_explain.specs.Cuts.{IsCertificate, IsComplete, IsCut, are_joined, begins_with, is_cut}
+use Rattle.aeth_explain.specs.Cuts.{IsCertificate, IsComplete, IsCut, are_joined, begins_with}
+use Rattle.aeth_explain.specs.Cuts.{is_cut}
 use Rattle.aeth_explain.specs.TryPaths.{MayTake, leaving_lists, may_take}
 use Rattle.aeth_explain.specs.Verdict.{by_cut, by_open, is_covered, open_paths, verdict_of}
-use Rattle.aeth_explain.specs.declared.verdict.CutVerdict.TheVariants.{Complete}
+use Rattle.aeth_explain.specs.declared.verdict.CutVerdict.TheVariants.{Complete, NotDead, Open}
 use Rattle.aeth_explain.proofs.PositionLemmas.{none-passes, passes-none}
 use Rattle.aeth_explain.proofs.RefusalLemmas.{path-listed}
 use Rattle.aeth_explain.proofs.TryPathLemmas.{may_take-Decides}
@@ -186,3 +188,40 @@ module _ (chip : ChipData) (groups : GroupsData) (trial : TrialData) (is : IsChi
     from-complete cuts (position no_cut cuts) refl,
     to-complete cuts,
   )
+
+-- ---- what is found, step by step
+
+module _ (chip : ChipData) (groups : GroupsData) (trial : TrialData) (cuts : List (List LinkId)) where
+  -- The first list that is no cut.
+  pub verdict-no : (place : ℕ)
+      → position (λ cut. not (is_cut chip groups trial cut)) cuts ≡ Some place
+      → NotDead (place + 1) ≡ verdict_of chip groups trial cuts
+  unfolding verdict_of
+  verdict-no place at = sym (ap (λ o. by_cut o (open_paths chip trial cuts)) at)
+
+  by-first : (paths : List (List LinkId)) → slice_get paths 0 ≡ None → Complete ≡ by_open paths
+  by-first [] none = refl
+  by-first (path ∷ paths) none = absurd (cc none)
+
+  -- All are cuts, and no path is open.
+  pub verdict-all : position (λ cut. not (is_cut chip groups trial cut)) cuts ≡ None
+      → slice_get (open_paths chip trial cuts) 0 ≡ None → Complete ≡ verdict_of chip groups trial cuts
+  unfolding verdict_of
+  verdict-all at none =
+      by-first (open_paths chip trial cuts) none
+      ∙ sym (ap (λ o. by_cut o (open_paths chip trial cuts)) at)
+
+  by-one : (path : List LinkId) (paths : List (List LinkId)) → slice_get paths 0 ≡ Some path
+      → Open path ≡ by_open paths
+  by-one path [] some = absurd (cc some)
+  by-one path (first ∷ paths) some = ap Open (sym (same_Some first path some))
+
+  -- All are cuts, and a path is open.
+  pub verdict-open : (path : List LinkId)
+      → position (λ cut. not (is_cut chip groups trial cut)) cuts ≡ None
+      → slice_get (open_paths chip trial cuts) 0 ≡ Some path
+      → Open path ≡ verdict_of chip groups trial cuts
+  unfolding verdict_of
+  verdict-open path at some =
+      by-one path (open_paths chip trial cuts) some
+      ∙ sym (ap (λ o. by_cut o (open_paths chip trial cuts)) at)

@@ -3,7 +3,8 @@
 --   IsFirstCut, is_first_cut      a shortest cut, as a fact and as a test
 --   cuts_of      all of them, in the order of a dictionary
 --   has_candidate, certificate_of      the certificate of a try that has no candidate
-use Rattle.std.specs.Prelude.{◌≡◌, ◌≤◌, ◌<◌, ◌+◌, ◌-◌, ◌&&◌, ℕ, Bool, true, false, not, List, length}
+use Rattle.std.specs.Prelude.{◌≡◌, ◌≤◌, ◌<◌, ◌+◌, ◌-◌, ◌&&◌, ℕ, Bool, true, false, not, List}
+use Rattle.std.specs.Prelude.{length}
 use Rattle.std.specs.Prelude.{filter, if◌then◌else◌, map, Option, Some, None, take}
 use Rattle.std.specs.List.{list_any, range_with_len}
 use Rattle.aeth_base.specs.declared.ids.LinkId.{LinkId}
@@ -19,7 +20,8 @@ abbrev pub shorter_fronts : List LinkId → List (List LinkId)
 shorter_fronts path = map (λ n. take (n + 1) path) (range_with_len 0 (length path - 1))
 
 module _ (chip : ChipData) (groups : GroupsData) (trial : TrialData) where
-  -- A shortest cut: a path that the try may take begins with it, it is dead, and no shorter front is.
+  -- A shortest cut: a path that the try may take begins with it, and it is dead, but no shorter
+  -- front.
   pub record IsFirstCut (cut : List LinkId) : Type 0 where
     pub some : 1 ≤ length cut
     pub path : List LinkId

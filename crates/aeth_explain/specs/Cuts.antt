@@ -4,7 +4,8 @@
 --   IsCut, is_cut      joined links from a sender that are dead, as a fact and as a test
 --   IsComplete, IsCertificate      each path that the try may take begins with one
 --   HasCandidate      the try could have been granted
-use Rattle.std.specs.Prelude.{◌≡◌, ◌≤◌, ◌&&◌, ◌==◌, nat_le, Bool, true, false, List, [], ◌∷◌, length}
+use Rattle.std.specs.Prelude.{◌≡◌, ◌≤◌, ◌&&◌, ◌==◌, nat_le, Bool, true, false, List, [], ◌∷◌}
+use Rattle.std.specs.Prelude.{length}
 use Rattle.std.specs.Prelude.{All, Contains, slice_get}
 use Rattle.std.specs.List.{list_any}
 use Rattle.aeth_base.specs.declared.ids.LinkId.{LinkId}
@@ -33,7 +34,8 @@ begins_with (link ∷ front) (first ∷ path) = link.0 == first.0 && begins_with
 abbrev pub are_joined : List Link → Node → List LinkId → Bool
 are_joined links node [] = true
 are_joined links node (link ∷ rest) =
-    link_passes (begins_at node) (slice_get links link.0) && are_joined links (to_of links link) rest
+    link_passes (begins_at node) (slice_get links link.0)
+    && are_joined links (to_of links link) rest
 
 module _ (chip : ChipData) (groups : GroupsData) (trial : TrialData) where
   -- A cut: joined links from an interface of the senders that are dead.

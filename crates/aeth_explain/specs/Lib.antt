@@ -4,3 +4,9 @@ pub mod Cuts
 pub mod Certificate
 pub mod Verdict
 pub mod Masks
+pub mod Senders
+pub mod Fronts
+pub mod Walks
+pub mod Texts
+pub mod CutsFaults
+pub mod CutsText

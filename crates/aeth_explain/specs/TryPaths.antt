@@ -1,5 +1,5 @@
--- The lists of links that a channel's try may begin with, and the paths that it may take. Paths: after
--- UMARS (2005). The rest: this project's own.
+-- The lists of links that a channel's try may begin with, and the paths that it may take.
+-- Paths: after UMARS (2005). The rest: this project's own.
 --
 --   onward_lists, leaving_lists      lists of joined links, in the order of a dictionary
 --   MayTake, may_take      a path that the try may take, as a fact and as a test
@@ -22,8 +22,8 @@ use Rattle.aeth_paths.specs.Open.{is_crowded}
 use Rattle.aeth_paths.specs.Task.{links_from}
 use Rattle.aeth_paths.specs.Trials.{TrialData, book_of}
 
--- The lists of at most so many joined links that go on from a node through routers, in the order of a
--- dictionary.
+-- The lists of at most so many joined links that go on from a node through routers, in the order
+-- of a dictionary.
 unfoldable pub onward_lists : List Link → ℕ → Node → List (List LinkId)
 onward_lists links zero node = [] ∷ []
 onward_lists links (suc most) (Ni ni) = [] ∷ []
@@ -36,9 +36,9 @@ abbrev pub leaves_one : List Link → List NiId → LinkId → Bool
 leaves_one links from link = list_any (λ (ni : NiId).
     list_any (λ (other : LinkId). other.0 == link.0) (links_from links (Ni ni))) from
 
--- The lists of at least one and at most as many joined links as a path may have that leave one of some
--- interfaces and go on through routers, in the order of a dictionary: by the first link, then by the
--- second.
+-- The lists of at least one and at most as many joined links as a path may have that leave one of
+-- some interfaces and go on through routers, in the order of a dictionary: by the first link, then
+-- by the second.
 unfoldable pub leaving_lists : ChipData → List NiId → List (List LinkId)
 leaving_lists chip from =
     flat_map (λ link. map (λ rest. link ∷ rest)
@@ -57,7 +57,7 @@ abbrev pub may_take : ChipData → TrialData → List LinkId → Bool
 may_take chip trial path = list_any (λ a. list_any (λ b. not (is_crowded trial.crowded a b)
     && is_admissible chip trial.ask.detour a b path) trial.to) trial.from
 
--- Whether links are dead: no suitable slots are among the starts that the try's grants leave free on
--- them.
+-- Whether links are dead: no suitable slots are among the starts that the try's grants leave free
+-- on them.
 abbrev pub is_dead : ChipData → GroupsData → TrialData → List LinkId → Bool
 is_dead chip groups trial links = not (is_live (book_of chip groups trial) trial.ask links)

@@ -1,7 +1,8 @@
 -- What is found of a certificate. This project's own.
 --
---   is_covered, open_paths      paths that begin with none of its cuts
---   verdict_of      the first list that is no cut, else the least open path, else that it is complete
+--   is_covered, is_open, open_paths      paths that begin with none of its cuts
+--   by_open, by_cut, verdict_of      the first list that is no cut, else the least open path, else
+--                                    that the lists are complete
 use Rattle.std.specs.Prelude.{◌+◌, ◌&&◌, ℕ, Bool, not, List, [], ◌∷◌, Option, Some, None, filter}
 use Rattle.std.specs.Prelude.{position}
 use Rattle.std.specs.List.{list_any}
@@ -18,11 +19,13 @@ use Rattle.aeth_explain.specs.declared.verdict.CutVerdict.TheVariants.{Complete,
 abbrev pub is_covered : List (List LinkId) → List LinkId → Bool
 is_covered cuts path = list_any (λ cut. begins_with cut path) cuts
 
--- The paths that the try may take and that begin with none of the lists, in the order of a dictionary.
+-- Whether a path is open: the try may take it, and it begins with none of the lists.
+abbrev pub is_open : ChipData → TrialData → List (List LinkId) → List LinkId → Bool
+is_open chip trial cuts path = may_take chip trial path && not (is_covered cuts path)
+
+-- The open paths, in the order of a dictionary.
 abbrev pub open_paths : ChipData → TrialData → List (List LinkId) → List (List LinkId)
-open_paths chip trial cuts =
-    filter (λ path. may_take chip trial path && not (is_covered cuts path))
-    (leaving_lists chip trial.from)
+open_paths chip trial cuts = filter (is_open chip trial cuts) (leaving_lists chip trial.from)
 
 -- What is found where all lists are cuts, by the open paths.
 abbrev pub by_open : List (List LinkId) → CutVerdict
@@ -34,7 +37,8 @@ abbrev pub by_cut : Option ℕ → List (List LinkId) → CutVerdict
 by_cut (Some place) paths = NotDead (place + 1)
 by_cut None paths = by_open paths
 
--- The first list that is no cut, counted from 1, else the least open path, else that it is complete.
+-- The first list that is no cut, counted from 1, else the least open path, else that it is
+-- complete.
 unfoldable pub verdict_of : ChipData → GroupsData → TrialData → List (List LinkId) → CutVerdict
 verdict_of chip groups trial cuts =
     by_cut (position (λ cut. not (is_cut chip groups trial cut)) cuts) (open_paths chip trial cuts)

@@ -37,8 +37,8 @@ impl Cuts {
         }
     }
 
-    /// Puts a list of links at the end. After `Err`, where there was no memory or no number is left for it, all is
-    /// as before.
+    /// Puts a list of links at the end. After `Err`, where there was no memory or no number is left
+    /// for it, all is as before.
     pub fn push(&mut self, path: Path) -> Result<(), NoMemory>
         ensures ok { OnOk result (self.new ≡ self.old ++ path ∷ []) }
         ensures err { OnErr result (self.new ≡ self.old) }

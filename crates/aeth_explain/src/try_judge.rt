@@ -1,9 +1,10 @@
 // Lists of links of a try: whether they are dead, and whether they are cuts.
-ghost use Rattle.std.specs.Prelude.{◌≡◌, ◌<◌, ◌+◌, ◌-◌, All, IfOk, length, not, position};
+ghost use Rattle.std.specs.Prelude.{◌≡◌, ◌<◌, ◌+◌, ◌-◌, All, IfOk, IfSome, length, not, position};
 ghost use Rattle.aeth_base.specs.declared.ids.NiId.{NiId};
 ghost use Rattle.aeth_book.specs.Free.{narrowed};
 ghost use Rattle.aeth_chip.specs.declared.node.Node.TheVariants.{Ni};
 ghost use Rattle.aeth_explain.specs.Cuts.{are_joined, is_cut};
+ghost use Rattle.aeth_explain.specs.Limits.{max_cuts};
 ghost use Rattle.aeth_explain.specs.TryPaths.{is_dead};
 ghost use Rattle.aeth_paths.specs.Trials.{IsTrialOf, book_of};
 ghost use Rattle.aeth_slots.specs.Choice.{is_suitable};
@@ -155,11 +156,13 @@ impl<'a> TryJudge<'a> {
         path.len() >= 1 && self.leave_sender(path) && self.is_dead(path)
     }
 
-    /// The place, counted from 0, of the first listed path that is no cut; `None` exactly where all are cuts.
+    /// The place, counted from 0, of the first listed path that is no cut; `None` exactly where all
+    /// are cuts.
     pub fn first_no_cut(&self, cuts: &Cuts) -> Option<u32>
         requires { All (All (λ link. link.0 < length self.now.chip.links)) cuts.now }
-        ensures { result ≡ position (λ cut.
+        ensures place { result ≡ position (λ cut.
             not (is_cut self.now.chip self.now.groups self.now.trial cut)) cuts.now }
+        ensures below { IfSome result (λ place. place < max_cuts) }
     {
         let list = cuts.list();
         for i in 0..cuts.len() {

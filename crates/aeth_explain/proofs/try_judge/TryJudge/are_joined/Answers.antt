@@ -13,7 +13,8 @@ returns-then-not-begins_at c =
     let is : slice_get links c.link.result.0 ≡ Some c.link-link.result =
     ap (λ (j : TryJudgeData). slice_get j.chip.links c.link.result.0) (sym c.self.view_is)
     ∙ c.link-link.ensures.link in
-    sym (joined-step links c.loop-i.at path c.loop-i.i c.link.result c.link-link.result c.link.ensures
+    sym (joined-step links c.loop-i.at path c.loop-i.i c.link.result c.link-link.result
+    c.link.ensures
     is ∙ ap (λ b. b && are_joined links c.link-link.result.to (drop (c.loop-i.i + 1) path))
     (sym c.begins_at.ensures ∙ c.if-not-begins_at.true)) ∙ c.loop-i.invariant
 
@@ -25,6 +26,7 @@ loop-i-preserved c =
     let is : slice_get links c.link.result.0 ≡ Some c.link-link.result =
     ap (λ (j : TryJudgeData). slice_get j.chip.links c.link.result.0) (sym c.self.view_is)
     ∙ c.link-link.ensures.link in
-    sym (joined-step links c.loop-i.at path c.loop-i.i c.link.result c.link-link.result c.link.ensures
+    sym (joined-step links c.loop-i.at path c.loop-i.i c.link.result c.link-link.result
+    c.link.ensures
     is ∙ ap (λ b. b && are_joined links c.link-link.result.to (drop (c.loop-i.i + 1) path))
     (sym c.begins_at.ensures ∙ c.if-not-begins_at.false)) ∙ c.loop-i.invariant

@@ -8,5 +8,6 @@ use Rattle.aeth_explain.proofs.try_judge.TryJudge.leave_sender.Given as goal
 -- Whether a sender is one is decided by those that are left.
 abbrev pub invariant-loop-i : goal.invariant-loop-i
 invariant-loop-i l =
-    list_any (λ (ni : NiId). are_joined l.self.chip.links (Ni ni) l.path) (drop l.i l.self.trial.from)
+    list_any (λ (ni : NiId). are_joined l.self.chip.links (Ni ni) l.path)
+    (drop l.i l.self.trial.from)
     ≡ list_any (λ (ni : NiId). are_joined l.self.chip.links (Ni ni) l.path) l.self.trial.from

@@ -1,0 +1,51 @@
+use Rattle.std.proofs.Common.{◌≡◌, ◌∙◌, ◌-◌, ◌++◌, [], ◌∷◌, ap, subst, sym}
+use Rattle.aeth_base.specs.Limits.{max_path_links}
+use Rattle.aeth_chip.specs.Chip.{IsNode}
+use Rattle.aeth_chip.specs.Paths.{to_in}
+use Rattle.aeth_chip.specs.declared.node.Node.TheVariants.{Ni}
+use Rattle.aeth_explain.specs.Fronts.{IsFront}
+use Rattle.aeth_explain.specs.Verdict.{is_covered}
+use Rattle.aeth_explain.proofs.FrontLemmas.{first-front, link-low}
+use Rattle.aeth_explain.proofs.OverLemmas.{first-covered, first-there}
+use Rattle.aeth_explain.proofs.open_paths.first_from.Goals as goal
+use Rattle.aeth_explain.proofs.open_paths.first_from.Goals.{After-with_link-path}
+
+-- The list is the link.
+alone : (c : After-with_link-path) → c.with_link-path.result ≡ c.args.link ∷ []
+alone c =
+    c.with_link-path.ensures ∙ ap (λ p. p ++ c.args.link ∷ []) c.empty.ensures
+
+-- The list is covered.
+pub returns-then-is_covered : goal.returns-then-is_covered
+returns-then-is_covered c =
+    first-covered c.args.listed.now c.requires.listed c.args.link (max_path_links - 1)
+    (sym (ap (is_covered c.args.listed.now.cuts.now)
+    (alone (goal.at.returns-then-is_covered c).After-with_link-path))
+    ∙ sym c.is_covered.ensures ∙ c.if-is_covered.true)
+
+-- The link is one of the chip.
+pub link-requires : goal.link-requires
+link-requires c =
+    link-low c.args.listed.now.chip.now.links (Ni c.args.ni) c.args.link c.requires.link
+
+-- It leads to an interface.
+pub returns-in-Ni : goal.returns-in-Ni
+returns-in-Ni c =
+    first-there c.args.listed.now c.requires.listed c.args.link (max_path_links - 1) c.in-Ni.field-0
+    (ap to_in c.link.ensures.link ∙ c.in-Ni.is)
+
+-- Else it is a list from the sender.
+pub open_below-requires-clause-front : goal.open_below-requires-clause-front
+open_below-requires-clause-front c =
+    let listed = c.args.listed.now in
+    let link = c.args.link in
+    let r = c.in-Router.router in
+    let same = alone (goal.at.open_below-requires-clause-front c).After-with_link-path in
+    subst (λ n. IsFront listed n (record { path = c.with_link-path.result; router = r }))
+    (sym c.in_ok-sender-in-Router.ensures.ni)
+    (subst (λ p. IsFront listed c.args.ni (record { path = p; router = r })) (sym same)
+    (first-front listed c.args.ni link r c.requires.link
+    (ap to_in c.link.ensures.link ∙ c.in-Router.is)
+    (subst (IsNode listed.chip.now.routers listed.chip.now.nis) c.in-Router.is c.link.ensures.to)
+    (ap (is_covered listed.cuts.now) (sym same) ∙ sym c.is_covered.ensures
+    ∙ c.if-is_covered.false)))

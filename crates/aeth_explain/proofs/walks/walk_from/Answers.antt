@@ -1,0 +1,38 @@
+use Rattle.std.proofs.Common.{◌≡◌, ◌∙◌, ◌-◌, ◌++◌, [], ◌∷◌, List, ap, subst, sym}
+use Rattle.aeth_base.specs.Limits.{max_path_links}
+use Rattle.aeth_base.specs.declared.ids.LinkId.{LinkId}
+use Rattle.aeth_chip.specs.Chip.{IsNode}
+use Rattle.aeth_chip.specs.Paths.{to_in}
+use Rattle.aeth_chip.specs.declared.node.Node.TheVariants.{Ni}
+use Rattle.aeth_explain.specs.Fronts.{IsFront}
+use Rattle.aeth_explain.specs.Verdict.{is_covered}
+use Rattle.aeth_explain.proofs.FrontLemmas.{first-front, link-low}
+use Rattle.aeth_explain.proofs.StepLemmas.{walked-there}
+use Rattle.aeth_explain.proofs.walks.walk_from.Goals as goal
+
+-- The link is one of the chip.
+pub link-requires : goal.link-requires
+link-requires c =
+    link-low c.args.listed.now.chip.now.links (Ni c.args.ni) c.args.link c.requires.link
+
+-- It leads to an interface.
+pub returns-in-Ni : goal.returns-in-Ni
+returns-in-Ni c =
+    walked-there c.args.judge.now c.args.listed.now c.requires.tried c.args.link c.in-Ni.field-0
+    (ap to_in c.link.ensures.link ∙ c.in-Ni.is) (max_path_links - 1) c.args.cuts.now
+
+-- Else it is a list from the sender.
+pub walk-requires-clause-front : goal.walk-requires-clause-front
+walk-requires-clause-front c =
+    let listed = c.args.listed.now in
+    let link = c.args.link in
+    let r = c.in-Router.router in
+    let same : c.with_link-path.result ≡ link ∷ [] =
+    c.with_link-path.ensures ∙ ap (λ (p : List LinkId). p ++ link ∷ []) c.empty.ensures in
+    subst (λ n. IsFront listed n (record { path = c.with_link-path.result; router = r }))
+    (sym c.in_ok-sender-in-Router.ensures.ni)
+    (subst (λ p. IsFront listed c.args.ni (record { path = p; router = r })) (sym same)
+    (first-front listed c.args.ni link r c.requires.link
+    (ap to_in c.link.ensures.link ∙ c.in-Router.is)
+    (subst (IsNode listed.chip.now.routers listed.chip.now.nis) c.in-Router.is c.link.ensures.to)
+    (ap (λ (cuts : List (List LinkId)). is_covered cuts (link ∷ [])) c.requires.tried.none)))

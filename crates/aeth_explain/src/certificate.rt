@@ -1,0 +1,78 @@
+// Making a certificate.
+ghost use Rattle.std.specs.Prelude.{◌≡◌, IfOk, MatchOption};
+ghost use Rattle.aeth_explain.specs.Certificate.{certificate_of};
+ghost use Rattle.aeth_explain.specs.Cuts.{HasCandidate, IsCertificate};
+ghost use Rattle.aeth_explain.specs.Walks.{IsTried};
+ghost use Rattle.aeth_paths.specs.Trials.{IsTrialOf};
+
+use crate::cuts::Cuts;
+use crate::open_paths::Listed;
+use crate::try_judge::TryJudge;
+use crate::walks::walk_all;
+use aeth_base::NoMemory;
+use aeth_chip::{Chip, Distances};
+use aeth_group::Groups;
+use aeth_paths::Trial;
+use std::alloc::Global;
+
+/// The certificate of a try of which nothing is listed.
+fn shortest_cuts(alloc: Global, judge: &TryJudge, listed: &Listed) -> Result<Option<Cuts>, NoMemory>
+    requires { IsTried judge.now listed.now }
+    ensures { IfOk result (λ cuts. cuts
+        ≡ certificate_of listed.now.chip.now judge.now.groups listed.now.trial.now) }
+{
+    let mut cuts = Cuts::new(alloc);
+    let found = walk_all(alloc, judge, listed, &mut cuts)?;
+    if found {
+        return Ok(None);
+    }
+    Ok(Some(cuts))
+}
+
+/// The certificate of a try with the shortest cuts, in the order of a dictionary, with the least distances of
+/// the chip; `None` exactly where the try has a candidate. `Err` where there was no memory.
+pub fn certify_with(
+    alloc: Global,
+    chip: &Chip,
+    far: &Distances,
+    groups: &Groups,
+    trial: &Trial,
+) -> Result<Option<Cuts>, NoMemory>
+    requires far { far.now ≡ chip.now.links }
+    requires trial { IsTrialOf chip.now trial.now }
+    ensures gives { IfOk result (λ cuts. cuts ≡ certificate_of chip.now groups.now trial.now) }
+    // With a certificate there is no candidate.
+    ensures is { IfOk result (λ cuts. MatchOption cuts
+        (HasCandidate chip.now groups.now trial.now)
+        (IsCertificate chip.now groups.now trial.now)) }
+{
+    let _slots = chip.slots();
+    let judge = TryJudge::new(alloc, chip, groups, trial)?;
+    let none = Cuts::new(alloc);
+    let listed = Listed {
+        chip,
+        far,
+        trial,
+        cuts: &none,
+    };
+    shortest_cuts(alloc, &judge, &listed)
+}
+
+/// The certificate of a try with the shortest cuts, in the order of a dictionary; `None` exactly where the
+/// try has a candidate. `Err` where there was no memory.
+pub fn certify(
+    alloc: Global,
+    chip: &Chip,
+    groups: &Groups,
+    trial: &Trial,
+) -> Result<Option<Cuts>, NoMemory>
+    requires trial { IsTrialOf chip.now trial.now }
+    ensures gives { IfOk result (λ cuts. cuts ≡ certificate_of chip.now groups.now trial.now) }
+    // With a certificate there is no candidate.
+    ensures is { IfOk result (λ cuts. MatchOption cuts
+        (HasCandidate chip.now groups.now trial.now)
+        (IsCertificate chip.now groups.now trial.now)) }
+{
+    let far = Distances::of(alloc, chip)?;
+    certify_with(alloc, chip, &far, groups, trial)
+}

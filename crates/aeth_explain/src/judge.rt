@@ -1,0 +1,70 @@
+// Judging a certificate.
+ghost use Rattle.std.specs.Prelude.{◌≡◌, ◌<◌, ◌↔◌, All, IfOk, length};
+ghost use Rattle.aeth_explain.specs.Cuts.{IsCertificate};
+ghost use Rattle.aeth_explain.specs.Verdict.{verdict_of};
+ghost use Rattle.aeth_explain.specs.declared.verdict.CutVerdict.TheVariants.{Complete};
+ghost use Rattle.aeth_paths.specs.Trials.{IsTrialOf};
+
+use crate::cuts::Cuts;
+use crate::open_paths::{Listed, first_open};
+use crate::try_judge::TryJudge;
+use crate::verdict::CutVerdict;
+use aeth_base::NoMemory;
+use aeth_chip::{Chip, Distances};
+use aeth_group::Groups;
+use aeth_paths::Trial;
+use std::alloc::Global;
+
+/// What is found of a certificate for a try, with the least distances of the chip. `Err` where there was no
+/// memory.
+pub fn verify_with(
+    alloc: Global,
+    chip: &Chip,
+    far: &Distances,
+    groups: &Groups,
+    trial: &Trial,
+    cuts: &Cuts,
+) -> Result<CutVerdict, NoMemory>
+    requires far { far.now ≡ chip.now.links }
+    requires trial { IsTrialOf chip.now trial.now }
+    requires cuts { All (All (λ link. link.0 < length chip.now.links)) cuts.now }
+    ensures gives { IfOk result (λ verdict.
+        verdict ≡ verdict_of chip.now groups.now trial.now cuts.now) }
+    ensures complete { IfOk result (λ verdict. (verdict ≡ Complete)
+        ↔ IsCertificate chip.now groups.now trial.now cuts.now) }
+{
+    let _slots = chip.slots();
+    let judge = TryJudge::new(alloc, chip, groups, trial)?;
+    if let Some(place) = judge.first_no_cut(cuts) {
+        return Ok(CutVerdict::NotDead { cut: place + 1 });
+    }
+    let listed = Listed {
+        chip,
+        far,
+        trial,
+        cuts,
+    };
+    match first_open(alloc, &listed)? {
+        None => Ok(CutVerdict::Complete),
+        Some(path) => Ok(CutVerdict::Open { path }),
+    }
+}
+
+/// What is found of a certificate for a try. `Err` where there was no memory.
+pub fn verify(
+    alloc: Global,
+    chip: &Chip,
+    groups: &Groups,
+    trial: &Trial,
+    cuts: &Cuts,
+) -> Result<CutVerdict, NoMemory>
+    requires trial { IsTrialOf chip.now trial.now }
+    requires cuts { All (All (λ link. link.0 < length chip.now.links)) cuts.now }
+    ensures gives { IfOk result (λ verdict.
+        verdict ≡ verdict_of chip.now groups.now trial.now cuts.now) }
+    ensures complete { IfOk result (λ verdict. (verdict ≡ Complete)
+        ↔ IsCertificate chip.now groups.now trial.now cuts.now) }
+{
+    let far = Distances::of(alloc, chip)?;
+    verify_with(alloc, chip, &far, groups, trial, cuts)
+}
