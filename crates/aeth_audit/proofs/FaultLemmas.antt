@@ -1,7 +1,7 @@
 -- The rule that a row breaks, and the first row that breaks one.
 use Rattle.std.proofs.Common.{◌≡◌, ◌∙◌, ◌<◌, ◌+◌, ℕ, zero, suc, Bool, true, false, cond, List, []}
-use Rattle.std.proofs.Common.{◌∷◌, Contains, Option, Some, None, slice_get, refl, sym, ap, subst, inl}
-use Rattle.std.proofs.Common.{inr, arith}
+use Rattle.std.proofs.Common.{◌∷◌, Contains, Option, Some, None, slice_get, refl, sym, ap, subst}
+use Rattle.std.proofs.Common.{inl, inr, arith}
 use Rattle.std.proofs.lemmas.Bool.{true≢false}
 use Rattle.std.proofs.lemmas.Option.{same_Some}
 use Rattle.std.specs.Prelude.{not}
@@ -16,8 +16,8 @@ use Rattle.aeth_audit.specs.Breaks.{Breaks, IsAuditOf, IsClean}
 use Rattle.aeth_audit.specs.Limits.{broken_off, foreign, unreserved}
 use Rattle.aeth_audit.specs.Reservations.{Reservation, reserved}
 use Rattle.aeth_audit.specs.Reserved.{IsReserved}
-use Rattle.aeth_audit.specs.declared.audit.Audit.{Audit}
-use Rattle.aeth_audit.specs.declared.audit.Audit.TheVariants.{Clean, Fault}
+use Rattle.aeth_audit.specs.declared.verdict.Audit.{Audit}
+use Rattle.aeth_audit.specs.declared.verdict.Audit.TheVariants.{Clean, Fault}
 use Rattle.aeth_audit.specs.declared.row.LinkRow.{LinkRow}
 use Rattle.aeth_audit.proofs.OneReservation.{AreSessionsOf, reserved-one}
 use Rattle.aeth_audit.proofs.ReservationLemmas.{reserved-all, reserved-only}
@@ -33,7 +33,8 @@ module _ (run : Run) (sound : IsSound run) (timeline : List (List Session))
         | [] ↦ λ same has. Contains-nil has
         | one ∷ more ↦ λ same has.
             let listed : Contains (reserved run.design timeline l t) one =
-            subst (λ (xs : List Reservation). Contains xs one) (sym same) (Contains-here one more) in
+            subst (λ (xs : List Reservation). Contains xs one) (sym same)
+            (Contains-here one more) in
             ap Some (reserved-one run sound timeline sessions l t one at
             (reserved-only run.design timeline l t one listed) is)
       ] in
@@ -49,7 +50,8 @@ module _ (run : Run) (sound : IsSound run) (timeline : List (List Session))
         | [] ↦ λ same. refl
         | one ∷ more ↦ λ same.
             let listed : Contains (reserved run.design timeline l t) one =
-            subst (λ (xs : List Reservation). Contains xs one) (sym same) (Contains-here one more) in
+            subst (λ (xs : List Reservation). Contains xs one) (sym same)
+            (Contains-here one more) in
             absurd (never one (reserved-only run.design timeline l t one listed))
       ] in
       cases (reserved run.design timeline l t) refl
@@ -198,7 +200,8 @@ module _ (run : Run) (sound : IsSound run) (timeline : List (List Session))
           breaks = says.breaks;
           first = elim [
             | zero ↦ λ before less at.
-                ap (broken_by run.design timeline cycles rows) (sym (same_Some row before at)) ∙ none
+                ap (broken_by run.design timeline cycles rows) (sym (same_Some row before at))
+                ∙ none
             | suc k ↦ λ before less at. says.first k before (omega arith) at
           ];
         }

@@ -3,3 +3,13 @@ mod LineLemmas
 pub mod ReservationLemmas
 pub mod OneReservation
 pub mod FaultLemmas
+mod SearchLemmas
+mod SessionLemmas
+mod CellLemmas
+mod PlaceLemmas
+mod RuleLemmas
+mod TableLemmas
+mod FoundLemmas
+mod JudgeLemmas
+mod RowLemmas
+mod AuditLemmas

@@ -1,7 +1,7 @@
 -- The list of reservations has just those that are in words apart from it.
-use Rattle.std.proofs.Common.{◌≡◌, ◌∙◌, ◌<◌, ◌≤◌, ◌+◌, ◌-◌, ℕ, ◌&&◌, Bool, true, false, cond, List, [], ◌∷◌}
-use Rattle.std.proofs.Common.{Contains, Option, Some, None, slice_get, refl, sym, ap, subst, inl, inr}
-use Rattle.std.proofs.Common.{arith}
+use Rattle.std.proofs.Common.{◌≡◌, ◌∙◌, ◌<◌, ◌≤◌, ◌+◌, ◌-◌, ℕ, ◌&&◌, Bool, true, false, cond}
+use Rattle.std.proofs.Common.{List, [], ◌∷◌, Contains, Option, Some, None, slice_get, refl, sym, ap}
+use Rattle.std.proofs.Common.{subst, inl, inr, arith}
 use Rattle.std.proofs.lemmas.Bool.{and_from, and_parts, eq-eqb, eqb-true, le-leb}
 use Rattle.std.proofs.lemmas.Bool.{leb-true, lt-ltb, ltb-true}
 use Rattle.std.specs.Prelude.{◌==◌, IfSome, IsTrue, nat_le, nat_lt}
@@ -29,7 +29,8 @@ pub may-is : (session : Session) (u : ℕ) → may_inject session u ≡ true →
 may-is session u may =
     let both = and_parts (nat_le session.go u)
     (option_map_or (λ (close : Close). nat_lt u close.stop) session.close true) may in
-    let cases : (o : Option Close) → option_map_or (λ (close : Close). nat_lt u close.stop) o true ≡ true
+    let cases : (o : Option Close)
+    → option_map_or (λ (close : Close). nat_lt u close.stop) o true ≡ true
     → IfSome o (λ close. u < close.stop) = elim [
       | None ↦ λ is. tt
       | Some close ↦ λ is. ltb-true u close.stop is
@@ -156,7 +157,8 @@ module _ (design : Design) (timeline : List (List Session)) (l t : ℕ) (at : Re
       let ahead = offset design.chip.links own at.place in
       let time : is.injected + ahead ≡ t =
       subst (λ (g : ℕ). is.injected
-      + offset design.chip.links (grant_at design channel g).path at.place ≡ t) (sym group) is.time in
+      + offset design.chip.links (grant_at design channel g).path at.place ≡ t) (sym group)
+      is.time in
       let back : is.injected ≡ t - ahead = omega arith in
       let at_place : slice_get own at.place ≡ Some (record { 0 = l }) =
       subst (λ (g : ℕ). slice_get (grant_at design channel g).path at.place

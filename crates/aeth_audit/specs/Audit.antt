@@ -23,8 +23,8 @@ use Rattle.aeth_report.specs.Routes.{route_along}
 use Rattle.aeth_report.specs.declared.session.Session.{Session}
 use Rattle.aeth_audit.specs.Limits.{broken_off, foreign, unreserved}
 use Rattle.aeth_audit.specs.Reservations.{Reservation, reserved}
-use Rattle.aeth_audit.specs.declared.audit.Audit.{Audit}
-use Rattle.aeth_audit.specs.declared.audit.Audit.TheVariants.{Clean, Fault}
+use Rattle.aeth_audit.specs.declared.verdict.Audit.{Audit}
+use Rattle.aeth_audit.specs.declared.verdict.Audit.TheVariants.{Clean, Fault}
 use Rattle.aeth_audit.specs.declared.row.LinkRow.{LinkRow}
 
 -- ---- Rule 2

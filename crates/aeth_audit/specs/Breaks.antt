@@ -11,8 +11,8 @@ use Rattle.aeth_audit.specs.Audit.{is_joined, is_of_channel}
 use Rattle.aeth_audit.specs.Limits.{broken_off, foreign, unreserved}
 use Rattle.aeth_audit.specs.Reservations.{Reservation}
 use Rattle.aeth_audit.specs.Reserved.{IsReserved}
-use Rattle.aeth_audit.specs.declared.audit.Audit.{Audit}
-use Rattle.aeth_audit.specs.declared.audit.Audit.TheVariants.{Clean, Fault}
+use Rattle.aeth_audit.specs.declared.verdict.Audit.{Audit}
+use Rattle.aeth_audit.specs.declared.verdict.Audit.TheVariants.{Clean, Fault}
 use Rattle.aeth_audit.specs.declared.row.LinkRow.{LinkRow}
 
 module _ (design : Design) (timeline : List (List Session)) (cycles : ℕ)

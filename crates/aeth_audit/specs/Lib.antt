@@ -6,3 +6,8 @@ pub mod Reservations
 pub mod Reserved
 pub mod Audit
 pub mod Breaks
+pub mod Places
+pub mod OpenSessions
+pub mod Tables
+pub mod Judging
+pub mod Judged

@@ -40,10 +40,11 @@ pub(crate) fn judge_known(rows: &[LinkRow], links: u32) -> Result<(), LogFault>
 }
 
 /// Whether a row comes before those of a link in a cycle.
-pub(crate) fn is_before(cycle: u32, link: LinkId, row: &LinkRow) -> bool
+pub(crate) fn is_before(cycle: u64, link: LinkId, row: &LinkRow) -> bool
     ensures { result ≡ is_before cycle link.0 row.now }
 {
-    row.cycle < cycle || (row.cycle == cycle && row.link.0 < link.0)
+    let at = row.cycle as u64;
+    at < cycle || (at == cycle && row.link.0 < link.0)
 }
 
 // Whether a row comes later than the one before it, if there is one.
@@ -52,7 +53,7 @@ fn comes_later(before: &Option<LinkRow>, row: &LinkRow) -> bool
 {
     match before {
         None => true,
-        Some(last) => is_before(row.cycle, row.link, last),
+        Some(last) => is_before(row.cycle as u64, row.link, last),
     }
 }
 

@@ -2,17 +2,24 @@
 //! may carry there.
 #![tactic(auto)]
 
-mod audit;
+mod auditing;
 mod fault;
+mod judge;
 mod judging;
 pub mod laws;
 mod lines;
 mod log;
+mod places;
 mod reading;
 mod row;
+mod rules;
+mod sessions;
+mod table;
+mod verdict;
 
-pub use audit::Audit;
+pub use auditing::audit;
 pub use fault::LogFault;
 pub use lines::push_row;
 pub use log::{LinkLog, MAX_LINK_ROWS, read_log};
 pub use row::LinkRow;
+pub use verdict::Audit;
