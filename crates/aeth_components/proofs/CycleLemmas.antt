@@ -134,7 +134,7 @@ IsComponents-switched events all before =
     }
 
 -- A component in place of one with the same frame.
-frames-slice_set : (parts : List Part) (number : ℕ) (part : Part)
+pub frames-slice_set : (parts : List Part) (number : ℕ) (part : Part)
     → slice_get (map frame_of parts) number ≡ Some (frame_of part)
     → map frame_of (slice_set parts number part) ≡ map frame_of parts
 frames-slice_set [] number part at = absurd cc

@@ -34,12 +34,12 @@ All-from_map f P xs all place default within =
     (all place (f default) (let size = length-map xs f in omega arith))
 
 -- The outputs of a component are those of its frame, and so are its inputs.
-outputs_of-frame : (part : Part) (link : ℕ) → outputs_of part link ≡ sends_by (frame_of part) link
+pub outputs_of-frame : (part : Part) (link : ℕ) → outputs_of part link ≡ sends_by (frame_of part) link
 outputs_of-frame (Interface ni) link = refl
 outputs_of-frame (Router router) link = refl
 outputs_of-frame (Stage stage) link = refl
 
-inputs_of-frame : (part : Part) (link : ℕ)
+pub inputs_of-frame : (part : Part) (link : ℕ)
     → inputs_of part link ≡ receives_by (frame_of part) link
 inputs_of-frame (Interface ni) link = refl
 inputs_of-frame (Router router) link = refl

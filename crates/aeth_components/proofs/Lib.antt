@@ -1,17 +1,27 @@
 pub mod AloneLemmas
 pub mod CountingLemmas
 mod CycleLemmas
+mod EndLemmas
 pub mod FrameLemmas
+mod FirstLemmas
+mod HalvesLemmas
+pub mod HoldingLemmas
 pub mod KeptLemmas
 pub mod LaneLemmas
+mod ListedLemmas
 mod MarkLemmas
+mod MarkedLemmas
 pub mod MadeParts
 pub mod MadeLemmas
 pub mod NoteLemmas
 pub mod PartLemmas
 pub mod QueueLemmas
+mod ReadyLemmas
+mod ReceiverLemmas
+mod SendingLemmas
 mod SkipLemmas
 mod SlotLemmas
 mod SwitchingLemmas
 pub mod TurnLemmas
 mod TurnsAlone
+mod UnlistedLemmas

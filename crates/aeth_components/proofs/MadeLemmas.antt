@@ -23,7 +23,8 @@ use Rattle.aeth_router.specs.Router.{is_among, last_wire}
 use Rattle.aeth_router.specs.declared.part.Part.{Part}
 use Rattle.aeth_components.proofs.FrameLemmas.{from-map}
 use Rattle.aeth_components.proofs.MadeParts.{StageAt, among-first, among-only, at-append, at-range}
-use Rattle.aeth_components.proofs.MadeParts.{item-at, length-made_stages, part_number}
+use Rattle.aeth_components.proofs.MadeParts.{item-at, length-made_stages}
+use Rattle.aeth_components.specs.Ends.{part_number}
 use Rattle.aeth_components.proofs.MadeParts.{part_number-below}
 use Rattle.aeth_chip.proofs.NodeLemmas.{same_node-refl}
 use Rattle.aeth_components.proofs.MadeParts.{same_node-place, stage-at}
@@ -130,7 +131,7 @@ module _ (links : List Link) (number : ℕ) (part : Part) (stage : StageAt links
       omega arith
 
 -- On a wire sends the component at the place of its link's node, or the stage of its number.
-abbrev SendsAt : ChipData → ℕ → ℕ → Type 0
+abbrev pub SendsAt : ChipData → ℕ → ℕ → Type 0
 SendsAt chip i wire =
     ((l : Link) × (slice_get chip.links wire ≡ Some l) × (part_number (length chip.nis) l.from ≡ i))
     ⊎ ((k : ℕ) × (k < further_wires chip.links) × (wire ≡ length chip.links + k)
@@ -299,7 +300,7 @@ module _ (chip : ChipData) (is_chip : IsChip chip) (rooms : List ℕ) where
       let made = from-map frame_of (new_parts chip rooms) i frame at in
       (made.0, part-at chip rooms i made.0 made.1, made.2)
 
-  frame-sends : (i wire : ℕ) (frame : Frame)
+  pub frame-sends : (i wire : ℕ) (frame : Frame)
       → slice_get (map frame_of (new_parts chip rooms)) i ≡ Some frame
       → sends_by frame wire ≡ true → SendsAt chip i wire
   frame-sends i wire frame at sends =

@@ -21,6 +21,7 @@ use Rattle.aeth_router.specs.declared.part.Part.{Part}
 use Rattle.aeth_base.proofs.Ranges.{range_with_len-more}
 use Rattle.std.proofs.lemmas.List.{flat_map_more}
 use Rattle.std.specs.List.{flat_map}
+use Rattle.aeth_components.specs.Ends.{part_number}
 use Rattle.aeth_components.specs.Making.{link_stages, made_stage}
 use Rattle.aeth_components.specs.Making.{made_stages}
 
@@ -51,11 +52,6 @@ at-range f start (suc size) (suc i) x at =
       rest.1
           ∙ ap f (let same : start + 1 + i ≡ start + suc i = omega arith in same),
     )
-
--- The number of the component at a node, behind so many interfaces.
-abbrev pub part_number : ℕ → Node → ℕ
-part_number count (Ni n) = n.0
-part_number count (Router r) = count + r.0
 
 -- One node is at one place.
 pub same_node-place : (count : ℕ) (some other : Node) → same_node some other ≡ true

@@ -46,16 +46,32 @@ length-with_part zero change (part ∷ parts) = refl
 length-with_part (suc number) change (part ∷ parts) =
     ap (λ n. suc n) (length-with_part number change parts)
 
--- A change that keeps the frame of each component keeps all frames.
+-- What a change keeps of each component it keeps of all.
+module _ {X : Type 0} (view : Part → X) where
+  pub views-with_part : (number : ℕ) (change : Part → Part)
+      → ((part : Part) → view (change part) ≡ view part) → (parts : List Part)
+      → map view (with_part number change parts) ≡ map view parts
+  views-with_part number change kept [] = refl
+  views-with_part zero change kept (part ∷ parts) =
+      ap (λ (first : X). first ∷ map view parts) (kept part)
+  views-with_part (suc number) change kept (part ∷ parts) =
+      ap (λ (rest : List X). view part ∷ rest) (views-with_part number change kept parts)
+
+  -- So do events.
+  pub views-switched : ((event : Event) (part : Part)
+      → view (on_interface (event_done event) part) ≡ view part)
+      → (events : List Event) (parts : List Part)
+      → map view (switched events parts) ≡ map view parts
+  views-switched kept [] parts = refl
+  views-switched kept (event ∷ events) parts =
+      views-switched kept events (happened parts event)
+      ∙ views-with_part (event_part event) (on_interface (event_done event)) (kept event) parts
+
+-- So it is with frames.
 pub frames-with_part : (number : ℕ) (change : Part → Part)
     → ((part : Part) → frame_of (change part) ≡ frame_of part) → (parts : List Part)
     → map frame_of (with_part number change parts) ≡ map frame_of parts
-frames-with_part number change kept [] = refl
-frames-with_part zero change kept (part ∷ parts) =
-    ap (λ (frame : Frame). frame ∷ map frame_of parts) (kept part)
-frames-with_part (suc number) change kept (part ∷ parts) =
-    ap (λ (frames : List Frame). frame_of part ∷ frames)
-    (frames-with_part number change kept parts)
+frames-with_part = views-with_part frame_of
 
 -- No event changes a frame.
 frame_of-written : (write : Write) (ni : InterfaceState)
@@ -83,10 +99,7 @@ frames-happened event parts =
 -- Nor do many.
 pub frames-switched : (events : List Event) (parts : List Part)
     → map frame_of (switched events parts) ≡ map frame_of parts
-frames-switched [] parts = refl
-frames-switched (event ∷ events) parts =
-    frames-switched events (happened parts event)
-    ∙ frames-with_part _ (on_interface (event_done event)) (frame_of-event event) parts
+frames-switched = views-switched frame_of frame_of-event
 
 -- One event more is done.
 pub switched-more : (events : List Event) (before now : List Part) (place : ℕ) (default : Event)

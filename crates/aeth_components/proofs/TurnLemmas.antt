@@ -16,7 +16,7 @@ use Rattle.aeth_components.specs.declared.lane.Lane.{Lane}
 use Rattle.std.proofs.lemmas.List.{append-nil, take_all}
 use Rattle.std.proofs.Common.{ap₂}
 use Rattle.aeth_components.proofs.FrameLemmas.{frame_of-changed}
-use Rattle.aeth_components.proofs.PartLemmas.{frames-with_part}
+use Rattle.aeth_components.proofs.PartLemmas.{views-with_part}
 use Rattle.aeth_components.proofs.QueueLemmas.{changed-same}
 use Rattle.aeth_components.specs.Changes.{at_end, on_interface, told_at, told_by, with_part}
 use Rattle.aeth_components.specs.Frames.{frame_of}
@@ -51,20 +51,27 @@ module _ (turn : List Part → Lane → List Part × Lane) where
         All-turns numbers (turned turn moment number)
         (All-turned_at moment number (slice_get moment.lanes number) refl all)
 
-  -- Where each turn keeps the frames, all turns do.
-  module _ (kept : (parts : List Part) (lane : Lane)
-      → map frame_of (turn parts lane).0 ≡ map frame_of parts) where
-    frames-turned_at : (moment : Moment) (number : ℕ) (found : Option Lane)
-        → map frame_of (turned_at turn moment number found).parts ≡ map frame_of moment.parts
-    frames-turned_at moment number None = refl
-    frames-turned_at moment number (Some lane) = kept moment.parts lane
+  -- What each turn keeps of the components, all turns keep.
+  module _ {X : Type 0} (view : Part → X) (kept : (parts : List Part) (lane : Lane)
+      → map view (turn parts lane).0 ≡ map view parts) where
+    views-turned_at : (moment : Moment) (number : ℕ) (found : Option Lane)
+        → map view (turned_at turn moment number found).parts ≡ map view moment.parts
+    views-turned_at moment number None = refl
+    views-turned_at moment number (Some lane) = kept moment.parts lane
 
-    pub frames-turns : (numbers : List ℕ) (moment : Moment)
-        → map frame_of (fold (turned turn) moment numbers).parts ≡ map frame_of moment.parts
-    frames-turns [] moment = refl
-    frames-turns (number ∷ numbers) moment =
-        frames-turns numbers (turned turn moment number)
-        ∙ frames-turned_at moment number (slice_get moment.lanes number)
+    pub views-turns : (numbers : List ℕ) (moment : Moment)
+        → map view (fold (turned turn) moment numbers).parts ≡ map view moment.parts
+    views-turns [] moment = refl
+    views-turns (number ∷ numbers) moment =
+        views-turns numbers (turned turn moment number)
+        ∙ views-turned_at moment number (slice_get moment.lanes number)
+
+  -- So it is with frames.
+  pub frames-turns : ((parts : List Part) (lane : Lane)
+      → map frame_of (turn parts lane).0 ≡ map frame_of parts)
+      → (numbers : List ℕ) (moment : Moment)
+      → map frame_of (fold (turned turn) moment numbers).parts ≡ map frame_of moment.parts
+  frames-turns = views-turns frame_of
 
 -- A channel whose turn comes while it is open, or not.
 pub refilled-open : (words : List ℕ) (cycle : ℕ) (parts : List Part) (lane : Lane)
@@ -160,7 +167,7 @@ refilled-none words cycle parts lane none =
     ]
 
 -- Where no word is there to be taken, none is.
-drawn_out-none : (parts : List Part) (lane : Lane) → asked_of lane ≡ 0
+pub drawn_out-none : (parts : List Part) (lane : Lane) → asked_of lane ≡ 0
     → drawn_out parts lane ≡ (parts, lane)
 drawn_out-none parts lane none =
     let told = told_at-le lane.receiver 0 (draws (asked_of lane))
@@ -186,28 +193,39 @@ frame_of-on_interface queue change (Interface ni) = frame_of-changed queue chang
 frame_of-on_interface queue change (Router router) = refl
 frame_of-on_interface queue change (Stage stage) = refl
 
-frames-at_end : (end : ChannelEnd) (change : QueueState → QueueState) (parts : List Part)
-    → map frame_of (at_end end change parts) ≡ map frame_of parts
-frames-at_end end change parts =
-    frames-with_part end.ni.0 (on_interface (changed end.queue change))
-    (frame_of-on_interface end.queue change) parts
+-- What changes of queues keep of the components, refilling and taking keep.
+module _ {X : Type 0} (view : Part → X) (kept : (queue : ℕ) (change : QueueState → QueueState)
+    (part : Part) → view (on_interface (changed queue change) part) ≡ view part) where
+  views-at_end : (end : ChannelEnd) (change : QueueState → QueueState) (parts : List Part)
+      → map view (at_end end change parts) ≡ map view parts
+  views-at_end end change parts =
+      views-with_part view end.ni.0 (on_interface (changed end.queue change))
+      (kept end.queue change) parts
 
+  pub views-refilled : (words : List ℕ) (cycle : ℕ) (parts : List Part) (lane : Lane)
+      → map view (refilled words cycle parts lane).0 ≡ map view parts
+  views-refilled words cycle parts lane =
+      elim (cases_Bool (is_open lane cycle)) [
+        | inl opened ↦ rw opened (views-at_end lane.sender (filled (left_of words lane)) parts)
+        | inr closed ↦ rw closed refl
+      ]
+
+  pub views-pulled : (cycle : ℕ) (parts : List Part) (lane : Lane)
+      → map view (pulled cycle parts lane).0 ≡ map view parts
+  views-pulled cycle parts lane =
+      elim (cases_Bool (is_open lane cycle)) [
+        | inl opened ↦ rw opened (views-at_end lane.receiver (drawn (asked_of lane)) parts)
+        | inr closed ↦ rw closed refl
+      ]
+
+-- So it is with frames.
 pub frames-refilled : (words : List ℕ) (cycle : ℕ) (parts : List Part) (lane : Lane)
     → map frame_of (refilled words cycle parts lane).0 ≡ map frame_of parts
-frames-refilled words cycle parts lane =
-    elim (cases_Bool (is_open lane cycle)) [
-      | inl opened ↦ rw opened
-          (frames-at_end lane.sender (filled (left_of words lane)) parts)
-      | inr closed ↦ rw closed refl
-    ]
+frames-refilled = views-refilled frame_of frame_of-on_interface
 
 pub frames-pulled : (cycle : ℕ) (parts : List Part) (lane : Lane)
     → map frame_of (pulled cycle parts lane).0 ≡ map frame_of parts
-frames-pulled cycle parts lane =
-    elim (cases_Bool (is_open lane cycle)) [
-      | inl opened ↦ rw opened (frames-at_end lane.receiver (drawn (asked_of lane)) parts)
-      | inr closed ↦ rw closed refl
-    ]
+frames-pulled = views-pulled frame_of frame_of-on_interface
 
 -- A turn keeps what holds of a channel.
 pub IsLane-refilled : (words : List ℕ) (cycle count : ℕ) (parts : List Part) (lane : Lane)

@@ -4,6 +4,7 @@ pub mod Changes
 pub mod Channels
 pub mod Components
 pub mod Counting
+pub mod Ends
 pub mod Events
 pub mod Frames
 pub mod Lanes
@@ -11,5 +12,7 @@ pub mod Laws
 pub mod Making
 pub mod Phases
 pub mod Queues
+pub mod Resting
 pub mod Switching
+pub mod Turns
 pub mod View

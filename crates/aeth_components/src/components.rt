@@ -10,6 +10,8 @@ ghost use Rattle.aeth_components.specs.Components.{Runs, frames_of, part_count};
 ghost use Rattle.aeth_components.specs.Events.{IsDoable};
 ghost use Rattle.aeth_components.specs.Frames.{IsWired, frame_of};
 ghost use Rattle.aeth_components.specs.Lanes.{IsLane, with_lane};
+ghost use Rattle.aeth_components.specs.Resting.{holding_of};
+ghost use Rattle.aeth_components.specs.Turns.{AreReady, flits_on};
 
 use crate::channels::Channels;
 use crate::counting::tally;
@@ -18,12 +20,14 @@ use crate::event::Event;
 use crate::lane::Lane;
 use crate::making::parts_of;
 use crate::phases::switch;
-use aeth_base::NoMemory;
+use crate::turns::Turns;
+use aeth_base::{NoMemory, Steps};
 use aeth_chip::Chip;
 use aeth_clocked::{Order, Wires};
 use aeth_router::Part;
 use std::alloc::Global;
-use std::marker::Model;
+use std::marker::{Brand, Model};
+use std::sync::ledger::{Blank, Ledger};
 
 #[cfg(test)]
 mod tests;
@@ -35,14 +39,19 @@ mod tests;
 pub struct Components {
     parts: Vec<Part>,
     wires: Wires,
+    turns: Turns,
     channels: Channels,
     landings: Vec<u32>,
     flits: Vec<u32>,
 }
 
 impl Model for Components {
+    ghost use Rattle.std.specs.Prelude.{map};
     ghost use Rattle.aeth_components.specs.Components.{ComponentsState, IsComponents};
     ghost use Rattle.aeth_components.specs.Components.{components_of};
+    ghost use Rattle.aeth_components.specs.Frames.{frame_of};
+    ghost use Rattle.aeth_components.specs.Resting.{holding_of};
+    ghost use Rattle.aeth_components.specs.Turns.{AreReady};
 
     ghost Value = { ComponentsState };
 
@@ -50,7 +59,9 @@ impl Model for Components {
         all.channels.words all.landings.items all.flits.items };
 
     ghost invariant = { λ all. IsComponents (components_of all.parts.items all.wires
-        all.channels.lanes all.channels.words all.landings.items all.flits.items) };
+        all.channels.lanes all.channels.words all.landings.items all.flits.items)
+        × AreReady (map frame_of all.parts.items) (map holding_of all.parts.items) all.wires
+        all.turns };
 }
 
 impl Components {
@@ -75,12 +86,14 @@ impl Components {
         let _ = chip.slots();
         let parts = parts_of(alloc, chip, rooms)?;
         let wires = Wires::new(alloc, chip.wires())?;
+        let turns = Turns::new(alloc, chip)?;
         let landings = vec![in alloc; 0; words.len()]?;
         let channels = Channels::new(alloc, lanes, words)?;
         let flits = vec![in alloc; 0; chip.links() as usize]?;
         Ok(Components {
             parts,
             wires,
+            turns,
             channels,
             landings,
             flits,
@@ -172,41 +185,82 @@ impl Components {
         requires events { All (IsDoable (frames_of self.old)) events.now }
         ensures { Cycle events.now cycle self.old self.new }
     {
+        self.step_from::<Brand>(order, cycle, events, Blank::new(1));
+    }
+
+    /// The same, in which only components take a turn that have something to do: a flit is on a wire
+    /// where they send, a flit comes to them or came in the last cycle, or they send words of their
+    /// own. It counts a step for each component that drives, and one for each that latches.
+    pub fn step_counted<L: Ledger>(
+        &mut self,
+        order: &Order,
+        cycle: u32,
+        events: &[Event],
+        steps: &mut Steps<L>,
+    )
+        requires order { length order.now ≡ length self.old.parts }
+        requires cycle { cycle < max_cycles }
+        requires events { All (IsDoable (frames_of self.old)) events.now }
+        ensures cycle { Cycle events.now cycle self.old self.new }
+        ensures steps { steps.new
+            ≤ steps.old + 2 * flits_on self.old.wires + 2 * flits_on self.new.wires }
+    {
+        self.turns.begin(order);
         run(
             &mut self.parts,
             &mut self.wires,
             &mut self.channels,
-            order,
+            &mut self.turns,
             cycle,
             events,
+            steps,
         );
         self.channels.count(&self.parts, &mut self.landings, cycle);
         tally(&mut self.flits, &self.wires);
     }
+
+    // One cycle, with a counter of its own.
+    fn step_from<L: Ledger>(&mut self, order: &Order, cycle: u32, events: &[Event], blank: Blank)
+        requires name { blank.name ≡ L.name }
+        requires parts { blank.parts ≡ L.parts }
+        requires one { L.parts ≡ 1 }
+        requires order { length order.now ≡ length self.old.parts }
+        requires cycle { cycle < max_cycles }
+        requires events { All (IsDoable (frames_of self.old)) events.now }
+        ensures { Cycle events.now cycle self.old self.new }
+    {
+        let mut steps = Steps::<L>::open(blank);
+        self.step_counted(order, cycle, events, &mut steps);
+    }
 }
 
 // One cycle of components, wires and channels, but for what is counted.
-fn run(
+fn run<L: Ledger>(
     parts: &mut [Part],
     wires: &mut Wires,
     channels: &mut Channels,
-    order: &Order,
+    turns: &mut Turns,
     cycle: u32,
     events: &[Event],
+    steps: &mut Steps<L>,
 )
     requires wired { IsWired (map frame_of parts.old) (length wires.old) }
+    requires ready { AreReady (map frame_of parts.old) (map holding_of parts.old) wires.old
+        turns.old }
     requires lanes { All (IsLane (length channels.old.words) (length parts.old)) channels.old.lanes }
-    requires order { length order.now ≡ length parts.old }
     requires events { All (IsDoable (map frame_of parts.old)) events.now }
     ensures runs { Runs channels.old.words events.now cycle wires.old wires.new
         (record { parts = parts.old; lanes = channels.old.lanes })
         (record { parts = parts.new; lanes = channels.new.lanes }) }
     ensures words { channels.new.words ≡ channels.old.words }
     ensures lanes { All (IsLane (length channels.new.words) (length parts.new)) channels.new.lanes }
+    ensures ready { AreReady (map frame_of parts.new) (map holding_of parts.new) wires.new
+        turns.new }
+    ensures steps { steps.new ≤ steps.old + 2 * flits_on wires.old + 2 * flits_on wires.new }
 {
     switch(parts, events);
     channels.refill(parts, cycle);
-    drive(parts, order, cycle, wires);
+    drive(parts, turns, cycle, wires, steps);
     channels.take(parts, cycle);
-    latch(parts, order, wires);
+    latch(parts, turns, wires, steps);
 }

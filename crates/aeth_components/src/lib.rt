@@ -5,6 +5,7 @@ mod channels;
 mod components;
 mod counting;
 mod cycle;
+mod ends;
 mod event;
 mod lane;
 pub mod laws;
@@ -12,6 +13,7 @@ mod making;
 mod parts;
 mod phases;
 mod queues;
+mod turns;
 
 pub use components::Components;
 pub use event::Event;

@@ -7,6 +7,7 @@ ghost use Rattle.aeth_components.specs.Changes.{event_done, on_interface, told_b
 ghost use Rattle.aeth_components.specs.Events.{Suits};
 ghost use Rattle.aeth_components.specs.Frames.{frame_of};
 ghost use Rattle.aeth_components.specs.Queues.{brought_by, draws, drawn, filled, fits};
+ghost use Rattle.aeth_components.specs.Turns.{sends_own};
 
 use crate::event::Event;
 use crate::queues;
@@ -68,5 +69,16 @@ pub(crate) fn is_silent(part: &Part) -> bool
     match part {
         Part::Interface(ni) => ni.last().is_none(),
         _ => true,
+    }
+}
+
+// Whether a component sends something of its own in a cycle: only an interface does.
+pub(crate) fn sends_own(part: &Part, cycle: u32) -> bool
+    ensures { result ≡ sends_own cycle part.now }
+{
+    let cycle = u64::from(cycle);
+    match part {
+        Part::Interface(ni) => ni.next_sending(cycle, cycle + 1) == cycle,
+        _ => false,
     }
 }

@@ -6,4 +6,6 @@ mod clocked;
 #[cfg(test)]
 mod interface;
 #[cfg(test)]
+mod resting;
+#[cfg(test)]
 mod router;

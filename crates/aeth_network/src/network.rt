@@ -1,7 +1,8 @@
 // A network and its run.
 
-ghost use Rattle.std.specs.Prelude.{◌≡◌, ◌<◌, ◌-◌, IfOk, length};
+ghost use Rattle.std.specs.Prelude.{◌≡◌, ◌≤◌, ◌<◌, ◌+◌, ◌-◌, ◌*◌, IfOk, length};
 ghost use Rattle.aeth_report.specs.RunLog.{log_of};
+ghost use Rattle.aeth_components.specs.Turns.{flits_on};
 ghost use Rattle.aeth_accepted.specs.Inputs.{Inputs, run_of};
 ghost use Rattle.aeth_stimuli.specs.Stimuli.{stimuli_of};
 ghost use Rattle.aeth_running.specs.Network.{first_network, played, stepped};
@@ -15,11 +16,12 @@ use crate::logging::first_log;
 use crate::state::{State, run};
 use crate::telling::tell;
 use aeth_accepted::RunInputs;
-use aeth_base::NoMemory;
+use aeth_base::{NoMemory, Steps};
 use aeth_clocked::{Order, Wires};
 use aeth_report::SimLog;
 use std::alloc::Global;
-use std::marker::Model;
+use std::marker::{Brand, Model};
+use std::sync::ledger::{Blank, Ledger};
 
 /// A network with what its run is given: its components, how its channels stood before each session
 /// that has gone, and the log, of which nothing has landed. It is seen without the places that it
@@ -105,11 +107,41 @@ impl RoutedNetwork {
         ensures run { (inputs : Inputs) → IsNetworkOf inputs self.old
             → IsNetworkOf inputs self.new }
     {
+        self.cycle_from::<Brand>(order, Blank::new(1));
+    }
+
+    /// The same, which counts the steps of components: each that drives or latches. All others rest.
+    pub fn cycle_counted<L: Ledger>(&mut self, order: &Order, steps: &mut Steps<L>)
+        requires order { length order.now ≡ length self.old.components.parts }
+        requires time { self.old.time < self.old.log.cycles }
+        ensures steps { self.new ≡ stepped self.old }
+        ensures parts { length self.new.components.parts ≡ length self.old.components.parts }
+        ensures run { (inputs : Inputs) → IsNetworkOf inputs self.old
+            → IsNetworkOf inputs self.new }
+        ensures counted { steps.new ≤ steps.old + 2 * flits_on self.old.components.wires
+            + 2 * flits_on self.new.components.wires }
+    {
         let rows = self.given.rows(self.cursors, self.time);
         self.state.bring(&rows, self.time);
-        run(&mut self.state.components, order, &rows, self.time);
+        run(&mut self.state.components, order, &rows, self.time, steps);
         self.cursors = rows.behind;
         self.time += 1;
+    }
+
+    // One more cycle, with a counter of its own.
+    fn cycle_from<L: Ledger>(&mut self, order: &Order, blank: Blank)
+        requires name { blank.name ≡ L.name }
+        requires ledger { blank.parts ≡ L.parts }
+        requires one { L.parts ≡ 1 }
+        requires order { length order.now ≡ length self.old.components.parts }
+        requires time { self.old.time < self.old.log.cycles }
+        ensures steps { self.new ≡ stepped self.old }
+        ensures parts { length self.new.components.parts ≡ length self.old.components.parts }
+        ensures run { (inputs : Inputs) → IsNetworkOf inputs self.old
+            → IsNetworkOf inputs self.new }
+    {
+        let mut steps = Steps::<L>::open(blank);
+        self.cycle_counted(order, &mut steps);
     }
 
     /// The log of the cycles that are done. Of a network of accepted inputs that has done all their

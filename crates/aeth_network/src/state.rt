@@ -1,6 +1,6 @@
 // What changes in a network from cycle to cycle.
 
-ghost use Rattle.std.specs.Prelude.{◌≡◌, ◌<◌, ◌*◌, All, IfOk, length, map, replicate};
+ghost use Rattle.std.specs.Prelude.{◌≡◌, ◌<◌, ◌≤◌, ◌+◌, ◌*◌, All, IfOk, length, map, replicate};
 ghost use Rattle.aeth_base.specs.Limits.{max_cycles};
 ghost use Rattle.aeth_ni.specs.Limits.{queues_of_interface};
 ghost use Rattle.aeth_components.specs.Changes.{switched};
@@ -8,6 +8,7 @@ ghost use Rattle.aeth_components.specs.Components.{Cycle, first_components, fram
 ghost use Rattle.aeth_components.specs.Events.{IsDoable};
 ghost use Rattle.aeth_components.specs.Frames.{frame_of};
 ghost use Rattle.aeth_components.specs.Making.{new_parts};
+ghost use Rattle.aeth_components.specs.Turns.{flits_on};
 ghost use Rattle.aeth_schedule.specs.Schedule.{schedule_of};
 ghost use Rattle.aeth_schedule.specs.Values.{values_of};
 ghost use Rattle.aeth_stimuli.specs.Loaded.{no_lane};
@@ -18,13 +19,14 @@ use crate::given::CycleRows;
 use crate::giving::{note, offer, start, take};
 use aeth_accepted::RunInputs;
 use aeth_app::App;
-use aeth_base::{NiId, NoMemory};
+use aeth_base::{NiId, NoMemory, Steps};
 use aeth_chip::Chip;
 use aeth_clocked::Order;
 use aeth_components::{ChannelEnd, Components, Lane};
 use aeth_schedule::{Schedule, values};
 use aeth_trace::Words;
 use std::alloc::Global;
+use std::sync::ledger::Ledger;
 
 // What a receiver takes in a cycle at most where no row says it.
 const USUAL_PULL: u32 = 2;
@@ -80,14 +82,22 @@ impl State {
     }
 }
 
-// The components do a cycle, with its events.
-pub(crate) fn run(components: &mut Components, order: &Order, rows: &CycleRows, time: u32)
+// The components do a cycle, with its events, and count their steps.
+pub(crate) fn run<L: Ledger>(
+    components: &mut Components,
+    order: &Order,
+    rows: &CycleRows,
+    time: u32,
+    steps: &mut Steps<L>,
+)
     requires order { length order.now ≡ length components.old.parts }
     requires time { time < max_cycles }
     requires events { All (IsDoable (frames_of components.old)) rows.now.events.now }
-    ensures { Cycle rows.now.events.now time components.old components.new }
+    ensures cycle { Cycle rows.now.events.now time components.old components.new }
+    ensures steps { steps.new
+        ≤ steps.old + 2 * flits_on components.old.wires + 2 * flits_on components.new.wires }
 {
-    components.step(order, time, rows.events);
+    components.step_counted(order, time, rows.events, steps);
 }
 
 // The components of a chip, once they are loaded.

@@ -1,12 +1,14 @@
 -- Laws of routers that hold no flit, which a network need not step.
 use Rattle.std.proofs.Common.{◌≡◌, ℕ, zero, suc, refl, ap, ◌∙◌}
-use Rattle.std.proofs.Common.{List, [], length, replicate}
+use Rattle.std.proofs.Common.{List, [], ◌∷◌, length, map, replicate, slice_get}
 use Rattle.std.proofs.Common.{Option, Some, None}
 use Rattle.std.specs.Prelude.{◌==◌, option_and_then, position}
 use Rattle.aeth_clocked.specs.declared.flit.Flit.{Flit}
-use Rattle.aeth_clocked.specs.Wires.{Drives}
+use Rattle.aeth_clocked.specs.Resting.{HasNoFlit}
+use Rattle.aeth_clocked.specs.Wires.{Drives, flit_on}
 use Rattle.aeth_router.specs.Ports.{flits_for, sole}
 use Rattle.aeth_router.specs.Router.{emitted_on, is_among}
+use Rattle.aeth_router.proofs.LinkLemmas.{is_among-at}
 
 -- Where none is held, there is no flit for a port.
 flits_for-idle : (port count : ℕ) → flits_for port (replicate count None) ≡ []
@@ -39,3 +41,17 @@ Drives-cleared outgoing held old new idle drives =
           ∙ emitted_on-idle outgoing (length held) link in
           rw none (drives.at link within);
     }
+
+-- Where all these wires are empty, no flit is taken in.
+flits-none : (links : List ℕ) (wires : List (Option Flit))
+    → ((place link : ℕ) → slice_get links place ≡ Some link → flit_on wires link ≡ None)
+    → map (flit_on wires) links ≡ replicate (length links) None
+flits-none [] wires empty = refl
+flits-none (link ∷ links) wires empty =
+    rw (empty 0 link refl, flits-none links wires (λ place. empty (suc place))) refl
+
+pub HasNoFlit-map : (links : List ℕ) (wires : List (Option Flit))
+    → HasNoFlit (is_among links) wires
+    → map (flit_on wires) links ≡ replicate (length links) None
+HasNoFlit-map links wires empty =
+    flits-none links wires (λ place link at. empty link (is_among-at links place link at))

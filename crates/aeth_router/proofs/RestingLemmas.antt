@@ -15,8 +15,7 @@ use Rattle.aeth_router.specs.Stage.{StageState, stage_absorb, stage_after, stage
 use Rattle.aeth_router.specs.Stage.{stage_inputs, stage_outputs}
 use Rattle.aeth_router.specs.declared.part.Part.{Part}
 use Rattle.aeth_router.specs.declared.part.Part.TheVariants.{Interface, Router, Stage}
-use Rattle.aeth_router.proofs.IdleLemmas.{emitted_on-idle}
-use Rattle.aeth_router.proofs.Steps.{HasNoFlit-map}
+use Rattle.aeth_router.proofs.IdleLemmas.{HasNoFlit-map, emitted_on-idle}
 
 module _ (router : RouterState) (wires : List (Option Flit)) where
   -- A router rests from driving just where it holds no flit and its outgoing links are empty.

@@ -1,6 +1,6 @@
 -- What each turn of the loops over links of a router adds.
-use Rattle.std.proofs.Common.{◌≡◌, ◌<◌, ◌+◌, ℕ, suc, refl, sym, ap, ◌∙◌, inl, inr, arith}
-use Rattle.std.proofs.Common.{eqb, ◌||◌, List, [], ◌∷◌, ◌++◌, length, map, replicate, take}
+use Rattle.std.proofs.Common.{◌≡◌, ◌<◌, ◌+◌, ℕ, refl, sym, ap, ◌∙◌, inl, inr, arith}
+use Rattle.std.proofs.Common.{eqb, ◌||◌, List, [], ◌∷◌, ◌++◌, length, map, take}
 use Rattle.std.proofs.Common.{get_or, Option, Some, None, true}
 use Rattle.std.proofs.Common.{slice_get}
 use Rattle.std.specs.Prelude.{unwrap_or}
@@ -95,20 +95,6 @@ HasNoFlit-more links wires place link at empty before = λ other is.
           let last : eqb link other ≡ true = sym (rw apart at more) ∙ is in
           ap (flit_on wires) (sym (eqb-true link other last)) ∙ empty
     ]
-
--- Where all these wires are empty, no flit is taken in.
-flits-none : (links : List ℕ) (wires : List (Option Flit))
-    → ((place link : ℕ) → slice_get links place ≡ Some link → flit_on wires link ≡ None)
-    → map (flit_on wires) links ≡ replicate (length links) None
-flits-none [] wires empty = refl
-flits-none (link ∷ links) wires empty =
-    rw (empty 0 link refl, flits-none links wires (λ place. empty (suc place))) refl
-
-pub HasNoFlit-map : (links : List ℕ) (wires : List (Option Flit))
-    → HasNoFlit (is_among links) wires
-    → map (flit_on wires) links ≡ replicate (length links) None
-HasNoFlit-map links wires empty =
-    flits-none links wires (λ place link at. empty link (is_among-at links place link at))
 
 -- One link more is driven.
 pub Drives-more : (links : List ℕ) (flit_on : ℕ → Option Flit) (place link : ℕ)

@@ -17,7 +17,7 @@ use Rattle.aeth_router.proofs.LinkLemmas.{AreLinks-numbers_from, is_among-at}
 use Rattle.aeth_router.proofs.LinkLemmas.{passes-from_is_among}
 
 -- What is among images is the image of one of the numbers.
-map-is_among : (change : ℕ → ℕ) (numbers : List ℕ) (image : ℕ)
+pub map-is_among : (change : ℕ → ℕ) (numbers : List ℕ) (image : ℕ)
     → is_among (map change numbers) image ≡ true
     → (number : ℕ) × (is_among numbers number ≡ true) × (change number ≡ image)
 map-is_among change [] image is = absurd (cc is)

@@ -32,4 +32,10 @@ pub mod RowFilters
 pub mod RunningCycles
 pub mod SessionCycles
 pub mod SessionTold
+pub mod StillCycles
+pub mod StillEvents
+pub mod StillGoings
+pub mod StillRows
+pub mod StillTakes
+pub mod StillWires
 pub mod Untils

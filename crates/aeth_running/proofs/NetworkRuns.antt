@@ -25,15 +25,15 @@ use Rattle.aeth_running.proofs.FabricSessions.{goes-first, ordered, past_of, ses
 use Rattle.aeth_running.proofs.FirstNetworks.{first-plays}
 use Rattle.aeth_running.proofs.GoingSessions.{GoesNow, goes-now}
 use Rattle.aeth_running.proofs.NetworkLaws.{BeginningLaws, CycleLaws}
-use Rattle.aeth_running.proofs.NetworkSteps.{Plays, plays-on}
+use Rattle.aeth_running.proofs.NetworkSteps.{Plays, plays-on, then-prepares}
 use Rattle.aeth_running.proofs.Played.{played-time}
 use Rattle.aeth_stimuli.specs.Stimuli.{goings_over}
 use Rattle.aeth_events.specs.Events.{events_in}
-use Rattle.aeth_running.specs.Network.{first_network, played, stepped}
+use Rattle.aeth_running.specs.Network.{NetworkState, first_network, played, ready_in, stepped}
 use Rattle.aeth_stimuli.specs.Loaded.{loaded_components}
 use Rattle.aeth_stimuli.specs.OnChip.{HaveRooms, IsOver}
-use Rattle.aeth_running.specs.Running.{IsRunning}
-use Rattle.aeth_stimuli.specs.Sessions.{IsBefore, as_going, first_of, going_of}
+use Rattle.aeth_running.specs.Running.{IsRunning, IsServing}
+use Rattle.aeth_stimuli.specs.Sessions.{IsBefore, as_going, channel_of, first_of, going_of}
 use Rattle.aeth_stimuli.specs.Stimuli.{AreStimuli, stimuli_of}
 
 module _ (begin : BeginningLaws) (laws : CycleLaws)
@@ -121,3 +121,28 @@ module _ (begin : BeginningLaws) (laws : CycleLaws)
       → IsRunning inputs t (played t (first_network inputs)).components
   running t within = subst (λ (n : ℕ). IsRunning inputs n (played t (first_network inputs)).components)
       (played-time inputs t) (plays-by t within).running
+
+  -- And once they are ready for a cycle they serve the sessions in use.
+  serving-at : (network : NetworkState) → Plays inputs network → network.time < inputs.cycles
+      → IsServing inputs network.time network.components (ready_in network)
+  serving-at network plays early =
+      let prepares = then-prepares inputs laws ok accepted.pulls.order accepted.cycles
+      (words-placed inputs accepted) (values-placed inputs accepted)
+      (stimuli-are inputs accepted).lanes (ordered inputs apart)
+      (goes-first inputs accepted (spans inputs accepted) ok) goes (events-are inputs accepted)
+      network plays early in
+      record {
+        handed = plays.running.handed;
+        prepares = prepares;
+        follows = laws.prepared (fabric_of inputs) ok (channel_of inputs) network.time
+            plays.running.handed network.components (ready_in network) plays.running.runs prepares;
+      }
+
+  pub serving : (t : ℕ) → t < inputs.cycles
+      → let all = played t (first_network inputs) in
+      IsServing inputs t all.components (ready_in all)
+  serving t early =
+      let all = played t (first_network inputs) in
+      let time = played-time inputs t in
+      subst (λ (n : ℕ). IsServing inputs n all.components (ready_in all)) time
+      (serving-at all (plays-by t (omega (arith, early))) (omega (arith, time, early)))

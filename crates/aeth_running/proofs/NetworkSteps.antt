@@ -112,7 +112,7 @@ module _ (inputs : Inputs) (laws : CycleLaws) (ok : IsAccepted (fabric_of inputs
     readies channel known = ready inputs t channel early order (goes t early channel known) network
         plays.stimuli_are refl (plays.channels channel known)
 
-    then-prepares : Prepares (fabric_of inputs) (channel_of inputs) t network.components
+    pub then-prepares : Prepares (fabric_of inputs) (channel_of inputs) t network.components
         (ready_in network)
     then-prepares =
         let words = sym plays.running.words in

@@ -1,4 +1,6 @@
 pub mod FirstLog
+pub mod Idle
 pub mod Network
 pub mod Running
+pub mod Still
 pub mod Told

@@ -3,6 +3,7 @@
 --   IsLatest      a session that went, and was not followed yet on its channel
 --   IsLastOf, HasLast      a channel has what a log tells of its session
 --   IsRunning      what holds of the components before a cycle
+--   IsServing      what holds of them once they are ready for it
 -- This project's own.
 use Rattle.std.specs.Prelude.{◌≡◌, ◌≤◌, ◌<◌, ℕ, ◌+◌, ◌*◌, min, Some, length, slice_get}
 use Rattle.aeth_server.specs.PrivateServer.{landed, taken}
@@ -12,7 +13,8 @@ use Rattle.aeth_refinement.specs.Fabric.{server_at}
 use Rattle.aeth_accepted.specs.Inputs.{Inputs}
 use Rattle.aeth_fabric.specs.Fabric.{fabric_of}
 use Rattle.aeth_schedule.specs.Values.{values_of}
-use Rattle.aeth_invariant.specs.Running.{Runs}
+use Rattle.aeth_invariant.specs.Following.{Follows}
+use Rattle.aeth_invariant.specs.Running.{Prepares, Runs}
 use Rattle.aeth_invariant.specs.Telling.{CountsFlits, HasTold, NotesLandings}
 use Rattle.aeth_stimuli.specs.Loaded.{loaded_components}
 use Rattle.aeth_stimuli.specs.Sessions.{channel_of, first_of}
@@ -54,3 +56,10 @@ module _ (inputs : Inputs) where
     pub notes : NotesLandings (fabric_of inputs) (first_of inputs) t all
     pub told : (c : ℕ) → IsLatest t c → HasTold (fabric_of inputs) (channel_of inputs) t c all
     pub last : (c : ℕ) → IsLatest t c → HasLast t c all
+
+  -- The components before cycle t, and once they are ready for it: they are prepared, and follow the
+  -- private servers.
+  pub record IsServing (t : ℕ) (old ready : ComponentsState) : Type 0 where
+    pub handed : ℕ → ℕ
+    pub prepares : Prepares (fabric_of inputs) (channel_of inputs) t old ready
+    pub follows : Follows (fabric_of inputs) (channel_of inputs) t t handed ready

@@ -1,11 +1,13 @@
 //! What holds of the network of accepted inputs, over the definitions alone.
-ghost use Rattle.std.specs.Prelude.{◌≡◌, ℕ, Some, length, ◌≤◌, ◌<◌, ◌+◌, ◌-◌, None};
+ghost use Rattle.std.specs.Prelude.{◌≡◌, ℕ, Some, length, ◌≤◌, ◌<◌, ◌+◌, ◌-◌, ◌↔◌, None};
 ghost use Rattle.aeth_refinement.specs.Fabric.{AtRouter, Owns, flow_at, server_at};
 ghost use Rattle.aeth_refinement.specs.Carried.{IsPassed, words_from};
 ghost use Rattle.aeth_accepted.specs.Inputs.{AreAccepted, Inputs, run_of};
 ghost use Rattle.aeth_fabric.specs.Fabric.{fabric_of};
-ghost use Rattle.aeth_running.specs.Network.{first_network, played};
-ghost use Rattle.aeth_running.specs.Running.{IsRunning};
+ghost use Rattle.aeth_running.specs.Idle.{IsIdle};
+ghost use Rattle.aeth_running.specs.Network.{first_network, played, ready_in};
+ghost use Rattle.aeth_running.specs.Running.{IsRunning, IsServing};
+ghost use Rattle.aeth_running.specs.Still.{IsStill};
 ghost use Rattle.aeth_running.specs.Told.{network_log};
 ghost use Rattle.aeth_report.specs.RunLog.{log_of};
 ghost use Rattle.std.specs.Option.{option_to_list};
@@ -40,6 +42,44 @@ pub fn networks_run()
     aeth_invariant::laws::flits_are_counted();
     aeth_invariant::laws::sessions_are_told();
     aeth_invariant::laws::landings_are_noted();
+}
+
+/// Once it is ready for a cycle each session in use has its channel, with the counts of its private server, and
+/// no other channel is open.
+pub fn networks_serve()
+    ensures { (inputs : Inputs) → AreAccepted inputs → (t : ℕ) → t < inputs.cycles
+        → let all = played t (first_network inputs) in
+        IsServing inputs t all.components (ready_in all) }
+{
+    aeth_stimuli::laws::chips_begin();
+    aeth_stimuli::laws::sessions_go();
+    aeth_stimuli::laws::sessions_are_apart();
+    aeth_stimuli::laws::words_are_placed();
+    aeth_events::laws::fabrics_are_over_chips();
+    aeth_events::laws::events_are_events();
+    aeth_events::laws::stimuli_are_stimuli();
+    aeth_tables::laws::switches();
+    aeth_fabric::laws::runs_have_fabrics();
+    aeth_invariant::laws::runs_begin();
+    aeth_invariant::laws::components_are_prepared();
+    aeth_invariant::laws::cycles_are_cycles();
+    aeth_invariant::laws::cycles_keep_running();
+    aeth_invariant::laws::flits_are_counted();
+    aeth_invariant::laws::sessions_are_told();
+    aeth_invariant::laws::landings_are_noted();
+}
+
+/// The cycles of a run that leave its network as it is, but for sessions that go in cycle 0 and for how
+/// receivers take, are its idle cycles.
+pub fn idle_cycles_are_still()
+    ensures { (inputs : Inputs) → AreAccepted inputs → (t : ℕ) → t < inputs.cycles
+        → IsStill (played t (first_network inputs)) ↔ IsIdle (run_of inputs) t }
+{
+    networks_run();
+    networks_serve();
+    networks_carry();
+    aeth_fabric::laws::runs_have_fabrics();
+    aeth_tables::laws::switches();
 }
 
 /// The wires of the network of accepted inputs carry in each cycle what the run of the private servers

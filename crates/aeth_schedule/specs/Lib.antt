@@ -7,3 +7,4 @@ pub mod Switching
 pub mod Tasks
 pub mod Timed
 pub mod Values
+pub mod Windows

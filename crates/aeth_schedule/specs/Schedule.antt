@@ -2,19 +2,22 @@
 -- This project's own.
 use Rattle.std.specs.Prelude.{ℕ, List, map}
 use Rattle.aeth_components.specs.declared.event.Event.{Event}
-use Rattle.aeth_accepted.specs.Inputs.{Inputs}
+use Rattle.aeth_accepted.specs.Inputs.{Inputs, run_of}
 use Rattle.aeth_schedule.specs.Goings.{goings_of}
 use Rattle.aeth_schedule.specs.Rooms.{rooms_of}
 use Rattle.aeth_schedule.specs.Switching.{loaded_of, timed_of}
+use Rattle.aeth_schedule.specs.Windows.{windows_over}
 use Rattle.aeth_schedule.specs.declared.going.Going.{Going}
+use Rattle.aeth_schedule.specs.declared.windows.Window.{Window}
 
 -- What is written before the first cycle, the events and the cycle of each, the sessions in the order
--- in which they go, and the rooms of all receive queues.
+-- in which they go, the windows of all switches, and the rooms of all receive queues.
 pub record ScheduleData : Type 0 where
   pub loaded : List Event
   pub events : List Event
   pub cycles : List ℕ
   pub goings : List Going
+  pub windows : List Window
   pub rooms : List ℕ
 
 -- The schedule of a run.
@@ -24,5 +27,6 @@ schedule_of inputs = record {
   events = map (λ one. one.event) (timed_of inputs);
   cycles = map (λ one. one.cycle) (timed_of inputs);
   goings = goings_of inputs;
+  windows = windows_over (run_of inputs).spans inputs.switches;
   rooms = rooms_of inputs;
 }

@@ -10,7 +10,9 @@ mod schedule;
 mod switching;
 mod task;
 mod timed;
+mod windows;
 
 pub use going::Going;
 pub use placing::{number_of, values};
 pub use schedule::Schedule;
+pub use windows::Window;

@@ -11,6 +11,7 @@ use crate::placing::starts;
 use crate::rooms::rooms_of;
 use crate::switching::{TimedEvents, loaded_of, timed_events};
 use crate::task::Task;
+use crate::windows::{Window, windows_of};
 use aeth_accepted::RunInputs;
 use aeth_base::{NoMemory, UseId};
 use aeth_components::Event;
@@ -25,6 +26,7 @@ pub struct Schedule {
     loaded: Vec<Event>,
     timed: TimedEvents,
     goings: Vec<Going>,
+    windows: Vec<Window>,
     rooms: Vec<u32>,
 }
 
@@ -39,6 +41,7 @@ impl Model for Schedule {
       events = schedule.timed.events.items;
       cycles = schedule.timed.cycles.items;
       goings = schedule.goings.items;
+      windows = schedule.windows.items;
       rooms = schedule.rooms.items;
     } };
 
@@ -95,6 +98,13 @@ impl Schedule {
         &self.goings
     }
 
+    /// The windows of all switches, in their order.
+    pub fn windows(&self) -> &[Window]
+        ensures { result.now ≡ self.now.windows }
+    {
+        &self.windows
+    }
+
     /// The cycles of all events, which don't fall.
     pub fn cycles(&self) -> &[u32]
         ensures { result.now ≡ self.now.cycles }
@@ -123,6 +133,7 @@ fn made(alloc: Global, inputs: &RunInputs, task: &Task) -> Result<Schedule, NoMe
         loaded: loaded_of(alloc, task.all, rows)?,
         timed: timed_events(alloc, task, rows)?,
         goings: goings_of(alloc, task, rows)?,
+        windows: windows_of(alloc, task, rows)?,
         rooms: rooms_of(alloc, inputs.chip(), task.all)?,
     })
 }

@@ -1,7 +1,8 @@
 // The network whose flits go by their headers.
 
-ghost use Rattle.std.specs.Prelude.{◌≡◌, ◌<◌, ◌-◌, IfOk, length};
+ghost use Rattle.std.specs.Prelude.{◌≡◌, ◌≤◌, ◌<◌, ◌+◌, ◌-◌, ◌*◌, IfOk, length};
 ghost use Rattle.aeth_group.specs.Members.{groups_of};
+ghost use Rattle.aeth_components.specs.Turns.{flits_on};
 ghost use Rattle.aeth_report.specs.RunLog.{log_of};
 ghost use Rattle.aeth_accepted.specs.Inputs.{AreAccepted, Inputs, run_of};
 ghost use Rattle.aeth_running.specs.Network.{first_network, played, stepped};
@@ -10,7 +11,7 @@ ghost use Rattle.aeth_network.specs.Runs.{AreWiresOf, IsNetworkOf};
 
 use aeth_accepted::RunInputs;
 use aeth_app::App;
-use aeth_base::NoMemory;
+use aeth_base::{NoMemory, Steps};
 use aeth_chip::Chip;
 use aeth_clocked::{Order, Wires};
 use aeth_group::Groups;
@@ -20,6 +21,7 @@ use aeth_report::SimLog;
 use aeth_trace::{Receivers, Switches, Words};
 use std::alloc::Global;
 use std::marker::Model;
+use std::sync::ledger::Ledger;
 
 /// A network with what its run is given, in which each flit goes by its header: its components, how its
 /// channels stood before each session that has gone, and the log, of which nothing has landed. It is
@@ -129,6 +131,21 @@ impl Network {
             → IsNetworkOf inputs self.new }
     {
         self.routed.cycle(order);
+    }
+
+    /// The same, which counts the steps of components: each that drives or latches. All others rest, so
+    /// there are at most two for each wire that had a flit before, and two for each that has one behind.
+    pub fn cycle_counted<L: Ledger>(&mut self, order: &Order, steps: &mut Steps<L>)
+        requires order { length order.now ≡ length self.old.components.parts }
+        requires time { self.old.time < self.old.log.cycles }
+        ensures steps { self.new ≡ stepped self.old }
+        ensures parts { length self.new.components.parts ≡ length self.old.components.parts }
+        ensures run { (inputs : Inputs) → IsNetworkOf inputs self.old
+            → IsNetworkOf inputs self.new }
+        ensures counted { steps.new ≤ steps.old + 2 * flits_on self.old.components.wires
+            + 2 * flits_on self.new.components.wires }
+    {
+        self.routed.cycle_counted(order, steps);
     }
 
     /// The log of the cycles that are done. Of a network of accepted inputs that has done all their

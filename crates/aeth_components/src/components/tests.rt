@@ -1,5 +1,5 @@
 // What no clause says: that words land where flits bring them, in their worked cycles.
-ghost use Rattle.std.specs.Prelude.{◌≡◌, ◌≤◌, IfSome, Some, length, slice_get};
+ghost use Rattle.std.specs.Prelude.{◌≡◌, ◌≤◌, IfSome, None, Some, length, replicate, slice_get};
 ghost use Rattle.aeth_base.specs.Limits.{max_cycles};
 ghost use Rattle.aeth_components.specs.Components.{frames_of};
 ghost use Rattle.aeth_components.specs.Frames.{RouterFrame, frame_of};
@@ -88,19 +88,18 @@ fn pair_of(alloc: Global, chip: &Chip) -> Option<Components>
 fn play(pair: &mut Components, order: &Order, from: u32, to: u32)
     requires order { length order.now ≡ length pair.old.parts }
     requires few { to ≤ max_cycles }
-    ensures size { length pair.new.parts ≡ length pair.old.parts }
-    ensures frames { frames_of pair.new ≡ frames_of pair.old }
+    ensures { frames_of pair.new ≡ frames_of pair.old }
 {
     for cycle in from..to {
         pair.step(order, cycle, &[]);
     }
 }
 
-// A router in place of one with the same wires.
+// A router that holds nothing in place of one with the same wires.
 fn replace_router(pair: &mut Components, number: usize, router: Router)
-    requires { slice_get (frames_of pair.old) number
+    requires frame { slice_get (frames_of pair.old) number
         ≡ Some (RouterFrame router.incoming router.outgoing) }
-    ensures { length pair.new.parts ≡ length pair.old.parts }
+    requires none { router.held ≡ replicate (length router.incoming) None }
 {
     pair.parts[number] = Part::Router(router);
 }
@@ -114,25 +113,62 @@ fn words_in(pair: Components) -> [Option<u32>; 4] {
     }
 }
 
-// The words that were received after 20 cycles. Before cycle 5 the router `r0` is put back to a fresh
-// one, and so loses the flit that it holds.
-fn received(alloc: Global) -> Option<[Option<u32>; 4]> {
-    let chip = read_chip(alloc, PAIR.as_bytes()).ok()?;
+// The pair goes through cycles, unless there is no memory for an order.
+fn played(alloc: Global, pair: &mut Components, from: u32, to: u32) -> bool
+    requires { to ≤ max_cycles }
+    ensures { frames_of pair.new ≡ frames_of pair.old }
+{
+    let Ok(order) = Order::rotation(alloc, 4, 0) else {
+        return false;
+    };
+    if pair.len() != 4 {
+        return false;
+    }
+    play(pair, &order, from, to);
+    true
+}
+
+// The router `r0` is put back to a fresh one, and so loses the flit that it holds.
+fn lose(alloc: Global, chip: &Chip, pair: &mut Components) -> bool
+    requires { slice_get (frames_of pair.old) 2 ≡ Some (frame_of (made_router chip.now 0)) }
+{
+    match Router::new(alloc, chip, RouterId(0)) {
+        Ok(router) => {
+            replace_router(pair, 2, router);
+            true
+        }
+        Err(_) => false,
+    }
+}
+
+// 20 cycles. Before cycle 5 a flit is lost.
+fn carry(alloc: Global, chip: &Chip, pair: &mut Components) -> bool
+    requires { slice_get (frames_of pair.old) 2 ≡ Some (frame_of (made_router chip.now 0)) }
+{
+    if !played(alloc, pair, 0, 5) {
+        return false;
+    }
+    if !lose(alloc, chip, pair) {
+        return false;
+    }
+    played(alloc, pair, 5, 20)
+}
+
+// The words that were received after these.
+fn received_on(alloc: Global, chip: &Chip) -> Option<[Option<u32>; 4]> {
     if chip.nis() != 2 || chip.routers() != 2 || chip.slots() != 8 {
         return None;
     }
-    let mut pair = pair_of(alloc, &chip)?;
-    let Ok(order) = Order::rotation(alloc, 4, 0) else {
-        return None;
-    };
-    if pair.len() != 4 {
-        return None;
+    let mut pair = pair_of(alloc, chip)?;
+    if carry(alloc, chip, &mut pair) {
+        return Some(words_in(pair));
     }
-    play(&mut pair, &order, 0, 5);
-    let router = Router::new(alloc, &chip, RouterId(0)).ok()?;
-    replace_router(&mut pair, 2, router);
-    play(&mut pair, &order, 5, 20);
-    Some(words_in(pair))
+    None
+}
+
+fn received(alloc: Global) -> Option<[Option<u32>; 4]> {
+    let chip = read_chip(alloc, PAIR.as_bytes()).ok()?;
+    received_on(alloc, &chip)
 }
 
 // The two words of the lost flit, which are the first two, don't land: the receive queue has the

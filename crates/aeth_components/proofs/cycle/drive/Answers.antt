@@ -1,4 +1,6 @@
-use Rattle.std.proofs.Common.{◌∙◌, ap, length, map, subst}
+use Rattle.std.proofs.Common.{◌≡◌, ◌+◌, ◌∙◌, ap, arith, length, List, map, subst, take, ℕ}
+use Rattle.std.proofs.lemmas.List.{length-map}
+use Rattle.aeth_clocked.specs.Order.{AreChosen}
 use Rattle.aeth_clocked.specs.Wires.{Drives}
 use Rattle.aeth_clocked.proofs.WiresLemmas.{Drives-whole}
 use Rattle.aeth_clocked.specs.Driven.{driven, is_output}
@@ -6,33 +8,102 @@ use Rattle.aeth_router.specs.Part.{emit_of, outputs_of}
 use Rattle.aeth_components.proofs.cycle.drive.Goals as goal
 use Rattle.aeth_components.proofs.FrameLemmas.{AreDisjoint-parts, AreLinks-outputs, frames-after}
 use Rattle.aeth_components.proofs.FrameLemmas.{is_output-parts}
+use Rattle.aeth_components.proofs.HalvesLemmas.{few-drive, held-drive, rests-drive, unmarked-drive}
+use Rattle.aeth_components.proofs.HoldingLemmas.{holdings-after}
+use Rattle.aeth_components.proofs.ReadyLemmas.{HaveDriven-from}
+use Rattle.aeth_components.proofs.SendingLemmas.{sending-few}
 use Rattle.aeth_components.specs.Frames.{frame_of}
+use Rattle.aeth_components.specs.Resting.{holding_of, left_held}
+use Rattle.aeth_components.specs.Turns.{flits_on, marked_of, marks_below}
+use Rattle.aeth_components.specs.declared.ends.Ends.{Ends}
 
 -- Outputs are wires.
-pub drive_all-requires-clause-links : goal.drive_all-requires-clause-links
-drive_all-requires-clause-links c =
+pub drive_some-requires-clause-links : goal.drive_some-requires-clause-links
+drive_some-requires-clause-links g c =
     AreLinks-outputs c.args.parts.now (length c.args.wires.now) c.requires.wired
 
 -- Each is one component's.
-pub drive_all-requires-clause-disjoint : goal.drive_all-requires-clause-disjoint
-drive_all-requires-clause-disjoint c =
+pub drive_some-requires-clause-disjoint : goal.drive_some-requires-clause-disjoint
+drive_some-requires-clause-disjoint g c =
     AreDisjoint-parts c.args.parts.now (length c.args.wires.now) c.requires.wired
 
 -- Each wire is one.
 pub returns-clause-wires : goal.returns-clause-wires
-returns-clause-wires c =
+returns-clause-wires g c =
     let parts = c.args.parts.now in
     Drives-whole (is_output outputs_of parts) (driven outputs_of emit_of parts c.args.cycle)
-    c.args.wires.now c.drive_all.new.wires
+    c.args.wires.now c.drive_some.new.wires
     (is_output-parts parts (length c.args.wires.now) c.requires.wired)
     (subst (λ n. Drives (is_output outputs_of parts) (driven outputs_of emit_of parts n)
-    c.args.wires.now c.drive_all.new.wires) c.from.ensures c.drive_all.ensures.wires)
+    c.args.wires.now c.drive_some.new.wires) c.from.ensures c.drive_some.ensures.wires)
 
 -- The frames stay.
 pub returns-clause-frames : goal.returns-clause-frames
-returns-clause-frames c =
-    ap (map frame_of) c.drive_all.ensures.parts ∙ frames-after c.args.parts.now c.from.result
+returns-clause-frames g c =
+    ap (map frame_of) c.drive_some.ensures.parts ∙ frames-after c.args.parts.now c.from.result
 
 -- So do the wires.
 pub returns-clause-count : goal.returns-clause-count
-returns-clause-count c = c.drive_all.ensures.wires.links
+returns-clause-count g c = c.drive_some.ensures.wires.links
+
+-- The numbers of components are listed.
+pub drive_some-requires-clause-chosen : goal.drive_some-requires-clause-chosen
+drive_some-requires-clause-chosen g c =
+    let turns = c.list_drive-count.new.self in
+    let lists = c.list_drive-count.ensures.listed in
+    rw c.deref.ensures.value
+    (subst (λ n. AreChosen n (take c.list_drive-count.result turns.numbers.items))
+    (c.requires.ready.ends.count ∙ length-map c.args.parts.now frame_of) lists.lists.listed.chosen)
+
+-- What isn't listed rests.
+pub drive_some-requires-clause-rest : goal.drive_some-requires-clause-rest
+drive_some-requires-clause-rest g c =
+    let turns = c.list_drive-count.new.self in
+    let lists = c.list_drive-count.ensures.listed in
+    let ready = c.requires.ready in
+    rw (c.from.ensures, c.deref.ensures.value)
+    (rests-drive c.args.parts.now c.args.wires.now c.args.turns.now.ends ready.ends c.args.cycle
+    lists.marked turns.marks (take c.list_drive-count.result turns.numbers.items) ready.hold
+    lists.marks lists.lists)
+
+-- What is held behind it.
+pub returns-clause-driven : goal.returns-clause-driven
+returns-clause-driven g c =
+    let lists = c.list_drive-count.ensures.listed in
+    let ready = c.requires.ready in
+    let parts = c.args.parts.now in
+    let wires = c.args.wires.now in
+    let ends = c.args.turns.now.ends in
+    let new = c.list_drive-count.new.self.marks in
+    let list = take c.list_drive-count.result c.list_drive-count.new.self.numbers.items in
+    HaveDriven-from (map frame_of parts) (map frame_of c.drive_some.new.parts)
+    (map left_held (map holding_of parts)) (map holding_of c.drive_some.new.parts) (length wires)
+    (length c.drive_some.new.wires) ends c.list_drive-count.new.self (returns-clause-frames g c)
+    (ap (map holding_of) c.drive_some.ensures.parts ∙ holdings-after c.from.result parts)
+    c.drive_some.ensures.wires.links c.list_drive-count.ensures.ends ready.ends
+    c.list_drive-count.ensures.room
+    (unmarked-drive parts wires ends ready.ends c.args.cycle lists.marked new list ready.hold
+    lists.marks lists.lists)
+    (held-drive parts wires ends ready.ends c.args.cycle lists.marked new list ready.hold lists.marks
+    lists.lists)
+
+-- And how many steps it takes.
+pub returns-clause-steps : goal.returns-clause-steps
+returns-clause-steps g c =
+    let lists = c.list_drive-count.ensures.listed in
+    let ready = c.requires.ready in
+    let few = few-drive c.args.parts.now c.args.wires.now c.args.turns.now.ends ready.ends
+    c.args.cycle lists.marked c.list_drive-count.new.self.marks
+    (take c.list_drive-count.result c.list_drive-count.new.self.numbers.items) ready.hold lists.marks
+    lists.lists in
+    let sending = sending-few c.args.cycle (length c.args.wires.now) c.args.parts.now
+    c.requires.wired in
+    let wires = ap flits_on (returns-clause-wires g c) in
+    let list = ap (λ (numbers : List ℕ). length (take c.list_drive-count.result numbers))
+    c.deref.ensures.value in
+    let marked : marked_of c.list_drive-count.new.self
+    ≡ marks_below c.list_drive-count.new.self.marks
+    (c.args.turns.now.ends.parts + c.args.turns.now.ends.parts) =
+    ap (λ (ends : Ends). marks_below c.list_drive-count.new.self.marks (ends.parts + ends.parts))
+    c.list_drive-count.ensures.ends in
+    omega (arith, few, sending, wires, list, marked, c.drive_some.ensures.steps)

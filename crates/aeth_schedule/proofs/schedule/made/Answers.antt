@@ -18,6 +18,12 @@ timed_events-requires c =
     rw (c.rows-rows.ensures, c.switches.ensures, c.requires.groups)
     (rows-are inputs c.are_accepted.ensures).known
 
+pub windows_of-requires : goal.windows_of-requires
+windows_of-requires c =
+    let inputs = c.args.inputs.now in
+    rw (c.rows-rows.ensures, c.switches.ensures, c.requires.groups)
+    (rows-are inputs c.are_accepted.ensures).known
+
 pub goings_of-requires : goal.goings_of-requires
 goings_of-requires c =
     let inputs = c.args.inputs.now in
@@ -41,6 +47,7 @@ returns c =
       c.in_ok-timed_events.ensures.events,
       c.in_ok-timed_events.ensures.cycles,
       c.in_ok-goings_of.ensures,
+      c.in_ok-windows_of.ensures,
       c.in_ok-rooms_of.ensures,
       c.rows-rows.ensures,
       c.switches.ensures,

@@ -1,8 +1,10 @@
 use Rattle.aeth_chip.proofs.WireLemmas.{have_delays, wires_of-split}
-use Rattle.std.proofs.Common.{◌≡◌, ◌∙◌, List, None, arith, ap, length, map, subst, sym}
+use Rattle.std.proofs.Common.{◌≡◌, ◌∙◌, List, None, Option, arith, ap, length, map, replicate}
+use Rattle.std.proofs.Common.{subst, sym}
 use Rattle.std.specs.List.{All}
 use Rattle.std.proofs.lemmas.List.{length-replicate}
 use Rattle.aeth_chip.specs.Wires.{wires_of}
+use Rattle.aeth_clocked.specs.declared.flit.Flit.{Flit}
 use Rattle.aeth_router.specs.declared.part.Part.{Part}
 use Rattle.aeth_components.proofs.components.Components.new.Goals as goal
 use Rattle.aeth_components.proofs.MadeLemmas.{IsWired-new, length-new_parts}
@@ -11,6 +13,8 @@ use Rattle.aeth_components.specs.Components.{IsComponents, components_of}
 use Rattle.aeth_components.specs.Frames.{IsWired, frame_of}
 use Rattle.aeth_components.specs.Lanes.{IsLane}
 use Rattle.aeth_components.specs.Making.{new_parts}
+use Rattle.aeth_components.specs.Resting.{holding_of}
+use Rattle.aeth_components.specs.Turns.{AreReady}
 
 -- The components are wired by the chip's wires.
 pub invariant_of-result : goal.invariant_of-result
@@ -22,30 +26,38 @@ invariant_of-result c =
     let wires : length c.in_ok-wires.wires ≡ wires_of chip.links =
     ap length c.in_ok-wires.ensures ∙ length-replicate c.wires.result None ∙ c.wires.ensures.wires
     in
-    subst (λ (channels : ChannelsState). IsComponents (components_of c.in_ok-parts.parts.items
-    c.in_ok-wires.wires channels.lanes channels.words c.in_ok-landings.landings.items
-    c.in_ok-flits.flits.items)) (sym c.in_ok-channels.ensures)
-    (record {
-      wired = subst (λ (parts : List Part). IsWired (map frame_of parts)
-          (length c.in_ok-wires.wires)) (sym made)
-          (subst (IsWired (map frame_of (new_parts chip rooms))) (sym wires)
-          (IsWired-new chip c.slots.ensures.chip rooms));
-      lanes = subst (λ n. All (IsLane words n) c.args.lanes.items)
-          (sym (ap length made ∙ length-new_parts chip rooms)) c.requires.lanes;
-      landings = (
-          let size = c.in_ok-landings.ensures.len in
-          let own = c.in_ok-landings.landings.ok.0 in
-          let given = c.args.words.ok.0 in
-          let count = c.len.ensures in
-          omega arith);
-      flits = (
-          let size = c.in_ok-flits.ensures.len in
-          let own = c.in_ok-flits.flits.ok.0 in
-          let count = c.links.ensures.links in
-          let split = wires_of-split chip.links (have_delays chip c.slots.ensures.chip) in
-          omega arith);
-      few = (
-          let size = c.in_ok-flits.ensures.len in
-          let own = c.in_ok-flits.flits.ok.0 in
-          omega arith);
-    })
+    let wires_are : c.in_ok-wires.wires ≡ replicate (wires_of chip.links) None =
+    c.in_ok-wires.ensures ∙ ap (λ n. replicate n None) c.wires.ensures.wires in (
+      subst (λ (channels : ChannelsState). IsComponents (components_of c.in_ok-parts.parts.items
+          c.in_ok-wires.wires channels.lanes channels.words c.in_ok-landings.landings.items
+          c.in_ok-flits.flits.items)) (sym c.in_ok-channels.ensures)
+          (record {
+            wired = subst (λ (parts : List Part). IsWired (map frame_of parts)
+                (length c.in_ok-wires.wires)) (sym made)
+                (subst (IsWired (map frame_of (new_parts chip rooms))) (sym wires)
+                (IsWired-new chip c.slots.ensures.chip rooms));
+            lanes = subst (λ n. All (IsLane words n) c.args.lanes.items)
+                (sym (ap length made ∙ length-new_parts chip rooms)) c.requires.lanes;
+            landings = (
+                let size = c.in_ok-landings.ensures.len in
+                let own = c.in_ok-landings.landings.ok.0 in
+                let given = c.args.words.ok.0 in
+                let count = c.len.ensures in
+                omega arith);
+            flits = (
+                let size = c.in_ok-flits.ensures.len in
+                let own = c.in_ok-flits.flits.ok.0 in
+                let count = c.links.ensures.links in
+                let split = wires_of-split chip.links (have_delays chip c.slots.ensures.chip) in
+                omega arith);
+            few = (
+                let size = c.in_ok-flits.ensures.len in
+                let own = c.in_ok-flits.flits.ok.0 in
+                omega arith);
+          }),
+      subst (λ (parts : List Part). AreReady (map frame_of parts) (map holding_of parts)
+          c.in_ok-wires.wires c.in_ok-turns.turns) (sym made)
+          (subst (λ (wires : List (Option Flit)). AreReady (map frame_of (new_parts chip rooms))
+          (map holding_of (new_parts chip rooms)) wires c.in_ok-turns.turns) (sym wires_are)
+          (c.in_ok-turns.ensures rooms)),
+    )

@@ -1,19 +1,36 @@
-use Rattle.std.proofs.Common.{List, ap, length, subst, sym, ◌∙◌}
+use Rattle.std.proofs.Common.{◌≡◌, ◌++◌, ◌∙◌, List, ap, drop, length, map, subst, sym, take}
 use Rattle.aeth_router.specs.declared.part.Part.{Part}
 use Rattle.aeth_components.proofs.components.Components.prepare.Goals as goal
 use Rattle.aeth_components.proofs.CycleLemmas.{IsComponents-switched}
+use Rattle.aeth_components.proofs.HoldingLemmas.{holdings-switched}
+use Rattle.aeth_components.proofs.PartLemmas.{frames-switched}
+use Rattle.aeth_components.proofs.ReadyLemmas.{AreReady-same}
 use Rattle.aeth_base.proofs.Lists.{written_back}
 use Rattle.aeth_components.specs.Changes.{switched}
 use Rattle.aeth_components.specs.Components.{IsComponents, components_of}
+use Rattle.aeth_components.specs.Frames.{frame_of}
+use Rattle.aeth_components.specs.Resting.{holding_of}
+use Rattle.aeth_components.specs.Turns.{AreReady}
 
 -- What holds of components still holds.
 pub invariant_of-self : goal.invariant_of-self
 invariant_of-self c =
     let all = c.self.inside in
-    subst (λ (parts : List Part). IsComponents (components_of parts all.wires all.channels.lanes
-    all.channels.words all.landings.items all.flits.items))
-    (sym (written_back all.parts.items c.switch.new.parts all.parts.len all.parts.ok.0
+    let events = c.args.events.now in
+    let parts : take all.parts.len (c.switch.new.parts
+    ++ drop (length c.switch.new.parts) all.parts.items) ≡ switched events all.parts.items =
+    written_back all.parts.items c.switch.new.parts all.parts.len all.parts.ok.0
     (c.switch.auto.parts ∙ ap length c.deref_mut.ensures.value)
-    ∙ c.switch.ensures.parts ∙ ap (switched c.args.events.now) c.deref_mut.ensures.value))
-    (IsComponents-switched c.args.events.now (components_of all.parts.items all.wires
-    all.channels.lanes all.channels.words all.landings.items all.flits.items) c.self.invariant)
+    ∙ c.switch.ensures.parts ∙ ap (switched events) c.deref_mut.ensures.value in (
+      subst (λ (parts : List Part). IsComponents (components_of parts all.wires all.channels.lanes
+          all.channels.words all.landings.items all.flits.items)) (sym parts)
+          (IsComponents-switched events (components_of all.parts.items all.wires all.channels.lanes
+          all.channels.words all.landings.items all.flits.items) c.self.invariant.0),
+      subst (λ (parts : List Part). AreReady (map frame_of parts) (map holding_of parts) all.wires
+          all.turns) (sym parts)
+          (AreReady-same (map frame_of all.parts.items)
+          (map frame_of (switched events all.parts.items)) (map holding_of all.parts.items)
+          (map holding_of (switched events all.parts.items)) all.wires all.turns
+          (frames-switched events all.parts.items) (holdings-switched events all.parts.items)
+          c.self.invariant.1),
+    )

@@ -1,0 +1,105 @@
+-- Before the first cycle: the ends of a chip's wires, and that its components hold nothing.
+use Rattle.std.proofs.Common.{ℕ, ◌≡◌, ◌<◌, ◌≤◌, ◌+◌, ◌∙◌, refl, sym, ap, arith, subst}
+use Rattle.std.proofs.Common.{List, length, map, None, Option, replicate, true, false}
+use Rattle.std.specs.List.{All}
+use Rattle.std.proofs.lemmas.List.{length-map, length-replicate}
+use Rattle.aeth_chip.specs.Chip.{ChipData, IsChip}
+use Rattle.aeth_chip.specs.Wires.{wires_of}
+use Rattle.aeth_clocked.specs.declared.flit.Flit.{Flit}
+use Rattle.aeth_router.specs.Router.{entering_wires}
+use Rattle.aeth_router.specs.declared.part.Part.{Part}
+use Rattle.aeth_components.specs.Components.{part_count}
+use Rattle.aeth_components.specs.Ends.{AreEnds, AreEndsOf, is_interface}
+use Rattle.aeth_components.specs.Frames.{frame_of}
+use Rattle.aeth_components.specs.Making.{new_parts}
+use Rattle.aeth_components.specs.Resting.{HasPlaces, HoldNoMore, HoldsNone, holding_of}
+use Rattle.aeth_components.specs.Turns.{AreReady, AreUnmarked, HasRoom}
+use Rattle.aeth_components.specs.declared.ends.Ends.{Ends}
+use Rattle.aeth_components.specs.declared.turns.Turns.{Turns}
+use Rattle.aeth_components.proofs.EndLemmas.{IsAtEnds-receivers, IsAtEnds-senders}
+use Rattle.aeth_components.proofs.FrameLemmas.{from-map}
+use Rattle.aeth_components.proofs.MadeLemmas.{Made, IsInterface, IsRouter, IsStage, length-new_parts}
+use Rattle.aeth_components.proofs.MadeLemmas.{made-at, part-at}
+
+module _ (chip : ChipData) (rooms : List ℕ) where
+  -- The interfaces are the first components.
+  made-first : (i : ℕ) (part : Part) → Made chip rooms i part → i < length chip.nis
+      → is_interface (frame_of part) ≡ true
+  made-first i part (IsInterface within is) less = rw is refl
+  made-first i part (IsRouter r within place is) less = absurd (omega (arith, place, less))
+  made-first i part (IsStage k few place stage) less = absurd (omega (arith, place, less))
+
+  made-others : (i : ℕ) (part : Part) → Made chip rooms i part → length chip.nis ≤ i
+      → is_interface (frame_of part) ≡ false
+  made-others i part (IsInterface within is) over = absurd (omega (arith, within, over))
+  made-others i part (IsRouter r within place is) over = rw is refl
+  made-others i part (IsStage k few place stage) over = rw stage.is refl
+
+  -- A component that was just made holds nothing.
+  made-places : (i : ℕ) (part : Part) → Made chip rooms i part → HasPlaces (holding_of part)
+  made-places i part (IsInterface within is) = rw is tt
+  made-places i part (IsRouter r within place is) =
+      rw is (length-replicate (length (entering_wires (record { 0 = r }) chip.links)) None)
+  made-places i part (IsStage k few place stage) = rw stage.is tt
+
+  made-none : (i : ℕ) (part : Part) → Made chip rooms i part → HoldsNone (holding_of part)
+  made-none i part (IsInterface within is) = rw is refl
+  made-none i part (IsRouter r within place is) =
+      rw is (ap (λ n. replicate n None)
+      (sym (length-replicate (length (entering_wires (record { 0 = r }) chip.links)) None)))
+  made-none i part (IsStage k few place stage) = rw stage.is refl
+
+  HoldNoMore-new : (wires : List (Option Flit))
+      → HoldNoMore wires (map holding_of (new_parts chip rooms))
+  HoldNoMore-new wires = record {
+    places = λ i holding at.
+        let found = from-map holding_of (new_parts chip rooms) i holding at in
+        rw found.2 (made-places i found.0 (part-at chip rooms i found.0 found.1));
+    none = λ i holding at empty.
+        let found = from-map holding_of (new_parts chip rooms) i holding at in
+        rw found.2 (made-none i found.0 (part-at chip rooms i found.0 found.1));
+  }
+
+module _ (chip : ChipData) (is_chip : IsChip chip) (rooms : List ℕ) where
+  AreEnds-new : (ends : Ends) → AreEndsOf chip ends
+      → AreEnds (map frame_of (new_parts chip rooms)) (wires_of chip.links) ends
+  AreEnds-new ends are =
+      let parts = are.parts in
+      let interfaces = are.interfaces in
+      let few = are.few_parts in
+      let below = λ (list : List ℕ) (all : All (λ number. number < part_count chip) list).
+      subst (λ n. All (λ number. number < n) list) (sym parts) all in
+      record {
+        fits = record {
+          senders = are.senders.size;
+          receivers = are.receivers.size;
+          senders_below = below ends.senders.items are.senders.below;
+          receivers_below = below ends.receivers.items are.receivers.below;
+          interfaces = omega (arith, parts, interfaces);
+          few_wires = are.few_wires;
+          few_parts = omega (arith, parts, few);
+        };
+        count = parts ∙ sym (length-map (new_parts chip rooms) frame_of
+            ∙ length-new_parts chip rooms);
+        sends = IsAtEnds-senders chip is_chip rooms ends.senders.items are.senders;
+        receives = IsAtEnds-receivers chip is_chip rooms ends.receivers.items are.receivers;
+        first = λ i frame at less.
+            let made = made-at chip is_chip rooms i frame at in
+            rw made.2 (made-first chip rooms i made.0 made.1 (omega (arith, less, interfaces)));
+        others = λ i frame at over.
+            let made = made-at chip is_chip rooms i frame at in
+            rw made.2 (made-others chip rooms i made.0 made.1 (omega (arith, over, interfaces)));
+      }
+
+  -- Nothing is marked, and nothing is held.
+  pub AreReady-new : (turns : Turns) → AreEndsOf chip turns.ends → HasRoom turns
+      → AreUnmarked (turns.ends.parts + turns.ends.parts) turns.marks
+      → AreReady (map frame_of (new_parts chip rooms)) (map holding_of (new_parts chip rooms))
+      (replicate (wires_of chip.links) None) turns
+  AreReady-new turns are room none = record {
+    ends = subst (λ n. AreEnds (map frame_of (new_parts chip rooms)) n turns.ends)
+        (sym (length-replicate (wires_of chip.links) None)) (AreEnds-new turns.ends are);
+    room = room;
+    unmarked = none;
+    hold = HoldNoMore-new chip rooms (replicate (wires_of chip.links) None);
+  }

@@ -1,0 +1,164 @@
+-- What holds of the components that take a turn from one phase of a cycle to the next.
+use Rattle.std.proofs.Common.{ℕ, ◌≡◌, ◌<◌, ◌+◌, ◌==◌, ◌∙◌, refl, sym, ap, arith, subst, inl, inr}
+use Rattle.std.proofs.Common.{IsPermutation, List, length, length-set, map, Option, slice_get, Some}
+use Rattle.std.specs.Prelude.{◌⊎◌, slice_set}
+use Rattle.std.specs.Cmp.{nat_eq_equiv}
+use Rattle.std.proofs.lemmas.Bool.{cases_eq}
+use Rattle.std.proofs.lemmas.List.Sorted.{All-permutation, length_permutation, list_any-IsPermutation}
+use Rattle.std.proofs.lemmas.Map.Keys.{IsDistinct-IsPermutation}
+use Rattle.std.proofs.lemmas.Option.{same_Some, slice_get_within}
+use Rattle.aeth_base.proofs.Lists.{slice_get-slice_set_other, slice_get-slice_set_same}
+use Rattle.aeth_clocked.specs.declared.flit.Flit.{Flit}
+use Rattle.aeth_router.specs.declared.part.Part.{Part}
+use Rattle.aeth_components.specs.Ends.{AreEnds}
+use Rattle.aeth_components.specs.Frames.{Frame, frame_of}
+use Rattle.aeth_components.specs.Resting.{HasPlaces, HoldNoMore, HoldUnlessMarked, Holding, HoldsNone}
+use Rattle.aeth_components.specs.Resting.{holding_of}
+use Rattle.aeth_components.specs.Turns.{AreReady, AreUnmarked, HasRoom, HaveDriven, Lists}
+use Rattle.aeth_components.specs.Turns.{marks_below}
+use Rattle.aeth_components.specs.declared.ends.Ends.{Ends}
+use Rattle.aeth_components.specs.declared.turns.Turns.{Turns}
+use Rattle.aeth_components.proofs.CycleLemmas.{frames-slice_set}
+use Rattle.aeth_components.proofs.FrameLemmas.{from-map}
+use Rattle.aeth_components.proofs.UnlistedLemmas.{seen-at}
+
+-- With the same frames and as much held the components are as ready.
+pub AreReady-same : (frames others : List Frame) (holdings held : List Holding)
+    (wires : List (Option Flit)) (turns : Turns) → others ≡ frames → held ≡ holdings
+    → AreReady frames holdings wires turns → AreReady others held wires turns
+AreReady-same frames others holdings held wires turns framed holds ready =
+    subst (λ (list : List Holding). AreReady others list wires turns) (sym holds)
+    (subst (λ (list : List Frame). AreReady list holdings wires turns) (sym framed) ready)
+
+pub HaveDriven-same : (frames others : List Frame) (holdings held : List Holding)
+    (wires : ℕ) (turns : Turns) → others ≡ frames → held ≡ holdings
+    → HaveDriven frames holdings wires turns → HaveDriven others held wires turns
+HaveDriven-same frames others holdings held wires turns framed holds driven =
+    subst (λ (list : List Holding). HaveDriven others list wires turns) (sym holds)
+    (subst (λ (list : List Frame). HaveDriven list holdings wires turns) (sym framed) driven)
+
+-- The ends of the wires between components with the same frames, and as many wires.
+AreEnds-same : (frames others : List Frame) (wires count : ℕ) (ends now : Ends) → others ≡ frames
+    → count ≡ wires → now ≡ ends → AreEnds frames wires ends → AreEnds others count now
+AreEnds-same frames others wires count ends now framed counted is are =
+    subst (λ (list : List Frame). AreEnds list count now) (sym framed)
+    (subst (λ n. AreEnds frames n now) (sym counted) (subst (AreEnds frames wires) (sym is) are))
+
+-- What holds behind the drive.
+pub HaveDriven-from : (frames others : List Frame) (holdings held : List Holding) (wires count : ℕ)
+    (ends : Ends) (now : Turns) → others ≡ frames → held ≡ holdings → count ≡ wires
+    → now.ends ≡ ends → AreEnds frames wires ends → HasRoom now
+    → AreUnmarked ends.parts now.marks → HoldUnlessMarked now.marks ends.parts holdings
+    → HaveDriven others held count now
+HaveDriven-from frames others holdings held wires count ends now framed holds counted is are room
+    unmarked hold =
+    record {
+      ends = AreEnds-same frames others wires count ends now.ends framed counted is are;
+      room = room;
+      unmarked = subst (λ (ends : Ends). AreUnmarked ends.parts now.marks) (sym is) unmarked;
+      hold = subst (λ (ends : Ends). HoldUnlessMarked now.marks ends.parts held) (sym is)
+          (subst (HoldUnlessMarked now.marks ends.parts) (sym holds) hold);
+    }
+
+-- What holds behind the latch.
+pub AreReady-from : (frames others : List Frame) (held : List Holding) (wires : List (Option Flit))
+    (ends : Ends) (now : Turns) → others ≡ frames → now.ends ≡ ends
+    → AreEnds frames (length wires) ends → HasRoom now
+    → AreUnmarked (ends.parts + ends.parts) now.marks → HoldNoMore wires held
+    → AreReady others held wires now
+AreReady-from frames others held wires ends now framed is are room unmarked hold = record {
+  ends = AreEnds-same frames others (length wires) (length wires) ends now.ends framed refl is are;
+  room = room;
+  unmarked = subst (λ (ends : Ends). AreUnmarked (ends.parts + ends.parts) now.marks) (sym is)
+      unmarked;
+  hold = hold;
+}
+
+-- The component with which turns begin says nothing else.
+pub AreReady-begun : (frames : List Frame) (holdings : List Holding) (wires : List (Option Flit))
+    (turns : Turns) (turn : ℕ) → AreReady frames holdings wires turns
+    → AreReady frames holdings wires (record turns { turn = turn })
+AreReady-begun frames holdings wires turns turn ready = record {
+  ends = ready.ends;
+  room = record { marks = ready.room.marks; numbers = ready.room.numbers };
+  unmarked = ready.unmarked;
+  hold = ready.hold;
+}
+
+-- A list in another order lists the same numbers.
+pub Lists-round : (first count : ℕ) (old new numbers others : List ℕ)
+    → IsPermutation numbers others → Lists first count old new numbers
+    → Lists first count old new others
+Lists-round first count old new numbers others moved lists =
+    let listed = lists.listed in
+    record {
+      listed = record {
+        chosen = record {
+          distinct = IsDistinct-IsPermutation (λ number other. number == other) nat_eq_equiv.symm
+              numbers others moved listed.chosen.distinct;
+          below = All-permutation (λ number. number < count) numbers others moved
+              listed.chosen.below;
+        };
+        all = λ number below bit.
+            sym (list_any-IsPermutation (λ other. other == number) numbers others moved)
+            ∙ listed.all number below bit;
+        few = ap (λ n. n + marks_below old first) (length_permutation numbers others moved)
+            ∙ listed.few;
+      };
+      unmarked = lists.unmarked;
+      away = lists.away;
+    }
+
+-- Where one component has come in place of another, each is that one or as before.
+replaced-at : (parts : List Part) (number : ℕ) (part : Part) (i : ℕ) (now : Part)
+    → slice_get (slice_set parts number part) i ≡ Some now
+    → (now ≡ part) ⊎ (slice_get parts i ≡ Some now)
+replaced-at parts number part i now at =
+    elim (cases_eq i number) [
+      | inl same ↦
+          let within = slice_get_within (slice_set parts number part) i now at in
+          let size = length-set parts number part in
+          inl (same_Some now part (sym at ∙ ap (slice_get (slice_set parts number part)) same
+          ∙ slice_get-slice_set_same parts number part (omega (arith, within, size, same))))
+      | inr other ↦ inr (sym (slice_get-slice_set_other parts number i part other) ∙ at)
+    ]
+
+-- A component that holds nothing, in place of another one.
+HoldNoMore-replaced : (wires : List (Option Flit)) (parts : List Part) (number : ℕ) (part : Part)
+    → HasPlaces (holding_of part) → HoldsNone (holding_of part)
+    → HoldNoMore wires (map holding_of parts)
+    → HoldNoMore wires (map holding_of (slice_set parts number part))
+HoldNoMore-replaced wires parts number part places none hold =
+    let now = slice_set parts number part in
+    record {
+      places = λ i holding at.
+          let found = from-map holding_of now i holding at in
+          elim (replaced-at parts number part i found.0 found.1) [
+            | inl same ↦ rw (found.2, same) places
+            | inr kept ↦
+                rw found.2 (hold.places i (holding_of found.0)
+                (seen-at holding_of parts i found.0 kept))
+          ];
+      none = λ i holding at empty.
+          let found = from-map holding_of now i holding at in
+          elim (replaced-at parts number part i found.0 found.1) [
+            | inl same ↦ rw (found.2, same) none
+            | inr kept ↦
+                rw found.2 (hold.none i (holding_of found.0)
+                (seen-at holding_of parts i found.0 kept) (rw found.2 at empty))
+          ];
+    }
+
+pub AreReady-replaced : (number : ℕ) (part : Part) (parts : List Part) (wires : List (Option Flit))
+    (turns : Turns) → slice_get (map frame_of parts) number ≡ Some (frame_of part)
+    → HasPlaces (holding_of part) → HoldsNone (holding_of part)
+    → AreReady (map frame_of parts) (map holding_of parts) wires turns
+    → AreReady (map frame_of (slice_set parts number part))
+    (map holding_of (slice_set parts number part)) wires turns
+AreReady-replaced number part parts wires turns at places none ready = record {
+  ends = subst (λ (list : List Frame). AreEnds list (length wires) turns.ends)
+      (sym (frames-slice_set parts number part at)) ready.ends;
+  room = ready.room;
+  unmarked = ready.unmarked;
+  hold = HoldNoMore-replaced wires parts number part places none ready.hold;
+}

@@ -1,0 +1,41 @@
+-- Cycles of a run in which nothing happens.
+--
+--   FallsOn      a cycle in which a switch does something
+--   IsIdle      a cycle in which no link carries a flit, no word is offered or taken, and no switch does
+--               anything
+-- This project's own.
+use Rattle.std.specs.Prelude.{◌≡◌, ◌<◌, ◌+◌, ℕ, [], Contains}
+use Rattle.aeth_base.specs.declared.ids.Channel.{Channel}
+use Rattle.aeth_base.specs.declared.ids.LinkId.{LinkId}
+use Rattle.aeth_chip.specs.Paths.{delay_of}
+use Rattle.aeth_server.specs.PrivateServer.{taken}
+use Rattle.aeth_trace.specs.Spans.{SpanData}
+use Rattle.aeth_trace.specs.declared.words.WordRow.{WordRow}
+use Rattle.aeth_report.specs.Carries.{carries}
+use Rattle.aeth_report.specs.Flows.{Run, server_of, sessions_in}
+use Rattle.aeth_report.specs.Sessions.{Switch, close_by, go_by}
+use Rattle.aeth_report.specs.declared.session.Session.{Session}
+use Rattle.aeth_schedule.specs.Switching.{later_switches}
+use Rattle.aeth_schedule.specs.Windows.{IsCycleOf}
+
+-- In a cycle a switch stops words or channels, or has finished these, writes, or lets others go.
+abbrev pub FallsOn : SpanData → Switch → ℕ → Type 0
+FallsOn spans switch t =
+    let close = close_by spans switch in
+    IsCycleOf close.until close.stop close.fin (go_by spans switch) t
+
+-- Nothing happens in a cycle of a run: no link has a flit on its way, as the cycle begins or in it, no
+-- word is offered, no receiver takes a word, and no switch does anything. The first row of switches is
+-- none: it loads its use case before cycle 0.
+pub record IsIdle (run : Run) (t : ℕ) : Type 0 where
+  pub now : (link : LinkId) (j u : ℕ) → j < delay_of run.design.chip.links link → u + j ≡ t
+      → carries run link.0 u ≡ []
+  pub before : (link : LinkId) (j u : ℕ) → j < delay_of run.design.chip.links link → u + j + 1 ≡ t
+      → carries run link.0 u ≡ []
+  pub unoffered : (row : WordRow) → Contains run.words row → row.cycle ≡ t → ⊥
+  pub untaken : (channel : Channel) (session : Session)
+      → channel.conn.0 < run.design.groups.connections
+      → Contains (sessions_in run channel.conn.0) session
+      → taken (server_of run channel session) (t + 1) ≡ taken (server_of run channel session) t
+  pub unswitched : (switch : Switch) → Contains (later_switches run.switches) switch
+      → FallsOn run.spans switch t → ⊥

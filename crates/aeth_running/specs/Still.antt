@@ -1,0 +1,23 @@
+-- Networks that the next cycle leaves as they are.
+-- This project's own.
+use Rattle.std.specs.Prelude.{◌≡◌, ◌<◌, ℕ, true, [], None, Some, All, slice_get}
+use Rattle.aeth_clocked.specs.Wires.{flit_on}
+use Rattle.aeth_components.specs.Lanes.{is_open}
+use Rattle.aeth_components.specs.Phases.{asked_of}
+use Rattle.aeth_components.specs.declared.lane.Lane.{Lane}
+use Rattle.aeth_schedule.specs.Windows.{IsWithin}
+use Rattle.aeth_events.specs.Events.{events_in}
+use Rattle.aeth_running.specs.Network.{NetworkState, goings_in, offers_in, ready_in, stepped}
+
+-- The next cycle leaves a network as it is, but for sessions that go in cycle 0 and for how receivers
+-- take: no wire has a flit, before it and behind it, no word is offered, no later session goes, no event
+-- is done, no open channel has a word that its receiver takes, and the cycle is in no switch's window.
+pub record IsStill (all : NetworkState) : Type 0 where
+  pub empty : (l : ℕ) → flit_on all.components.wires l ≡ None
+  pub silent : (l : ℕ) → flit_on (stepped all).components.wires l ≡ None
+  pub unoffered : offers_in all.stimuli all.time ≡ []
+  pub ungone : 0 < all.time → goings_in all.stimuli all.time ≡ []
+  pub eventless : events_in all.stimuli all.time ≡ []
+  pub unasked : (number : ℕ) (lane : Lane) → slice_get (ready_in all).lanes number ≡ Some lane
+      → is_open lane all.time ≡ true → asked_of lane ≡ 0
+  pub unswitched : All (λ window. IsWithin window all.time → ⊥) all.stimuli.schedule.windows
