@@ -5,8 +5,8 @@ use Rattle.aeth_trace.specs.declared.switches.SwitchRow.{SwitchRow}
 use Rattle.aeth_reconf.specs.Timeline.{timeline_of}
 use Rattle.aeth_report.specs.Design.{Design}
 use Rattle.aeth_audit.specs.Audit.{audit_of}
-use Rattle.aeth_audit.specs.declared.audit.Audit.{Audit}
-use Rattle.aeth_audit.specs.declared.audit.Audit.TheVariants.{Clean, Fault}
+use Rattle.aeth_audit.specs.declared.verdict.Audit.{Audit}
+use Rattle.aeth_audit.specs.declared.verdict.Audit.TheVariants.{Clean, Fault}
 use Rattle.aeth_audit.specs.declared.row.LinkRow.{LinkRow}
 use Rattle.aeth_log_tests.specs.Designs.{one_design, one_spans, slow_design, two_design, two_spans}
 use Rattle.aeth_log_tests.specs.Traces.{switch}

@@ -1,0 +1,4 @@
+mod WordLemmas
+mod WorkLemmas
+mod RuleLemmas
+mod ShapeLemmas

@@ -1,0 +1,5 @@
+pub mod Limits
+pub mod Fault
+pub mod ItemNames
+pub mod ChainItems
+pub mod Shapes

@@ -1,0 +1,6 @@
+mod Lists
+mod EntryLaws
+mod HopLaws
+mod RowLaws
+mod RouterPorts
+pub mod TableLaws

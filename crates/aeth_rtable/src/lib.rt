@@ -1,0 +1,11 @@
+//! The tables of routers that look a table up, in a use case by an accepted plan, and their text.
+#![tactic(auto)]
+
+mod hops;
+pub mod laws;
+mod lines;
+mod printing;
+mod rows;
+
+pub use printing::route_text;
+pub use rows::{RouterRow, router_rows};
