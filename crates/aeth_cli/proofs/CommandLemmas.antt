@@ -7,18 +7,23 @@ use Rattle.std.specs.Str.{bytes_eq}
 use Rattle.aeth_base.specs.Limits.{max_cycles, max_path_delay, max_slots, min_path_links}
 use Rattle.aeth_base.specs.Name.{name_of}
 use Rattle.aeth_answers.specs.Words.{file_name_of, number_within, slot_set_of}
+use Rattle.aeth_chain_items.specs.ItemNames.{item_names_of}
 use Rattle.aeth_demo.specs.Limits.{max_demo_number}
 use Rattle.aeth_answers.proofs.Reading.{number_within-bounds}
 use Rattle.aeth_cli.specs.declared.commands.Command.{Command}
 use Rattle.aeth_cli.specs.declared.commands.Command.TheVariants as command
-use Rattle.aeth_cli.specs.declared.traces.RunFiles.{RunFiles}
+use Rattle.aeth_files.specs.declared.runs.RunFiles.{RunFiles}
 use Rattle.aeth_cli.specs.Limits.{max_gap}
 use Rattle.aeth_cli.specs.Commands.{command_of}
 use Rattle.aeth_cli.specs.Commands.Allocate.{allocate_command}
 use Rattle.aeth_cli.specs.Commands.App.{app_command}
+use Rattle.aeth_cli.specs.Commands.Audit.{audit_command}
+use Rattle.aeth_cli.specs.Commands.Chain.{chain_command}
 use Rattle.aeth_cli.specs.Commands.Check.{check_command}
 use Rattle.aeth_cli.specs.Commands.Chip.{chip_command}
 use Rattle.aeth_cli.specs.Commands.Demo.{demo_command}
+use Rattle.aeth_cli.specs.Commands.Explain.{explain_command}
+use Rattle.aeth_cli.specs.Commands.RouteTables.{route_tables_command}
 use Rattle.aeth_cli.specs.Commands.Server.{server_command}
 use Rattle.aeth_cli.specs.Commands.Simulate.{simulate_command, turn_of}
 use Rattle.aeth_cli.specs.Commands.Slots.{slots_command}
@@ -88,6 +93,18 @@ check_short (chip ∷ app ∷ plan ∷ []) =
     tt {0})))
 check_short words = tt
 
+explain_short : (words : List (List ℕ)) → IsShort (explain_command words)
+explain_short (chip ∷ app ∷ []) =
+    short_then (file_name_of chip) _ (λ _ _.
+    short_then (file_name_of app) _ (λ _ _.
+    tt {0}))
+explain_short (chip ∷ app ∷ cert ∷ []) =
+    short_then (file_name_of chip) _ (λ _ _.
+    short_then (file_name_of app) _ (λ _ _.
+    short_then (file_name_of cert) _ (λ _ _.
+    tt {0})))
+explain_short words = tt
+
 tables_short : (words : List (List ℕ)) → IsShort (tables_command words)
 tables_short (chip ∷ app ∷ plan ∷ name ∷ []) =
     short_then (file_name_of chip) _ (λ _ _.
@@ -96,6 +113,39 @@ tables_short (chip ∷ app ∷ plan ∷ name ∷ []) =
     short_then (name_of name) _ (λ _ _.
     tt {0}))))
 tables_short words = tt
+
+route_tables_short : (words : List (List ℕ)) → IsShort (route_tables_command words)
+route_tables_short (chip ∷ app ∷ plan ∷ name ∷ []) =
+    short_then (file_name_of chip) _ (λ _ _.
+    short_then (file_name_of app) _ (λ _ _.
+    short_then (file_name_of plan) _ (λ _ _.
+    short_then (name_of name) _ (λ _ _.
+    tt {0}))))
+route_tables_short words = tt
+
+audit_short : (words : List (List ℕ)) → IsShort (audit_command words)
+audit_short (chip ∷ app ∷ plan ∷ switches ∷ log ∷ cycles ∷ []) =
+    short_then (file_name_of chip) _ (λ _ _.
+    short_then (file_name_of app) _ (λ _ _.
+    short_then (file_name_of plan) _ (λ _ _.
+    short_then (file_name_of switches) _ (λ _ _.
+    short_then (file_name_of log) _ (λ _ _.
+    short_then (number_within 1 max_cycles cycles) _ (λ _ _.
+    tt {0}))))))
+audit_short words = tt
+
+chain_short : (words : List (List ℕ)) → IsShort (chain_command words)
+chain_short (chip ∷ app ∷ plan ∷ name ∷ items ∷ words ∷ receivers ∷ cycles ∷ []) =
+    short_then (file_name_of chip) _ (λ _ _.
+    short_then (file_name_of app) _ (λ _ _.
+    short_then (file_name_of plan) _ (λ _ _.
+    short_then (file_name_of words) _ (λ _ _.
+    short_then (file_name_of receivers) _ (λ _ _.
+    short_then (name_of name) _ (λ _ _.
+    short_then (item_names_of items) _ (λ _ _.
+    short_then (number_within 1 max_cycles cycles) _ (λ _ _.
+    tt {0}))))))))
+chain_short words = tt
 
 demo_short : (words : List (List ℕ)) → IsShort (demo_command words)
 demo_short (number ∷ []) =
@@ -126,9 +176,13 @@ command_short (name ∷ words) =
     short_if (bytes_eq name (codes "app")) _ _ (app_short words) (
     short_if (bytes_eq name (codes "allocate")) _ _ (allocate_short words) (
     short_if (bytes_eq name (codes "check")) _ _ (check_short words) (
+    short_if (bytes_eq name (codes "explain")) _ _ (explain_short words) (
     short_if (bytes_eq name (codes "tables")) _ _ (tables_short words) (
+    short_if (bytes_eq name (codes "route-tables")) _ _ (route_tables_short words) (
     short_if (bytes_eq name (codes "simulate")) _ _ (simulate_short words) (
-    short_if (bytes_eq name (codes "demo")) _ _ (demo_short words) (tt {0})))))))))
+    short_if (bytes_eq name (codes "audit")) _ _ (audit_short words) (
+    short_if (bytes_eq name (codes "chain")) _ _ (chain_short words) (
+    short_if (bytes_eq name (codes "demo")) _ _ (demo_short words) (tt {0})))))))))))))
 
 pub simulate-cycles : (words : List (List ℕ)) (files : RunFiles) (cycles turn : ℕ)
     → command_of words ≡ Some (command.Simulate files cycles turn) → cycles ≤ max_cycles

@@ -1,8 +1,8 @@
 mod AllocationLemmas
+mod AuditJobs
 mod CommandLemmas
 mod DemoLemmas
-mod DesignLemmas
 mod PromiseLemmas
-mod RunLemmas
 mod ToldLemmas
-mod TraceLemmas
+mod VerdictJobs
+mod ExplainLemmas

@@ -1,7 +1,5 @@
 pub mod Commands
-pub mod Files
 pub mod Limits
-pub mod Plans
+pub mod PlannedUses
 pub mod Promise
 pub mod Told
-pub mod Uses

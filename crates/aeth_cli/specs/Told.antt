@@ -1,18 +1,15 @@
 -- What jobs stand on: values that files of the shelf told.
 --
---   IsTold      a file's bytes, which aren't too many, tell a value
 --   IsSimulated      a job is that of accepted inputs that the files told
 --   IsAllocated      a job is the allocation of a chip and an application that the files told
 -- This project's own.
-use Rattle.std.specs.Prelude.{ℕ, ◌≡◌, ◌≤◌, List, length, Option, Some, Result, Ok}
+use Rattle.std.specs.Prelude.{ℕ, ◌≡◌, List, Option}
 use Rattle.aeth_accepted.specs.Inputs.{AreAccepted, Inputs}
 use Rattle.aeth_app.specs.App.{AppData, IsApp, IsAppOf}
 use Rattle.aeth_app.specs.AppFile.{app_of}
-use Rattle.aeth_base.specs.Faults.{BrokenRule}
 use Rattle.aeth_chip.specs.Chip.{ChipData, IsChip}
 use Rattle.aeth_chip.specs.ChipFile.{chip_of}
 use Rattle.aeth_group.specs.Members.{groups_of}
-use Rattle.aeth_io.specs.Limits.{max_file_bytes}
 use Rattle.aeth_plan.specs.PlanText.{plan_of}
 use Rattle.aeth_report.specs.Log.{LogData}
 use Rattle.aeth_tables.specs.Switching.{spans_of}
@@ -20,17 +17,10 @@ use Rattle.aeth_trace.specs.Receivers.{receivers_of}
 use Rattle.aeth_trace.specs.Switches.{switches_of}
 use Rattle.aeth_trace.specs.Words.{words_of}
 use Rattle.aeth_answers.specs.Job.{Job}
-use Rattle.aeth_cli.specs.declared.traces.RunFiles.{RunFiles}
+use Rattle.aeth_files.specs.declared.runs.RunFiles.{RunFiles}
+use Rattle.aeth_files.specs.Told.{IsTold}
 use Rattle.aeth_cli.specs.Commands.Allocate.{allocate_job}
 use Rattle.aeth_cli.specs.Commands.Simulate.{simulation_job}
-
--- The shelf tells the bytes of this name, they aren't too many, and they tell this value.
-pub record IsTold {A : Type 0} (content : List ℕ → Option (List ℕ)) (name : List ℕ)
-    (told_by : List ℕ → Result A BrokenRule) (value : A) : Type 0 where
-  pub bytes : List ℕ
-  pub held : content name ≡ Some bytes
-  pub short : length bytes ≤ max_file_bytes
-  pub told : told_by bytes ≡ Ok value
 
 -- The job is that of accepted inputs, each of which its file told.
 pub record IsSimulated (outcome : Inputs → LogData) (content : List ℕ → Option (List ℕ))

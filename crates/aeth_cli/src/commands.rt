@@ -1,22 +1,30 @@
 // The commands, and what each answers.
 ghost use Rattle.aeth_answers.specs.Places.{IsAfter, files_of};
 ghost use Rattle.aeth_cli.specs.Commands.{AnswersWords, HasRanges, IsAnswerTo, command_of};
+ghost use Rattle.aeth_cli.specs.Commands.{run_command_of};
 ghost use Rattle.aeth_io.specs.Causes.{IsFaultless};
 ghost use Rattle.std.specs.Prelude.{◌≡◌, IfOk, IfSome, OnErr, map, string_bytes};
 
 mod allocate;
 mod app;
+mod audit;
+mod chain;
 mod check;
 mod chip;
 mod demo;
+mod explain;
+mod route_tables;
 mod server;
 mod simulate;
 mod slots;
 mod tables;
 
-use crate::traces::RunFiles;
+use crate::commands::audit::AuditFiles;
+use crate::commands::chain::ChainFiles;
 use aeth_answers::{Answer, FileName, Stop};
 use aeth_base::{Name, NoMemory};
+use aeth_chain_items::ItemNames;
+use aeth_files::RunFiles;
 use aeth_io::Shelf;
 use aeth_machine::Machine;
 use aeth_slots::SlotSet;
@@ -60,8 +68,27 @@ pub enum Command<'a> {
         app: FileName<'a>,
         plan: FileName<'a>,
     },
+    /// `explain CHIP APP`: why channels were refused, by certificates.
+    Explain {
+        chip: FileName<'a>,
+        app: FileName<'a>,
+    },
+    /// `explain CHIP APP CERT`: whether the certificates of a text are complete.
+    Confirm {
+        chip: FileName<'a>,
+        app: FileName<'a>,
+        cert: FileName<'a>,
+    },
     /// `tables CHIP APP PLAN USE`: the tables of the interfaces in the use case of this name.
     Tables {
+        chip: FileName<'a>,
+        app: FileName<'a>,
+        plan: FileName<'a>,
+        name: Name,
+    },
+    /// `route-tables CHIP APP PLAN USE`: the tables of routers that look a table up, in the use case of
+    /// this name.
+    RouteTables {
         chip: FileName<'a>,
         app: FileName<'a>,
         plan: FileName<'a>,
@@ -73,6 +100,20 @@ pub enum Command<'a> {
         files: RunFiles<'a>,
         cycles: u32,
         turn: u32,
+    },
+    /// `audit CHIP APP PLAN SWITCHES LOG CYCLES`: whether each flit of a log of links, in so many
+    /// cycles, is one that the network of the plan may carry there.
+    Audit {
+        files: AuditFiles<'a>,
+        cycles: u32,
+    },
+    /// `chain CHIP APP PLAN USE CHAIN WORDS RECEIVERS CYCLES`: what a run of a chain of forwarding cores, of
+    /// so many cycles, shows in the use case of this name.
+    Chain {
+        files: ChainFiles<'a>,
+        name: Name,
+        items: ItemNames,
+        cycles: u32,
     },
     /// `demo N`: a large run that is made from a number, summed up.
     Demo {
@@ -93,8 +134,22 @@ fn command_of(words: &[String]) -> Option<Command<'_>>
         "app" => app::command(words),
         "allocate" => allocate::command(words),
         "check" => check::command(words),
+        "explain" => explain::command(words),
         "tables" => tables::command(words),
+        "route-tables" => route_tables::command(words),
+        name => run_command_of(name, words),
+    }
+}
+
+/// The command on a run that a name and the words behind it are, if they are one.
+fn run_command_of<'a>(name: &str, words: &'a [String]) -> Option<Command<'a>>
+    ensures command { result ≡ run_command_of name.now (map string_bytes words.now) }
+    ensures ranges { IfSome result HasRanges }
+{
+    match name {
         "simulate" => simulate::command(words),
+        "audit" => audit::command(words),
+        "chain" => chain::command(words),
         "demo" => demo::command(words),
         _ => None,
     }
@@ -139,17 +194,34 @@ fn command_answer<M: Machine, H: Shelf>(
         Command::App { chip, app } => app::answer(alloc, &chip, &app, shelf),
         Command::Allocate { chip, app } => allocate::answer(alloc, &chip, &app, shelf),
         Command::Check { chip, app, plan } => check::answer(alloc, &chip, &app, &plan, shelf),
+        Command::Explain { chip, app } => explain::answer(alloc, &chip, &app, shelf),
+        Command::Confirm { chip, app, cert } => {
+            explain::confirm(alloc, &chip, &app, &cert, shelf)
+        }
         Command::Tables {
             chip,
             app,
             plan,
             name,
         } => tables::answer(alloc, &chip, &app, &plan, &name, shelf),
+        Command::RouteTables {
+            chip,
+            app,
+            plan,
+            name,
+        } => route_tables::answer(alloc, &chip, &app, &plan, &name, shelf),
         Command::Simulate {
             files,
             cycles,
             turn,
         } => simulate::answer::<M, H>(alloc, &files, cycles, turn, shelf),
+        Command::Audit { files, cycles } => audit::answer(alloc, &files, cycles, shelf),
+        Command::Chain {
+            files,
+            name,
+            items,
+            cycles,
+        } => chain::answer(alloc, &files, &name, &items, cycles, shelf),
         Command::Demo { number } => demo::answer::<M>(alloc, number),
     }
 }

@@ -10,7 +10,7 @@ ghost use Rattle.aeth_cli.specs.Commands.Allocate.{allocate_task};
 ghost use Rattle.aeth_cli.specs.Commands.Simulate.{simulate_task};
 ghost use Rattle.aeth_cli.specs.Told.{IsAllocated, IsSimulated};
 ghost use Rattle.aeth_cli.specs.declared.commands.Command.TheVariants as command;
-ghost use Rattle.aeth_cli.specs.declared.traces.RunFiles.{RunFiles};
+ghost use Rattle.aeth_files.specs.declared.runs.RunFiles.{RunFiles};
 ghost use Rattle.aeth_report.specs.Log.{LogData};
 
 /// The words of `simulate` name a number of cycles within the limit.

@@ -2,14 +2,10 @@
 #![tactic(auto)]
 
 mod commands;
-mod designs;
-mod files;
 mod host;
 pub mod laws;
-mod plans;
+mod planned_uses;
 mod program;
-mod traces;
-mod uses;
 
 pub use aeth_answers::Status;
 pub use aeth_demo::{DemoTexts, demo_texts};

@@ -25,7 +25,7 @@ use Rattle.aeth_answers.specs.Status.{refused_status}
 use Rattle.aeth_answers.specs.Task.{job_with}
 use Rattle.aeth_cli.specs.declared.commands.Command.{Command}
 use Rattle.aeth_cli.specs.declared.commands.Command.TheVariants as command
-use Rattle.aeth_cli.specs.declared.traces.RunFiles.{RunFiles}
+use Rattle.aeth_files.specs.declared.runs.RunFiles.{RunFiles}
 use Rattle.aeth_cli.specs.Commands.{asked_job, command_of, job, task_of}
 use Rattle.aeth_cli.specs.Commands.Allocate.{allocate_task, outcome_job, refusals_text}
 use Rattle.aeth_cli.specs.Commands.Simulate.{simulate_task}

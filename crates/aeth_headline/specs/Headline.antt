@@ -41,7 +41,7 @@ use Rattle.aeth_answers.specs.Job.{Job}
 use Rattle.aeth_answers.specs.Places.{Places}
 use Rattle.aeth_answers.specs.Status.{done_status, not_granted_status}
 use Rattle.aeth_cli.specs.declared.commands.Command.TheVariants as command
-use Rattle.aeth_cli.specs.declared.traces.RunFiles.{RunFiles}
+use Rattle.aeth_files.specs.declared.runs.RunFiles.{RunFiles}
 use Rattle.aeth_cli.specs.Commands.{command_of, job}
 use Rattle.aeth_cli.specs.Commands.Allocate.{refusals_text}
 use Rattle.aeth_cli.specs.Told.{IsAllocated, IsSimulated}

@@ -10,9 +10,9 @@ use Rattle.aeth_group.specs.Members.{groups_of}
 use Rattle.aeth_plan.specs.PlanText.{plan_text}
 use Rattle.aeth_cli.specs.declared.commands.Command.{Command}
 use Rattle.aeth_cli.specs.declared.commands.Command.TheVariants as command
-use Rattle.aeth_cli.specs.Files.{design_file}
+use Rattle.aeth_files.specs.Files.{design_file}
 use Rattle.aeth_answers.specs.Job.{Job, done, not_granted}
-use Rattle.aeth_cli.specs.Plans.{side_text}
+use Rattle.aeth_files.specs.Plans.{side_text}
 use Rattle.aeth_answers.specs.Task.{Task, ends}
 use Rattle.aeth_answers.specs.Words.{◌>>=◌, file_name_of}
 

@@ -9,7 +9,7 @@ use Rattle.aeth_base.specs.declared.ids.Side.TheVariants.{Fwd, Back}
 use Rattle.aeth_group.specs.Members.{groups_of, units_of}
 use Rattle.aeth_cli.specs.declared.commands.Command.{Command}
 use Rattle.aeth_cli.specs.declared.commands.Command.TheVariants as command
-use Rattle.aeth_cli.specs.Files.{design_file}
+use Rattle.aeth_files.specs.Files.{design_file}
 use Rattle.aeth_answers.specs.Job.{done}
 use Rattle.aeth_answers.specs.Task.{Task, ends}
 use Rattle.aeth_answers.specs.Words.{◌>>=◌, file_name_of}

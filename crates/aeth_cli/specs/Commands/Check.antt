@@ -4,9 +4,9 @@ use Rattle.std.specs.Prelude.{ℕ, List, [], ◌∷◌, Option, Some, None, code
 use Rattle.aeth_playing.specs.declared.inputs.Design.{Design}
 use Rattle.aeth_cli.specs.declared.commands.Command.{Command}
 use Rattle.aeth_cli.specs.declared.commands.Command.TheVariants as command
-use Rattle.aeth_cli.specs.Files.{design_file}
+use Rattle.aeth_files.specs.Files.{design_file}
 use Rattle.aeth_answers.specs.Job.{done}
-use Rattle.aeth_cli.specs.Plans.{accepted_file}
+use Rattle.aeth_files.specs.Plans.{accepted_file}
 use Rattle.aeth_answers.specs.Task.{Task, ends}
 use Rattle.aeth_answers.specs.Words.{◌>>=◌, file_name_of}
 

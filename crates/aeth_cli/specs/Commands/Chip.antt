@@ -5,7 +5,7 @@ use Rattle.aeth_chip.specs.Chip.{ChipData}
 use Rattle.aeth_chip.specs.Summary.{far_of, unreached_of}
 use Rattle.aeth_cli.specs.declared.commands.Command.{Command}
 use Rattle.aeth_cli.specs.declared.commands.Command.TheVariants as command
-use Rattle.aeth_cli.specs.Files.{chip_file}
+use Rattle.aeth_files.specs.Files.{chip_file}
 use Rattle.aeth_answers.specs.Job.{done}
 use Rattle.aeth_answers.specs.Task.{Task, ends}
 use Rattle.aeth_answers.specs.Words.{◌>>=◌, file_name_of}

@@ -4,20 +4,17 @@
 use Rattle.std.specs.Prelude.{ℕ, List, [], ◌∷◌, Option, Some, None}
 use Rattle.aeth_accepted.specs.Inputs.{Inputs}
 use Rattle.aeth_base.specs.Limits.{max_cycles}
-use Rattle.aeth_group.specs.Members.{groups_of}
-use Rattle.aeth_plan.specs.Plan.{PlanData}
 use Rattle.aeth_playing.specs.RunInputs.{inputs_of}
 use Rattle.aeth_playing.specs.declared.inputs.Design.{Design}
 use Rattle.aeth_report.specs.Log.{LogData}
 use Rattle.aeth_report.specs.LogText.{text_of}
-use Rattle.aeth_tables.specs.Switching.{spans_of}
 use Rattle.aeth_cli.specs.declared.commands.Command.{Command}
 use Rattle.aeth_cli.specs.declared.commands.Command.TheVariants as command
-use Rattle.aeth_cli.specs.declared.traces.RunFiles.{RunFiles}
-use Rattle.aeth_cli.specs.Files.{design_file, traces_files}
+use Rattle.aeth_files.specs.declared.runs.RunFiles.{RunFiles}
+use Rattle.aeth_files.specs.Files.{design_file}
+use Rattle.aeth_files.specs.Runs.{run_files}
 use Rattle.aeth_answers.specs.Job.{Job, done}
 use Rattle.aeth_cli.specs.Limits.{max_turn}
-use Rattle.aeth_cli.specs.Plans.{accepted_file}
 use Rattle.aeth_answers.specs.Task.{Task, ends}
 use Rattle.aeth_answers.specs.Words.{◌>>=◌, file_name_of, number_within}
 
@@ -55,20 +52,13 @@ module _ (outcome : Inputs → LogData) where
   abbrev pub simulation_job : Inputs → Job
   simulation_job inputs = done (text_of inputs.app (outcome inputs))
 
-  -- For an accepted plan the traces are read, the switches with the plan's spans, and the run is
-  -- simulated.
-  abbrev pub traces_task : Design → PlanData → RunFiles → ℕ → Task
-  traces_task design plan files cycles =
-      traces_files design.app (spans_of design.chip design.app (groups_of design.app) plan) files
-      (λ traces. ends (simulation_job (inputs_of design plan traces cycles)))
-
-  -- For a chip and an application a plan text is read, and the plan is accepted.
-  abbrev pub planned_task : Design → RunFiles → ℕ → Task
-  planned_task design files cycles =
-      accepted_file design.chip design.app files.plan (λ plan.
-      traces_task design plan files cycles)
+  -- For a chip and an application a plan text and the traces are read, and the run is simulated.
+  abbrev pub run_task : Design → RunFiles → ℕ → Task
+  run_task design files cycles =
+      run_files design files (λ run.
+      ends (simulation_job (inputs_of design run.plan run.traces cycles)))
 
   -- A chip file and an application file are read, then a plan for these, and then the traces.
   abbrev pub simulate_task : RunFiles → ℕ → Task
   simulate_task files cycles =
-      design_file files.chip files.app (λ design. planned_task design files cycles)
+      design_file files.chip files.app (λ design. run_task design files cycles)

@@ -8,13 +8,12 @@ ghost use Rattle.aeth_cli.specs.Commands.Allocate.{refusal_text, refusals_text};
 ghost use Rattle.std.specs.Prelude.{◌≡◌, ◌++◌, IfOk, IfSome, OnOk, map, string_bytes};
 
 use crate::commands::Command;
-use crate::designs::read_design;
-use crate::plans::push_side_of;
 use aeth_alloc::{Refused, allocate};
 use aeth_answers::{Answer, FileName, Stop, ended, push_count};
 use aeth_app::App;
 use aeth_base::NoMemory;
 use aeth_chip::Chip;
+use aeth_files::{push_side_of, read_design};
 use aeth_group::Groups;
 use aeth_io::Shelf;
 use aeth_plan::print;

@@ -10,10 +10,10 @@ ghost use Rattle.std.specs.Prelude.{◌≡◌, ◌<◌, ◌++◌, IfOk, IfSome, 
 ghost use Rattle.std.specs.Prelude.{map, slice_get, string_bytes};
 
 use crate::commands::Command;
-use crate::designs::read_design;
 use aeth_answers::{Answer, FileName, Stop, ended, push_count};
 use aeth_app::App;
 use aeth_base::{Channel, ConnId, NoMemory, Side};
+use aeth_files::read_design;
 use aeth_group::Groups;
 use aeth_io::Shelf;
 use std::alloc::Global;

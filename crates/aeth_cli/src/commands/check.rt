@@ -7,10 +7,9 @@ ghost use Rattle.aeth_cli.specs.Commands.Check.{check_command, check_task, plan_
 ghost use Rattle.std.specs.Prelude.{◌≡◌, IfOk, IfSome, codes, map, string_bytes};
 
 use crate::commands::Command;
-use crate::designs::read_design;
-use crate::plans::read_accepted;
 use aeth_answers::{Answer, FileName, Stop, ended};
 use aeth_base::NoMemory;
+use aeth_files::{read_accepted, read_design};
 use aeth_io::Shelf;
 use aeth_playing::Design;
 use std::alloc::Global;

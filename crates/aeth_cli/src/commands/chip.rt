@@ -7,10 +7,10 @@ ghost use Rattle.aeth_cli.specs.Commands.Chip.{chip_command, chip_task, chip_tex
 ghost use Rattle.std.specs.Prelude.{◌≡◌, IfOk, IfSome, map, string_bytes};
 
 use crate::commands::Command;
-use crate::files::read_chip_file;
 use aeth_answers::{Answer, FileName, Stop, ended, push_count};
 use aeth_base::NoMemory;
 use aeth_chip::{Chip, Distances, Summary};
+use aeth_files::read_chip_file;
 use aeth_io::Shelf;
 use std::alloc::Global;
 

@@ -20,12 +20,12 @@ ghost use Rattle.std.specs.Prelude.{◌≡◌, ◌≤◌, ℕ, [], IfOk, IfSome,
 
 use crate::commands::Command;
 use crate::commands::allocate::refusals;
-use crate::files::{app_in, chip_in, receivers_in, switches_in, words_in};
 use aeth_alloc::{Outcome, allocate};
 use aeth_answers::{Answer, Stop, ended, number_in, push_total};
 use aeth_app::App;
 use aeth_base::NoMemory;
 use aeth_demo::{DEMO_CYCLES, DemoTexts, MAX_DEMO_NUMBER, demo_texts};
+use aeth_files::{app_in, chip_in, receivers_in, switches_in, words_in};
 use aeth_group::Groups;
 use aeth_machine::Machine;
 use aeth_plan::Plan;

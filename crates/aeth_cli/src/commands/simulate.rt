@@ -5,22 +5,19 @@ ghost use Rattle.aeth_answers.specs.Stop.{Answers};
 ghost use Rattle.aeth_app.specs.App.{IsAppOf};
 ghost use Rattle.aeth_base.specs.Limits.{max_cycles};
 ghost use Rattle.aeth_cli.specs.Commands.{HasRanges};
-ghost use Rattle.aeth_cli.specs.Commands.Simulate.{planned_task, simulate_command, simulate_task};
-ghost use Rattle.aeth_cli.specs.Commands.Simulate.{simulation_job, traces_task, turn_of};
+ghost use Rattle.aeth_cli.specs.Commands.Simulate.{run_task, simulate_command, simulate_task};
+ghost use Rattle.aeth_cli.specs.Commands.Simulate.{simulation_job, turn_of};
 ghost use Rattle.aeth_group.specs.Members.{groups_of};
 ghost use Rattle.aeth_playing.specs.RunInputs.{inputs_of};
-ghost use Rattle.aeth_tables.specs.Reserved.{IsDesign};
 ghost use Rattle.std.specs.Prelude.{◌≡◌, ◌≤◌, IfOk, IfSome, map, string_bytes};
 
 use crate::commands::Command;
-use crate::designs::read_design;
-use crate::plans::read_accepted;
-use crate::traces::{RunFiles, read_traces};
 use aeth_answers::{Answer, FileName, Stop, ended, number_in};
 use aeth_base::{MAX_CYCLES, NoMemory};
+use aeth_files::{Run, RunFiles, read_design, read_run};
 use aeth_io::Shelf;
 use aeth_machine::Machine;
-use aeth_playing::{Design, Planned, Traces, played};
+use aeth_playing::{Design, played};
 use aeth_report::sim_text;
 use std::alloc::Global;
 
@@ -88,11 +85,11 @@ pub fn answer<M: Machine, H: Shelf>(
         (simulate_task M.outcome files.now cycles) result }
 {
     let design = read_design(alloc, &files.chip, &files.app, shelf)?;
-    planned_answer::<M, H>(alloc, &design, files, cycles, turn, shelf)
+    run_answer::<M, H>(alloc, &design, files, cycles, turn, shelf)
 }
 
 /// The same for a chip and an application.
-fn planned_answer<M: Machine, H: Shelf>(
+fn run_answer<M: Machine, H: Shelf>(
     alloc: Global,
     design: &Design,
     files: &RunFiles,
@@ -104,49 +101,27 @@ fn planned_answer<M: Machine, H: Shelf>(
     requires least { 1 ≤ cycles }
     requires most { cycles ≤ max_cycles }
     ensures { Answers (files_of H.Shelf shelf.old) (files_of H.Shelf shelf.new)
-        (planned_task M.outcome design.now files.now cycles) result }
+        (run_task M.outcome design.now files.now cycles) result }
 {
-    let planned = read_accepted(alloc, design, &files.plan, shelf)?;
-    traced_answer::<M, H>(alloc, design, &planned, files, cycles, turn, shelf)
-}
-
-/// The same for an accepted plan.
-fn traced_answer<M: Machine, H: Shelf>(
-    alloc: Global,
-    design: &Design,
-    planned: &Planned,
-    files: &RunFiles,
-    cycles: u32,
-    turn: u32,
-    shelf: &mut H,
-) -> Result<Answer, Stop>
-    requires of_chip { IsAppOf design.now.chip design.now.app }
-    requires groups { planned.now.groups ≡ groups_of design.now.app }
-    requires design { IsDesign design.now.chip design.now.app planned.now.plan }
-    requires least { 1 ≤ cycles }
-    requires most { cycles ≤ max_cycles }
-    ensures { Answers (files_of H.Shelf shelf.old) (files_of H.Shelf shelf.new)
-        (traces_task M.outcome design.now planned.now.plan files.now cycles) result }
-{
-    let traces = read_traces(alloc, design, planned, files, shelf)?;
-    ended(printed::<M>(alloc, design, planned, &traces, cycles, turn))
+    let run = read_run(alloc, design, files, shelf)?;
+    ended(printed::<M>(alloc, design, &run, cycles, turn))
 }
 
 /// The text of the log of accepted inputs.
 fn printed<M: Machine>(
     alloc: Global,
     design: &Design,
-    planned: &Planned,
-    traces: &Traces,
+    run: &Run,
     cycles: u32,
     turn: u32,
 ) -> Result<Answer, NoMemory>
-    requires groups { planned.now.groups ≡ groups_of design.now.app }
-    requires accepted { AreAccepted (inputs_of design.now planned.now.plan traces.now cycles) }
+    requires groups { run.now.planned.groups ≡ groups_of design.now.app }
+    requires accepted { AreAccepted
+        (inputs_of design.now run.now.planned.plan run.now.traces cycles) }
     requires least { 1 ≤ cycles }
     ensures { IfOk result (λ answer. answer ≡ simulation_job M.outcome
-        (inputs_of design.now planned.now.plan traces.now cycles)) }
+        (inputs_of design.now run.now.planned.plan run.now.traces cycles)) }
 {
-    let log = played::<M>(alloc, design, planned, traces, cycles, turn)?;
+    let log = played::<M>(alloc, design, &run.planned, &run.traces, cycles, turn)?;
     Ok(Answer::done(sim_text(alloc, &log, &design.app)?))
 }

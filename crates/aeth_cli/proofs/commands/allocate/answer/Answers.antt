@@ -7,7 +7,7 @@ use Rattle.aeth_answers.specs.Places.{files_of}
 use Rattle.aeth_answers.specs.Task.{Task, ends}
 use Rattle.aeth_answers.proofs.FileLemmas.{Answers-ended, Answers-stopped, Answers-then}
 use Rattle.aeth_cli.specs.Commands.Allocate.{allocate_job}
-use Rattle.aeth_cli.specs.Files.{design_file}
+use Rattle.aeth_files.specs.Files.{design_file}
 use Rattle.aeth_cli.proofs.AllocationLemmas.{outcome_job-below, outcome_job-command}
 use Rattle.aeth_cli.proofs.commands.allocate.answer.Goals as goal
 

@@ -5,7 +5,7 @@ use Rattle.aeth_answers.specs.Places.{files_of}
 use Rattle.aeth_answers.specs.Task.{Task, ends}
 use Rattle.aeth_answers.proofs.FileLemmas.{Answers-done, Answers-stopped, Answers-then}
 use Rattle.aeth_cli.specs.Commands.App.{app_text}
-use Rattle.aeth_cli.specs.Files.{design_file}
+use Rattle.aeth_files.specs.Files.{design_file}
 use Rattle.aeth_cli.proofs.commands.app.answer.Goals as goal
 
 -- What comes of a design.

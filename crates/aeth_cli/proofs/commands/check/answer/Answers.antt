@@ -3,7 +3,7 @@ use Rattle.aeth_playing.specs.declared.inputs.Design.{Design}
 use Rattle.aeth_answers.specs.Places.{files_of}
 use Rattle.aeth_answers.proofs.FileLemmas.{Answers-stopped, Answers-then}
 use Rattle.aeth_cli.specs.Commands.Check.{plan_task}
-use Rattle.aeth_cli.specs.Files.{design_file}
+use Rattle.aeth_files.specs.Files.{design_file}
 use Rattle.aeth_cli.proofs.commands.check.answer.Goals as goal
 
 -- There is no design.

@@ -6,7 +6,7 @@ use Rattle.aeth_answers.specs.Job.{done}
 use Rattle.aeth_answers.specs.Places.{files_of}
 use Rattle.aeth_answers.specs.Task.{Task, ends}
 use Rattle.aeth_answers.proofs.FileLemmas.{Answers-done, Answers-stopped, Answers-then}
-use Rattle.aeth_cli.specs.Plans.{accepted_file}
+use Rattle.aeth_files.specs.Plans.{accepted_file}
 use Rattle.aeth_cli.proofs.commands.check.plan_answer.Goals as goal
 
 -- What comes of a plan.

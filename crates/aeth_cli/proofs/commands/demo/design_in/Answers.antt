@@ -5,7 +5,7 @@ use Rattle.aeth_app.specs.AppFile.{app_of}
 use Rattle.aeth_chip.specs.ChipFile.{chip_of}
 use Rattle.aeth_demo.specs.Texts.{TextsData}
 use Rattle.aeth_answers.specs.Files.{judgement}
-use Rattle.aeth_cli.proofs.DesignLemmas.{both-given, both-no_app, both-no_chip}
+use Rattle.aeth_files.proofs.DesignLemmas.{both-given, both-no_app, both-no_chip}
 use Rattle.aeth_cli.proofs.commands.demo.design_in.Goals as goal
 
 -- There is no chip.

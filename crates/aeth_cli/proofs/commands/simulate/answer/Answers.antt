@@ -2,8 +2,8 @@ use Rattle.std.proofs.lemmas.Result.{err_from_is_err_and}
 use Rattle.aeth_playing.specs.declared.inputs.Design.{Design}
 use Rattle.aeth_answers.specs.Places.{files_of}
 use Rattle.aeth_answers.proofs.FileLemmas.{Answers-stopped, Answers-then}
-use Rattle.aeth_cli.specs.Commands.Simulate.{planned_task}
-use Rattle.aeth_cli.specs.Files.{design_file}
+use Rattle.aeth_cli.specs.Commands.Simulate.{run_task}
+use Rattle.aeth_files.specs.Files.{design_file}
 use Rattle.aeth_cli.proofs.commands.simulate.answer.Goals as goal
 
 -- There is no design.
@@ -13,7 +13,7 @@ returns-in_err-design g c =
     rw (p.1, p.2)
     (Answers-stopped (files_of g.H.Shelf c.args.shelf.now)
     (files_of g.H.Shelf c.read_design.new.shelf) (design_file c.args.files.now.chip c.args.files.now.app)
-    (λ (design : Design). design) (λ design. planned_task g.M.Machine.outcome design c.args.files.now
+    (λ (design : Design). design) (λ design. run_task g.M.Machine.outcome design c.args.files.now
     c.args.cycles) _
     c.in_err-design.ensures.judges)
 
@@ -21,8 +21,8 @@ returns-in_err-design g c =
 pub returns : goal.returns
 returns g c =
     Answers-then (files_of g.H.Shelf c.args.shelf.now)
-    (files_of g.H.Shelf c.read_design.new.shelf) (files_of g.H.Shelf c.planned_answer.new.shelf)
+    (files_of g.H.Shelf c.read_design.new.shelf) (files_of g.H.Shelf c.run_answer.new.shelf)
     (design_file c.args.files.now.chip c.args.files.now.app) (λ (one : Design). one)
-    c.in_ok-design.design (λ design. planned_task g.M.Machine.outcome design c.args.files.now
+    c.in_ok-design.design (λ design. run_task g.M.Machine.outcome design c.args.files.now
     c.args.cycles)
-    c.planned_answer.result c.in_ok-design.ensures.judges c.planned_answer.ensures
+    c.run_answer.result c.in_ok-design.ensures.judges c.run_answer.ensures

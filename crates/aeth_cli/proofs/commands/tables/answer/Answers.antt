@@ -1,26 +1,33 @@
 use Rattle.std.proofs.lemmas.Result.{err_from_is_err_and}
-use Rattle.aeth_playing.specs.declared.inputs.Design.{Design}
+use Rattle.aeth_group.specs.Members.{groups_of}
 use Rattle.aeth_answers.specs.Places.{files_of}
-use Rattle.aeth_answers.proofs.FileLemmas.{Answers-stopped, Answers-then}
-use Rattle.aeth_cli.specs.Commands.Tables.{named_tables}
-use Rattle.aeth_cli.specs.Files.{design_file}
+use Rattle.aeth_answers.specs.Task.{ends}
+use Rattle.aeth_answers.proofs.FileLemmas.{Answers-done, Answers-stopped, Answers-then}
+use Rattle.aeth_tables.specs.TableText.{table_text}
+use Rattle.aeth_tables.specs.Tables.{tables_of}
+use Rattle.aeth_cli.specs.Commands.Tables.{tables_job}
+use Rattle.aeth_cli.specs.PlannedUses.{planned_use, seen_use}
 use Rattle.aeth_cli.proofs.commands.tables.answer.Goals as goal
 
--- There is no design.
-pub returns-in_err-design : goal.returns-in_err-design
-returns-in_err-design g c =
+-- There is no use case with an accepted plan.
+pub returns-in_err-one : goal.returns-in_err-one
+returns-in_err-one g c =
     let p = err_from_is_err_and c.from_residual.result c.from_residual.ensures.1 in
     rw (p.1, p.2)
     (Answers-stopped (files_of g.H.Shelf c.args.shelf.now)
-    (files_of g.H.Shelf c.read_design.new.shelf) (design_file c.args.chip.now c.args.app.now)
-    (λ (design : Design). design) (λ design. named_tables design c.args.plan.now c.args.name.now) _
-    c.in_err-design.ensures.judges)
+    (files_of g.H.Shelf c.read_planned_use.new.shelf)
+    (planned_use c.args.chip.now c.args.app.now c.args.plan.now c.args.name.now) seen_use
+    (λ one. ends (tables_job one)) _ c.in_err-one.ensures.judges)
 
--- What comes of the design is answered.
+-- Its tables are printed.
 pub returns : goal.returns
 returns g c =
-    Answers-then (files_of g.H.Shelf c.args.shelf.now)
-    (files_of g.H.Shelf c.read_design.new.shelf) (files_of g.H.Shelf c.named_answer.new.shelf)
-    (design_file c.args.chip.now c.args.app.now) (λ (one : Design). one)
-    c.in_ok-design.design (λ design. named_tables design c.args.plan.now c.args.name.now)
-    c.named_answer.result c.in_ok-design.ensures.judges c.named_answer.ensures
+    let now = files_of g.H.Shelf c.read_planned_use.new.shelf in
+    let one = seen_use c.in_ok-one.one in
+    Answers-then (files_of g.H.Shelf c.args.shelf.now) now now
+    (planned_use c.args.chip.now c.args.app.now c.args.plan.now c.args.name.now) seen_use
+    c.in_ok-one.one (λ other. ends (tables_job other)) c.ended.result
+    c.in_ok-one.ensures.judges
+    (Answers-done now (table_text one.design.chip one.design.app
+    (tables_of one.design.chip one.design.app (groups_of one.design.app) one.plan one.use_case))
+    c.printed.result c.ended.result c.printed.ensures c.ended.ensures)

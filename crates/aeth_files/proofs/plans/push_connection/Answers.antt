@@ -1,0 +1,18 @@
+use Rattle.std.proofs.Common.{append-nil, arith, refl, sym}
+use Rattle.std.proofs.lemmas.Option.{slice_get_past}
+use Rattle.aeth_files.proofs.plans.push_connection.Goals as goal
+
+-- The connection has a name.
+pub returns-in_ok-extend_from_slice : goal.returns-in_ok-extend_from_slice
+returns-in_ok-extend_from_slice c =
+    rw (
+      c.in_ok-extend_from_slice.ensures.items,
+      c.as_bytes.ensures.bytes,
+      c.connection-connection.ensures.connection,
+    ) refl
+
+-- There is no such connection.
+pub returns-else-conn-connections : goal.returns-else-conn-connections
+returns-else-conn-connections c =
+    rw (slice_get_past c.args.app.now.connections c.args.conn.0 (omega arith))
+    (sym (append-nil c.args.text.now.items))

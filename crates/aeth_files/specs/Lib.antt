@@ -1,0 +1,5 @@
+pub mod Files
+pub mod Plans
+pub mod Runs
+pub mod Told
+pub mod Uses
