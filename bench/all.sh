@@ -3,7 +3,7 @@
 # be, and counts the rows that are above it: then the status is 1. The peer is plain optimised Rust, on one thread, with
 # bit masks and a pruned search, and without any proof. `inputs.py` makes the files, and the plans are those that
 # `aeth allocate` prints for these. Words after the name of the script choose rows by their names; without one all are
-# run but those that take minutes, and with `all` these too. It needs valgrind, GNU time and Python 3.
+# run but those that take minutes, and with `all` these too. It needs valgrind, GNU time and Python 3.11.
 set -eu
 
 home=$(dirname -- "$(dirname -- "$(readlink -f -- "$0")")")
@@ -81,12 +81,19 @@ run long allocate_random 130 14471703007 allocate chip_random app_stress
 run short check 105 44495799 check chip app_hops plan
 run short check_128 105 45785356 check chip128 app_hops plan128
 run short tables 105 45753233 tables chip app_hops plan u0
+run short route_tables 120 46551404 route-tables chip app_hops plan u0
+if is_chosen audit short; then
+    python3 "$home/bench/model.py" links chip app_hops plan words_20k receivers switches_1024 10000 >log
+fi
+run short audit - 211330979 audit chip app_hops plan switches_1024 log 10000
 run_word long
 run short simulate_short - 99711593 simulate chip app_hops plan words_20k receivers switches_1024 20000
 run long simulate_idle 110 50196354 simulate chip app_hops plan words_none receivers_none switches_one 1000000
 run long simulate_sparse - 2319847085 simulate chip app_hops plan words_sparse receivers switches_1024 1000000
 run long simulate_dense - 2019582625 simulate chip app_hops plan words_dense receivers_none switches_one 1000000
 run long simulate_delays - 2193411327 simulate chip128 app_hops plan128 words_sparse receivers switches_one 1000000
+run short chain 61 802708730 chain chip app_hops plan u0 \
+    c0:fwd:16,c46:back:9,c239:back:100,c406:back:1,c372:back:7,c2:back words_chain receivers_none 1000000
 run short demo - 36954704 demo 7
 
 printf '%d above\n' "$above"

@@ -1,12 +1,16 @@
-"""Prints what `allocate`, `simulate` and `demo` must print, from the rules in docs/RULES.md alone.
+"""Prints what `allocate`, `route-tables`, `simulate`, `chain` and `demo` must print, and a log of the links
+of a run, from the rules in docs/RULES.md alone.
 
     python3 bench/model.py allocate CHIP APP
+    python3 bench/model.py route-tables CHIP APP PLAN USE
     python3 bench/model.py simulate CHIP APP PLAN WORDS RECEIVERS SWITCHES CYCLES
+    python3 bench/model.py links CHIP APP PLAN WORDS RECEIVERS SWITCHES CYCLES
+    python3 bench/model.py chain CHIP APP PLAN USE CHAIN WORDS RECEIVERS CYCLES
     python3 bench/model.py demo N
 
 It is a second implementation, for new rows of crates/aeth_transcripts: it shares nothing with the
-program. It knows no network: a run is one private server for each session. It judges no file,
-refuses nothing, and is slow.
+program. It knows no network: a run is one private server for each session, and a chain one for each
+channel. It judges no file, refuses nothing, and is slow.
 """
 
 import sys
@@ -37,6 +41,8 @@ class Server:
         self.go, self.until, self.stop, self.finish, group = session
         self.path, self.starts = run.grants[connection, group, side]
         back_path, back_starts = run.grants[connection, group, opposite]
+        queue = run.queues[connection, side]
+        self.headers = [queue << 21 | route for route in chip.routes(self.path)]
         self.slots, self.rate = chip.slots, 2 * app.needs[connection, side]
         self.offsets = chip.offsets(self.path)
         self.delay = self.offsets[-1]
@@ -46,7 +52,7 @@ class Server:
         wish = app.connections[connection][side]
         trip = latency + self.delay + wish["delay"] + 1 + credit_latency + back_delay
         self.buffer = -(-self.rate * trip // self.slots) + 2
-        self.latency = latency + self.delay
+        self.latency, self.wished_delay = latency + self.delay, wish["delay"]
         self.words = [
             (cycle, value)
             for of, cycle, value in run.words
@@ -54,7 +60,7 @@ class Server:
         ]
         self.pulls = [(cycle, pull) for of, cycle, pull in run.receivers if of == channel]
         self.offered = self.sent = self.taken = self.owed = self.returned = 0
-        self.coming, self.credits, self.landings = {}, {}, []
+        self.coming, self.credits, self.landings, self.takings = {}, {}, [], []
 
     def send(self, cycle, opposite, flits):
         """Sends words and credits in a slot of its own, before the stop."""
@@ -65,7 +71,12 @@ class Server:
         room = self.buffer + self.returned - self.sent
         words, credits = min(2, self.offered - self.sent, room), min(15, opposite.owed)
         if words + credits:
-            flits += [(link, cycle + at) for link, at in zip(self.path, self.offsets)]
+            values = [value for _, value in self.words[self.sent : self.sent + words]]
+            said = [words << 30 | credits << 26 | header for header in self.headers]
+            flits += [
+                (cycle + at, link, header, *values, *[0] * (2 - words))
+                for link, at, header in zip(self.path, self.offsets, said)
+            ]
         self.coming[cycle + self.delay] = words
         opposite.credits[cycle + self.delay] = credits
         self.sent += words
@@ -77,6 +88,7 @@ class Server:
         self.returned += self.credits.get(cycle, 0)
         pull = ([2] + [pull for since, pull in self.pulls if since <= cycle])[-1]
         taken = min(pull, len(self.landings) - self.taken)
+        self.takings += [cycle] * taken
         self.taken += taken
         self.owed += taken
 
@@ -97,8 +109,9 @@ class Server:
 class Run:
     """A run: the sessions of its channels, each played by itself."""
 
-    def __init__(self, chip, app, grants, words, receivers, switches, cycles):
+    def __init__(self, chip, app, grants, seats, words, receivers, switches, cycles):
         self.chip, self.app, self.grants, self.cycles = chip, app, grants, cycles
+        self.queues = app.queues(seats)
         self.words, self.receivers = words, receivers
         self.sessions = {
             connection: [[0, NEVER, NEVER, NEVER, app.group[switches[0][1]]]]
@@ -155,9 +168,14 @@ class Run:
     def link_flits(self):
         """How many flits each link carries before the run ends."""
         counts = [0] * len(self.chip.links)
-        for link, cycle in self.flits:
+        for cycle, link, *_ in self.flits:
             counts[link] += cycle < self.cycles
         return counts
+
+    def log(self):
+        """The flits that enter links before the run ends."""
+        rows = sorted(flit for flit in self.flits if flit[0] < self.cycles)
+        return "\n".join(["cycle,link,header,first,second", *(",".join(map(str, row)) for row in rows), ""])
 
     def text(self):
         links = [f"link {link} {flits}" for link, flits in enumerate(self.link_flits())]
@@ -180,22 +198,97 @@ def rows_of(text):
     return [row.split(",") for row in text.split("\n")[1:] if row]
 
 
-def run_of(chip, app, plan, words, receivers, switches, cycles):
-    """The run that the texts of these files tell."""
+def seats_of(plan):
+    """The number of the seat of each core."""
+    lines = [line.split(" ") for line in plan.split("\n") if line.startswith("seat ")]
+    return {name: int(seat) for _, name, _, seat in lines}
+
+
+def grants_of(app, plan):
+    """The path and the starts of each side of each connection in each group."""
     connections = {it["name"]: place for place, it in enumerate(app.connections)}
-    uses = {it["name"]: place for place, it in enumerate(app.uses)}
     grants = {}
     for line in plan.split("\n"):
         if line.startswith("grant "):
             _, name, group, side, *lists = line.split(" ")
             path, starts = ([int(it) for it in numbers.split(",")] for numbers in lists)
             grants[connections[name], int(group), side] = path, starts
+    return grants
+
+
+def run_of(chip, app, plan, words, receivers, switches, cycles):
+    """The run that the texts of these files tell."""
+    connections = {it["name"]: place for place, it in enumerate(app.connections)}
+    uses = {it["name"]: place for place, it in enumerate(app.uses)}
     on_channels = [
         [((connections[name], side), int(cycle), int(number)) for name, side, cycle, number in rows]
         for rows in (rows_of(words), rows_of(receivers))
     ]
     entered = [(int(cycle), uses[name], int(drain)) for cycle, name, drain in rows_of(switches)]
-    return Run(chip, app, grants, *on_channels, entered, cycles)
+    return Run(chip, app, grants_of(app, plan), seats_of(plan), *on_channels, entered, cycles)
+
+
+def routes_of(chip, app, plan, use):
+    """The text of the router tables of a use case by a plan."""
+    number = [it["name"] for it in app.uses].index(use)
+    rows = []
+    for (connection, group, _), (path, starts) in grants_of(app, plan).items():
+        if group != app.group[number] or connection not in app.has[number]:
+            continue
+        for place, offset in list(enumerate(chip.offsets(path)))[1:-1]:
+            router = chip.links[path[place]][0]
+            ports = [link for link, (begin, _, _) in enumerate(chip.links) if begin == router]
+            entry = chip.routers.index(router), ports.index(path[place])
+            rows += [(*entry, (start + offset) % chip.slots, path[place - 1]) for start in starts]
+    assert len({row[:3] for row in rows}) == len(rows)
+    return "\n".join([f"routes 1 {use}", *("hop %d %d %d %d" % row for row in sorted(rows)), "end\n"])
+
+
+class Chain:
+    """A chain of forwarding cores in one use case, channel after channel."""
+
+    def __init__(self, run, use, word):
+        app, self.use, self.cycles = run.app, use, run.cycles
+        names = [it["name"] for it in app.connections]
+        group = app.group[[it["name"] for it in app.uses].index(use)]
+        session = [0, NEVER, NEVER, NEVER, group]
+        self.works, self.servers = [], []
+        for item in word.split(","):
+            name, side, *work = item.split(":")
+            channel = names.index(name), side
+            opposite = names.index(name), SIDES[1 - SIDES.index(side)]
+            both = Server(run, channel, session), Server(run, opposite, session)
+            both[1].words = []
+            self.works.append(sum(int(it) for it in work))
+            self.servers.append(both)
+        first = self.servers[0][0]
+        self.first = [it for it in first.words if it[0] < self.cycles]
+        offers = self.first
+        for (server, opposite), work in zip(self.servers, self.works):
+            server.words = offers
+            for cycle in range(self.cycles):
+                server.send(cycle, opposite, [])
+                opposite.send(cycle, server, [])
+                server.receive(cycle)
+                opposite.receive(cycle)
+            values = [value for _, value in offers]
+            offers = [(cycle + work, value) for cycle, value in zip(server.takings, values)]
+            offers = [it for it in offers if it[0] < self.cycles]
+
+    def text(self):
+        servers = [server for server, _ in self.servers]
+        slots, rate = servers[0].slots, min(server.rate for server in servers)
+        latency = sum(server.latency for server in servers)
+        for server, work in zip(servers[:-1], self.works):
+            latency += server.wished_delay + work + 1 - (-slots // rate)
+        lines, finish = [f"chain 1 {self.use} {rate} {latency}"], 0
+        landings = servers[-1].landings
+        for place, (landing, (cycle, value)) in enumerate(zip(landings, self.first)):
+            finish = max(rate * (cycle + latency), finish) + slots
+            due = -(-finish // rate)
+            lines.append(f"land {place + 1} {cycle} {landing} {due} {value}")
+        left = len(self.first) - len(landings)
+        return "\n".join([*lines, f"left {left}", "end", ""])
 
 
 def demo_run(number):
@@ -224,26 +317,38 @@ def demo_run(number):
         text += f'[[use]]\nname = "u{use}"\nconnections = [{names}]\n'
         text += 'smooth = ["u1"]\n' if use == 0 else ""
     app = App(text, chip)
-    grants = Allocation(chip, app).grants
+    allocation = Allocation(chip, app)
+    seats = {app.cores[core][0]: seat for core, (_, seat) in allocation.seats.items()}
     words = [((draw(64), "fwd"), 2 * place, place) for place in range(10000)]
     switches = [(0, 0, 0), (5000, 1, 16), (10000, 2, 16), (15000, 3, 16)]
-    return Run(chip, app, grants, words, [], switches, 22000)
+    return Run(chip, app, allocation.grants, seats, words, [], switches, 22000)
 
 
 def main(command, *words):
     if command == "demo":
         print("demo", words[0], demo_run(int(words[0])).summary())
         return
+    if command == "chain":
+        chip, app, plan, use, word, offers, receivers, cycles = words
+        files = chip, app, plan, offers, receivers
+    else:
+        files = words[:3] if command == "route-tables" else words[:6]
     texts = []
-    for name in words[:6]:
+    for name in files:
         with open(name, encoding="utf-8") as it:
             texts.append(it.read())
     chip = Chip(texts[0])
     app = App(texts[1], chip)
     if command == "allocate":
         sys.stdout.write(Allocation(chip, app).text())
+    elif command == "route-tables":
+        sys.stdout.write(routes_of(chip, app, texts[2], words[3]))
+    elif command == "chain":
+        run = run_of(chip, app, *texts[2:], f"cycle,use,drain\n0,{use},0\n", int(cycles))
+        sys.stdout.write(Chain(run, use, word).text())
     else:
-        sys.stdout.write(run_of(chip, app, *texts[2:], int(words[6])).text())
+        run = run_of(chip, app, *texts[2:], int(words[6]))
+        sys.stdout.write(run.log() if command == "links" else run.text())
 
 
 if __name__ == "__main__":

@@ -6,11 +6,12 @@ SIDES = ("fwd", "back")
 
 
 class Chip:
-    """Slots, interfaces and links; each link is where it begins, where it ends, and its delay."""
+    """Slots, routers, interfaces and links; each link is where it begins, where it ends, and its delay."""
 
     def __init__(self, text):
         tree = tomllib.loads(text)
         self.slots = tree["slots"]
+        self.routers = tree["routers"]
         self.nis = tree["nis"]
         self.links = [(it["from"], it["to"], it.get("delay", 1)) for it in tree["link"]]
 
@@ -20,6 +21,15 @@ class Chip:
         for link in path:
             offsets.append(offsets[-1] + self.links[link][2])
         return offsets
+
+    def routes(self, path):
+        """The route at each place of a path: the ports of the links after it, three bits each."""
+        begins = [begin for begin, _, _ in self.links]
+        ports = [begins[:link].count(begins[link]) for link in path]
+        return [
+            sum(port << 3 * place for place, port in enumerate(ports[first:]))
+            for first in range(1, len(path) + 1)
+        ]
 
     def admissible(self, start, end, detour):
         """The admissible paths between two interfaces: over 1 to 7 distinct routers."""
@@ -62,6 +72,17 @@ class App:
             self.needs[number, "back"] = back
             self.needs[number, "fwd"] = max(own["fwd"], -(-2 * back // 15))
         self.group = self.groups_of_uses()
+
+    def queues(self, seats):
+        """The queue at which each channel lands, by the seats of the cores."""
+        own = {name: [] for name, _ in self.cores}
+        queues = {}
+        for number, it in enumerate(self.connections):
+            for side, core in ((SIDES[0], it["to"]), (SIDES[1], it["from"])):
+                queues[number, side] = 8 * seats.get(core, 0) + len(own[core])
+            for core in {it["from"], it["to"]}:
+                own[core].append(number)
+        return queues
 
     def groups_of_uses(self):
         """The group of each use case, numbered by their least use cases."""
