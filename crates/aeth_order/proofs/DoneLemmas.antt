@@ -1,17 +1,17 @@
 -- A unit waits no more.
-use Rattle.std.proofs.Common.{◌≡◌, ◌<◌, ◌∙◌, ℕ, Bool, true, false, eqb}
+use Rattle.std.proofs.Common.{◌≡◌, ◌<◌, ◌∙◌, Bool, true, false, eqb}
 use Rattle.std.proofs.Common.{List, Contains, Some, sym, ap, subst, arith, not, set, slice_get}
 use Rattle.std.specs.List.{items_where_true}
 use Rattle.std.proofs.lemmas.Bool.{and_from, and_parts, eq-eqb, eqb-true, false_from_ne_true}
+use Rattle.std.proofs.lemmas.Bool.{not-true}
 use Rattle.std.proofs.lemmas.List.{length-set}
 use Rattle.aeth_base.specs.declared.ids.Unit.{Unit as GroupUnit}
 use Rattle.aeth_base.proofs.Members.{filter-Contains}
-use Rattle.aeth_app.specs.App.{is_marked}
 use Rattle.aeth_app.specs.Limits.{max_uses}
 use Rattle.aeth_order.specs.declared.keys.UnitKeys.{UnitKeys}
-use Rattle.aeth_order.specs.Grid.{IsGrid, IsOrdered, IsPassed, grid_place}
+use Rattle.aeth_order.specs.Grid.{Falls, IsGrid, IsOrdered, grid_place}
 use Rattle.aeth_order.specs.Units.{is_unit, units_without}
-use Rattle.aeth_order.proofs.GridLemmas.{marked-at, marked-cleared, marked-none}
+use Rattle.aeth_order.proofs.GridLemmas.{marked-cleared, marked-none}
 
 -- The test of a unit tells its place.
 unit-place : (unit : GroupUnit) (a : UnitKeys) → is_unit unit a ≡ true
@@ -59,23 +59,22 @@ marks-same grid marks unit is none =
     let there : q ≡ grid_place unit = sym placed.unit ∙ unit-place unit x here in
     none x (ap (slice_get grid) (sym there) ∙ at) (omega (arith, same, placed.group))))
 
--- A unit had its turn: those that wait stand from a place on before which none waits.
-pub order-done : (grid : List UnitKeys) (marks : List Bool) (order : List UnitKeys)
-    (passed to : ℕ) (unit : GroupUnit) → IsOrdered grid marks order passed
-    → unit.group.0 < max_uses → IsPassed (set marks (grid_place unit) false) order passed to
-    → IsOrdered grid (set marks (grid_place unit) false) order to
-order-done grid marks order passed to unit is low left = record {
+-- A unit had its turn, and was taken out: all others that wait are left.
+pub order-done : (grid : List UnitKeys) (marks : List Bool) (order left : List UnitKeys)
+    (unit : GroupUnit) → IsOrdered grid marks order → unit.group.0 < max_uses → Falls left
+    → ((a : UnitKeys) → Contains left a → Contains order a)
+    → ((a : UnitKeys) → Contains order a → is_unit unit a ≡ false → Contains left a)
+    → IsOrdered grid (set marks (grid_place unit) false) left
+order-done grid marks order left unit is low falls among others = record {
   table = record {
     size = length-set marks (grid_place unit) false ∙ is.table.size;
     placed = is.table.placed;
   };
-  rises = is.rises;
-  units = is.units;
+  falls = falls;
+  units = λ a has. is.units a (among a has);
   waiting = λ a has.
-      let at = marked-at (set marks (grid_place unit) false) grid a has in
       let before = subst (λ us. Contains us a) (marks-done grid marks unit is.table low) has in
-      left a (is.waiting a (filter-Contains (λ b. not (is_unit unit b)) (items_where_true marks grid)
-      a before).0)
-      (ap (is_marked (set marks (grid_place unit) false)) (is.table.placed at.place a at.is).unit
-      ∙ at.marked);
+      let (waits, apart) = filter-Contains (λ b. not (is_unit unit b)) (items_where_true marks grid)
+      a before in
+      others a (is.waiting a waits) (not-true (is_unit unit a) apart);
 }

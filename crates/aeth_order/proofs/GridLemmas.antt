@@ -130,16 +130,6 @@ marked-no marks xs i d e low low' is =
     (sym is)
     ∙ sym (marked-more marks xs i d e low low')
 
--- A unit that is read where there is none.
-abbrev pub nobody : UnitKeys
-nobody = record {
-  unit = record { conn = record { 0 = 0 }; group = record { 0 = 0 } };
-  from = record { 0 = 0 };
-  to = record { 0 = 0 };
-  need = 0;
-  latency = 0;
-}
-
 -- Units, as a number of cores and the units that wait.
 abbrev pub units_data : ℕ → List UnitKeys → UnitsData
 units_data cores waiting = record { cores = cores; waiting = waiting }

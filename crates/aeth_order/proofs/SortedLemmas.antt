@@ -1,127 +1,130 @@
--- Units in their own order: what is left of them, and the first of them that passes a test.
-use Rattle.std.proofs.Common.{◌≡◌, ◌∙◌, ◌+◌, ℕ, zero, suc, Bool, true, false, cond}
-use Rattle.std.proofs.Common.{List, [], ◌∷◌, Contains, Some, None, refl, sym, ap, subst}
-use Rattle.std.proofs.Common.{inl, inr, arith, drop}
-use Rattle.std.specs.List.{find}
-use Rattle.std.specs.List.Sorted.{IsSorted}
+-- Units in their own order, the first last: the first that passes a test, and one taken out.
+use Rattle.std.proofs.Common.{◌≡◌, ◌<◌, ◌≤◌, ◌-◌, ◌∙◌, ℕ, Bool, true, false}
+use Rattle.std.proofs.Common.{List, ◌∷◌, Contains, Some, None, sym, ap, inl, inr, arith}
+use Rattle.std.proofs.Common.{get_or, length}
+use Rattle.std.specs.List.{remove}
+use Rattle.std.specs.List.Sorted.{IsPermutation, IsSortedBy}
 use Rattle.std.specs.Ordering.{is_lt, ordering_reverse}
 use Rattle.std.specs.declared.cmp.Ordering.{Ordering}
 use Rattle.std.specs.declared.cmp.Ordering.TheVariants.{Less, Equal, Greater}
-use Rattle.std.proofs.lemmas.Bool.{cases_Bool}
-use Rattle.std.proofs.lemmas.List.Sorted.{ranks_by, sorted_far}
-use Rattle.std.proofs.lemmas.Option.{same_Some}
-use Rattle.aeth_base.proofs.Members.{Contains-nil, Contains-here, Contains-there, Contains-cases}
+use Rattle.std.proofs.lemmas.Bool.{cases_eq, cases_lt}
+use Rattle.std.proofs.lemmas.List.{get_or_default}
+use Rattle.std.proofs.lemmas.List.Quantifiers.{all_pairs_remove}
+use Rattle.std.proofs.lemmas.List.Sorted.{Contains-permutation, IsPermutation-remove}
+use Rattle.std.proofs.lemmas.List.Sorted.{IsPermutation-sym, IsStrictWeakOrder-flip, ranks_by}
+use Rattle.std.proofs.lemmas.List.Sorted.{sorted_far}
+use Rattle.aeth_base.specs.declared.ids.Unit.{Unit as GroupUnit}
+use Rattle.aeth_base.proofs.Members.{Contains-cases, Contains-there}
 use Rattle.aeth_order.specs.declared.keys.UnitKeys.{UnitKeys}
+use Rattle.aeth_order.specs.Grid.{Falls, IsFound, nobody}
 use Rattle.aeth_order.specs.Order.{unit_order}
+use Rattle.aeth_order.specs.Units.{is_unit}
 use Rattle.aeth_order.proofs.FirstByLemmas.{IsAfter}
-use Rattle.aeth_order.proofs.TurnLemmas.{unit_total}
+use Rattle.aeth_order.proofs.TurnLemmas.{itself, unit_total}
 
--- ---- what is left of a list
+-- A list that is sorted backwards falls.
+pub falls-sorted : (units : List UnitKeys) → IsSortedBy (λ a b. is_lt (unit_order b a)) units
+    → Falls units
+falls-sorted units sorted = λ i j d less within.
+    sorted_far (λ a b. is_lt (unit_order b a))
+    (IsStrictWeakOrder-flip (λ a b. is_lt (unit_order a b)) (ranks_by unit_total (λ a. a)))
+    units sorted i j d (omega (arith, less)) within
 
--- What is left of a list is in it.
-pub Contains-drop : {X : Type 0} (n : ℕ) (xs : List X) (x : X) → Contains (drop n xs) x
-    → Contains xs x
-Contains-drop zero xs x has = has
-Contains-drop (suc n) [] x has = has
-Contains-drop (suc n) (y ∷ xs) x has = Contains-there y xs x (Contains-drop n xs x has)
+-- A unit isn't before itself.
+not-itself : (m : UnitKeys) → is_lt (unit_order m m) ≡ false
+not-itself m = ap is_lt (itself (unit_order m m) (unit_total.antisymm m m))
 
--- The units behind the first are in order.
-rises-tail : (x : UnitKeys) (units : List UnitKeys) → IsSorted unit_order (x ∷ units)
-    → IsSorted unit_order units
-rises-tail x units rises = λ k d low within.
-    let next : suc k + 1 ≡ suc (k + 1) = omega arith in
-    rw next at (rises (suc k) d (omega arith) (omega arith))
+-- What isn't before a unit is it, or comes after it, where units that aren't told apart are one.
+pub not-earlier : (m a : UnitKeys) (o : Ordering) → unit_order a m ≡ o → is_lt o ≡ false
+    → (unit_order a m ≡ Equal → a ≡ m) → IsAfter unit_order m a
+not-earlier m a Less is later told = cc later
+not-earlier m a Equal is later told = inl (told is)
+not-earlier m a Greater is later told =
+    inr (unit_total.antisymm m a ∙ ap ordering_reverse is)
 
--- So are those that are left.
-pub rises-drop : (n : ℕ) (units : List UnitKeys) → IsSorted unit_order units
-    → IsSorted unit_order (drop n units)
-rises-drop zero units rises = rises
-rises-drop (suc n) [] rises = rises
-rises-drop (suc n) (x ∷ units) rises = rises-drop n units (rises-tail x units rises)
+-- ---- the first that passes a test, sought from the end
 
--- None of the units behind the first is before it.
-head-first : (x : UnitKeys) (units : List UnitKeys) → IsSorted unit_order (x ∷ units)
-    → (a : UnitKeys) → Contains units a → is_lt (unit_order a x) ≡ false
-head-first x units rises a (k, within, at) =
-    ap (λ b. is_lt (unit_order b x)) (sym at)
-    ∙ sorted_far (λ b c. is_lt (unit_order b c)) (ranks_by unit_total (λ b. b)) (x ∷ units) rises
-    0 (suc k) a (omega arith) (omega arith)
+module _ (test : UnitKeys → Bool) (order : List UnitKeys) where
+  -- All from a place on fail.
+  abbrev pub FailFrom : ℕ → Type 0
+  FailFrom left = (k : ℕ) (d : UnitKeys) → left ≤ k → k < length order
+      → test (get_or order k d) ≡ false
 
--- ---- the first that passes a test
-
-module _ (test : UnitKeys → Bool) where
-  -- A list whose first unit passes, and one whose first unit fails.
-  find-here : (x : UnitKeys) (units : List UnitKeys) → test x ≡ true
-      → find test (x ∷ units) ≡ Some x
-  find-here x units passes = ap (λ b. cond b (Some x) (find test units)) passes
-
-  find-later : (x : UnitKeys) (units : List UnitKeys) → test x ≡ false
-      → find test (x ∷ units) ≡ find test units
-  find-later x units fails = ap (λ b. cond b (Some x) (find test units)) fails
-
-  -- It is in the list.
-  pub found-in : (units : List UnitKeys) (m : UnitKeys) → find test units ≡ Some m
-      → Contains units m
-  found-in [] m is = cc is
-  found-in (x ∷ units) m is = elim (cases_Bool (test x)) [
-    | inl passes ↦ subst (Contains (x ∷ units))
-        (same_Some x m (sym (find-here x units passes) ∙ is)) (Contains-here x units)
-    | inr fails ↦ Contains-there x units m
-        (found-in units m (sym (find-later x units fails) ∙ is))
+  -- One more fails.
+  pub fail-more : (left : ℕ) → 0 < left → left ≤ length order
+      → test (get_or order (left - 1) nobody) ≡ false → FailFrom left → FailFrom (left - 1)
+  fail-more left some within fails rest = λ k d low below. elim (cases_eq k (left - 1)) [
+    | inl here ↦
+        ap (λ i. test (get_or order i d)) here
+        ∙ ap test (get_or_default order (left - 1) d nobody (omega (arith, some, within))) ∙ fails
+    | inr other ↦ rest k d (omega (arith, low, other, some)) below
   ]
 
-  -- It passes.
-  pub found-passes : (units : List UnitKeys) (m : UnitKeys) → find test units ≡ Some m
-      → test m ≡ true
-  found-passes [] m is = cc is
-  found-passes (x ∷ units) m is = elim (cases_Bool (test x)) [
-    | inl passes ↦
-        ap test (sym (same_Some x m (sym (find-here x units passes) ∙ is))) ∙ passes
-    | inr fails ↦ found-passes units m (sym (find-later x units fails) ∙ is)
-  ]
+  -- None passes.
+  pub found-none : FailFrom 0 → IsFound test order None
+  found-none rest = λ a has.
+      let (k, within, here) = has in
+      ap test (sym here) ∙ rest k a (omega arith) within
 
-  -- Where none is found, all fail.
-  pub none-passes : (units : List UnitKeys) → find test units ≡ None → (a : UnitKeys)
-      → Contains units a → test a ≡ false
-  none-passes [] none a has = Contains-nil has
-  none-passes (x ∷ units) none a has = elim (cases_Bool (test x)) [
-    | inl passes ↦
-        let wrong : Some x ≡ None = sym (find-here x units passes) ∙ none in
-        cc wrong
-    | inr fails ↦ elim (Contains-cases x units a has) [
-      | inl same ↦ ap test (sym same) ∙ fails
-      | inr later ↦ none-passes units (sym (find-later x units fails) ∙ none) a later
-    ]
-  ]
+  -- The first from the end that passes is the first of all that pass.
+  pub found-here : Falls order → (left : ℕ) → 0 < left → left ≤ length order
+      → test (get_or order (left - 1) nobody) ≡ true → FailFrom left
+      → IsFound test order (Some (get_or order (left - 1) nobody))
+  found-here falls left some within passes rest =
+      let at : ℕ = left - 1 in
+      let low : at < length order = omega (arith, some, within) in
+      let m : UnitKeys = get_or order at nobody in (
+        (at, low, get_or_default order at m nobody low),
+        (
+          passes,
+          λ a has too.
+              let (k, below, here) = has in
+              let there : get_or order at a ≡ m = get_or_default order at a nobody low in
+              elim (cases_lt k at) [
+                | inl less ↦
+                    ap (λ b. is_lt (unit_order b m)) (sym here)
+                    ∙ ap (λ b. is_lt (unit_order (get_or order k a) b)) (sym there)
+                    ∙ falls k at a less low
+                | inr past ↦ elim (cases_eq k at) [
+                  | inl same ↦
+                      ap (λ b. is_lt (unit_order b m))
+                      (sym here ∙ ap (λ i. get_or order i a) same ∙ there) ∙ not-itself m
+                  | inr other ↦
+                      let wrong : true ≡ false = sym too ∙ ap test (sym here)
+                      ∙ rest k a (omega (arith, past, other, some)) below in
+                      cc wrong
+                ]
+              ],
+        ),
+      )
 
-  -- Of units in order, those that pass are the first that does, or come after it.
-  not-earlier : (m a : UnitKeys) (o : Ordering) → unit_order a m ≡ o → is_lt o ≡ false
-      → (unit_order a m ≡ Equal → a ≡ m) → IsAfter unit_order m a
-  not-earlier m a Less is later told = cc later
-  not-earlier m a Equal is later told = inl (told is)
-  not-earlier m a Greater is later told =
-      inr (unit_total.antisymm m a ∙ ap ordering_reverse is)
+-- ---- a unit is taken out
 
-  pub found-first : (units : List UnitKeys) → IsSorted unit_order units → (m : UnitKeys)
-      → find test units ≡ Some m
-      → ((a : UnitKeys) → Contains units a → unit_order a m ≡ Equal → a ≡ m)
-      → (a : UnitKeys) → Contains units a → test a ≡ true → IsAfter unit_order m a
-  found-first [] rises m is told a has passes = Contains-nil has
-  found-first (x ∷ units) rises m is told a has passes = elim (cases_Bool (test x)) [
-    | inl first ↦
-        let here : x ≡ m = same_Some x m (sym (find-here x units first) ∙ is) in
-        elim (Contains-cases x units a has) [
-          | inl same ↦ inl (sym same ∙ here)
-          | inr later ↦ not-earlier m a (unit_order a m) refl
-              (ap (λ b. is_lt (unit_order a b)) (sym here) ∙ head-first x units rises a later)
-              (told a has)
-        ]
-    | inr fails ↦ elim (Contains-cases x units a has) [
-      | inl same ↦
-          let wrong : true ≡ false = sym passes ∙ ap test (sym same) ∙ fails in
-          cc wrong
-      | inr later ↦ found-first units (rises-tail x units rises) m
-          (sym (find-later x units fails) ∙ is)
-          (λ b there. told b (Contains-there x units b there)) a later passes
-    ]
-  ]
+module _ (unit : GroupUnit) (order : List UnitKeys) (at : ℕ) (within : at < length order) where
+  abbrev one : UnitKeys
+  one = get_or order at nobody
+
+  apart : IsPermutation order (one ∷ remove order at)
+  apart = IsPermutation-remove order at one within
+      (sym (get_or_default order at one nobody within))
+
+  pub falls-remove : Falls order → Falls (remove order at)
+  falls-remove falls =
+      all_pairs_remove (λ a b. is_lt (unit_order a b) ≡ false) order at within falls
+
+  pub among-remove : (a : UnitKeys) → Contains (remove order at) a → Contains order a
+  among-remove a has =
+      Contains-permutation (one ∷ remove order at) order a
+      (IsPermutation-sym order (one ∷ remove order at) apart)
+      (Contains-there one (remove order at) a has)
+
+  pub others-remove : is_unit unit one ≡ true → (a : UnitKeys) → Contains order a
+      → is_unit unit a ≡ false → Contains (remove order at) a
+  others-remove here a has other =
+      elim (Contains-cases one (remove order at) a
+      (Contains-permutation order (one ∷ remove order at) a apart has)) [
+        | inl same ↦
+            let wrong : true ≡ false = sym here ∙ ap (is_unit unit) same ∙ other in
+            cc wrong
+        | inr later ↦ later
+      ]

@@ -9,7 +9,7 @@ use Rattle.std.proofs.lemmas.Bool.{and_left, cases_Bool, ne_eqb, or_from}
 use Rattle.std.proofs.lemmas.List.{flat_map_more, map-append}
 use Rattle.std.proofs.lemmas.List.Elements.{filter-append}
 use Rattle.std.proofs.lemmas.List.Sorted.{Contains-permutation, IsPermutation-sym}
-use Rattle.std.specs.List.Sorted.{IsPermutation, IsSorted}
+use Rattle.std.specs.List.Sorted.{IsPermutation}
 use Rattle.std.proofs.lemmas.List.FromFn.{get_or-map-range_with_len, length-map-range_with_len}
 use Rattle.std.proofs.lemmas.Nat.{div-mul-add}
 use Rattle.std.proofs.lemmas.Option.{same_Some, slice_get-get_or, slice_get_within}
@@ -21,9 +21,8 @@ use Rattle.aeth_group.specs.Members.{GroupsData, IsGroups, UseGroupData, groups_
 use Rattle.aeth_group.specs.Members.{units_with}
 use Rattle.aeth_group.proofs.MemberLemmas.{connections-groups_of, is_groups-groups_of}
 use Rattle.aeth_order.specs.declared.keys.UnitKeys.{UnitKeys}
-use Rattle.aeth_order.specs.Grid.{IsGrid, IsOrdered, IsPlaced, grid_of, is_unit_at, marks_of}
+use Rattle.aeth_order.specs.Grid.{Falls, IsGrid, IsOrdered, IsPlaced, grid_of, is_unit_at, marks_of}
 use Rattle.aeth_order.specs.Grid.{places, unit_at}
-use Rattle.aeth_order.specs.Order.{unit_order}
 use Rattle.aeth_order.specs.Units.{all_units, keys_by, keys_of}
 use Rattle.aeth_base.proofs.Filters.{filter-no, filter-yes}
 use Rattle.aeth_order.proofs.GridLemmas.{marked-at, marked-map}
@@ -80,12 +79,12 @@ grid-start app groups is are =
 -- All units wait, in their own order.
 pub order-start : (grid : List UnitKeys) (marks : List Bool) (order : List UnitKeys)
     → IsGrid grid marks → IsPermutation (items_where_true marks grid) order
-    → IsSorted unit_order order → IsOrdered grid marks order 0
-order-start grid marks order is same rises =
+    → Falls order → IsOrdered grid marks order
+order-start grid marks order is same falls =
     let units : List UnitKeys = items_where_true marks grid in
     record {
       table = is;
-      rises = rises;
+      falls = falls;
       units = λ a has.
           let at = marked-at marks grid a
           (Contains-permutation order units a (IsPermutation-sym units order same) has) in

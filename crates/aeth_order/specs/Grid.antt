@@ -1,9 +1,9 @@
 -- The table of units behind units: a place for each connection and each number that a group may have.
 -- This project's own.
-use Rattle.std.specs.Prelude.{◌≡◌, ◌<◌, ℕ, ◌+◌, ◌*◌, ◌/◌, ◌%◌, ◌==◌, ◌&&◌, Bool, true, List, length}
-use Rattle.std.specs.Prelude.{map, drop, Contains, Option, Some, slice_get}
+use Rattle.std.specs.Prelude.{◌≡◌, ◌<◌, ℕ, ◌+◌, ◌*◌, ◌/◌, ◌%◌, ◌==◌, ◌&&◌, Bool, true, false, List, length}
+use Rattle.std.specs.Prelude.{map, AllPairs, Contains, Option, Some, None, slice_get}
 use Rattle.std.specs.List.{items_where_true, range_with_len}
-use Rattle.std.specs.List.Sorted.{IsSorted}
+use Rattle.std.specs.Ordering.{is_lt}
 use Rattle.aeth_base.specs.declared.ids.Unit.{Unit as GroupUnit}
 use Rattle.aeth_app.specs.App.{AppData, is_marked}
 use Rattle.aeth_app.specs.Limits.{max_uses}
@@ -43,12 +43,27 @@ abbrev pub waits : List Bool → UnitKeys → Bool
 waits marks a = is_marked marks (grid_place a.unit)
 
 abbrev pub waits_seated : List Bool → List (Option Place) → UnitKeys → Bool
-waits_seated marks places a = waits marks a && seat_key places a == 0
+waits_seated marks places a = seat_key places a == 0 && waits marks a
 
--- What stands in a list from one place on and waits stands there from another place on.
-abbrev pub IsPassed : List Bool → List UnitKeys → ℕ → ℕ → Type 0
-IsPassed marks order from to = (a : UnitKeys) → Contains (drop from order) a
-    → waits marks a ≡ true → Contains (drop to order) a
+-- A unit that stands for none.
+abbrev pub nobody : UnitKeys
+nobody = record {
+  unit = record { conn = record { 0 = 0 }; group = record { 0 = 0 } };
+  from = record { 0 = 0 };
+  to = record { 0 = 0 };
+  need = 0;
+  latency = 0;
+}
+
+-- None of a list comes before one behind it by its own order: the first of all stands last.
+abbrev pub Falls : List UnitKeys → Type 0
+Falls order = AllPairs (λ a b. is_lt (unit_order a b) ≡ false) order
+
+-- The first by its own order of those of a list that pass a test, or that none passes.
+abbrev pub IsFound : (UnitKeys → Bool) → List UnitKeys → Option UnitKeys → Type 0
+IsFound test order (Some m) = Contains order m × ((test m ≡ true) × ((a : UnitKeys)
+    → Contains order a → test a ≡ true → is_lt (unit_order a m) ≡ false))
+IsFound test order None = (a : UnitKeys) → Contains order a → test a ≡ false
 
 -- What holds of a table of units: each place has its own unit.
 pub record IsPlaced (place : ℕ) (a : UnitKeys) : Type 0 where
@@ -60,12 +75,10 @@ pub record IsGrid (grid : List UnitKeys) (marks : List Bool) : Type 0 where
   pub size : length marks ≡ length grid
   pub placed : (place : ℕ) (a : UnitKeys) → slice_get grid place ≡ Some a → IsPlaced place a
 
--- What holds of units in their own order beside the table: they are the table's, and those that wait
--- stand from a place on.
-pub record IsOrdered (grid : List UnitKeys) (marks : List Bool) (order : List UnitKeys) (passed : ℕ)
-    : Type 0 where
+-- What holds of units beside the table, of which the first by its own order stands last: they are the
+-- table's, and those that wait are among them.
+pub record IsOrdered (grid : List UnitKeys) (marks : List Bool) (order : List UnitKeys) : Type 0 where
   pub table : IsGrid grid marks
-  pub rises : IsSorted unit_order order
+  pub falls : Falls order
   pub units : (a : UnitKeys) → Contains order a → slice_get grid (grid_place a.unit) ≡ Some a
-  pub waiting : (a : UnitKeys) → Contains (items_where_true marks grid) a
-      → Contains (drop passed order) a
+  pub waiting : (a : UnitKeys) → Contains (items_where_true marks grid) a → Contains order a

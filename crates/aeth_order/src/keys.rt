@@ -1,7 +1,7 @@
 // What the place of a unit in the order rests on.
 ghost use Rattle.std.specs.Prelude.{◌≡◌, ◌<◌, length};
 ghost use Rattle.aeth_order.specs.Order.{is_seated, seat_key, unit_order};
-ghost use Rattle.aeth_order.specs.Units.{keys_of};
+ghost use Rattle.aeth_order.specs.Units.{is_unit, keys_of};
 
 use aeth_app::App;
 use aeth_base::{Channel, CoreId, Side, Unit};
@@ -45,6 +45,13 @@ impl UnitKeys {
             need: app.need(fwd) + app.need(back),
             latency: connection.fwd.latency.min(connection.back.latency),
         }
+    }
+
+    /// Whether it is this unit.
+    pub(crate) fn is_unit(&self, unit: Unit) -> bool
+        ensures { result ≡ is_unit unit self.now }
+    {
+        self.unit.conn.0 == unit.conn.0 && self.unit.group.0 == unit.group.0
     }
 
     /// The comparison with another unit by all that doesn't change.

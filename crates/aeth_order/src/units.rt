@@ -6,7 +6,7 @@ ghost use Rattle.aeth_order.specs.Units.{first_units, next_unit, without_unit};
 
 use crate::grid::{grid_of, marked, marks_of};
 use crate::keys::UnitKeys;
-use crate::sorted::{first_seated, first_waiting, in_order, passed};
+use crate::sorted::{first_seated, first_waiting, in_order, take_out};
 use aeth_app::{App, MAX_USES};
 use aeth_base::{NoMemory, Unit};
 use aeth_group::Groups;
@@ -16,15 +16,14 @@ use std::marker::Model;
 
 /// The units that wait for their turn.
 ///
-/// Beside them it keeps all units in their own order, which doesn't change from turn to turn, and how
-/// many of the first of these wait no more. So the next unit is found near there.
+/// Beside them it keeps those that wait in their own order, which doesn't change from turn to turn, the
+/// first last. So the next unit is found near the end, and is taken out there.
 #[derive(Drop)]
 pub struct Units {
     cores: u32,
     grid: Vec<UnitKeys>,
     marks: Vec<bool>,
     order: Vec<UnitKeys>,
-    passed: usize,
 }
 
 impl Model for Units {
@@ -40,7 +39,7 @@ impl Model for Units {
     } };
 
     ghost invariant = { λ units.
-        IsOrdered units.grid.items units.marks.items units.order.items units.passed };
+        IsOrdered units.grid.items units.marks.items units.order.items };
 }
 
 impl Units {
@@ -59,7 +58,6 @@ impl Units {
             grid,
             marks,
             order,
-            passed: 0,
         })
     }
 
@@ -70,7 +68,7 @@ impl Units {
         let place = MAX_USES as usize * unit.conn.0 as usize + unit.group.0 as usize;
         if unit.group.0 < MAX_USES && place < self.grid.len() {
             self.marks[place] = false;
-            self.passed = passed(&self.order, &self.marks, self.passed);
+            take_out(&mut self.order, unit);
         }
     }
 
@@ -78,9 +76,9 @@ impl Units {
     fn first(&self, seats: &Seats) -> Option<UnitKeys>
         ensures { result ≡ first_by (turn_order seats.now.places) self.now.waiting }
     {
-        match first_seated(&self.order, &self.marks, self.passed, seats) {
+        match first_seated(&self.order, &self.marks, seats) {
             Some(keys) => Some(keys),
-            None => first_waiting(&self.order, &self.marks, self.passed),
+            None => first_waiting(&self.order, &self.marks),
         }
     }
 }

@@ -1,13 +1,13 @@
 -- Lists of interfaces, each once: a further one that stands in the list before adds nothing.
-use Rattle.std.proofs.Common.{◌≡◌, ◌∙◌, ◌+◌, ◌<◌, ◌++◌, ℕ, Bool, true, false, cond, ◌||◌, List, []}
+use Rattle.std.proofs.Common.{◌≡◌, ◌∙◌, ◌+◌, ◌<◌, ◌≤◌, ◌++◌, ℕ, suc, All, Bool, true, false, cond, ◌||◌, List, []}
 use Rattle.std.proofs.Common.{◌∷◌}
 use Rattle.std.proofs.Common.{Contains, filter, not, eqb, get_or, length, take, sym, ap, subst, inl}
 use Rattle.std.proofs.Common.{inr, arith, refl}
 use Rattle.std.specs.List.{list_any}
 use Rattle.std.specs.Prelude.{sum_by}
-use Rattle.std.proofs.lemmas.Bool.{cases_Bool, eq-eqb, eqb-true, false≢true, ne_eqb}
+use Rattle.std.proofs.lemmas.Bool.{cases_Bool, eq-eqb, eqb-true, false≢true, ne_eqb, or_from}
 use Rattle.std.proofs.lemmas.List.{append-nil, take_more}
-use Rattle.std.proofs.lemmas.List.Elements.{filter-append}
+use Rattle.std.proofs.lemmas.List.Elements.{All-push, All-weaker, filter-append}
 use Rattle.std.proofs.lemmas.List.Sums.{sum_by-append, sum_by-cons}
 use Rattle.aeth_base.specs.declared.ids.NiId.{NiId}
 use Rattle.aeth_group.proofs.ListLemmas.{passes_from_any}
@@ -71,6 +71,25 @@ module _ (g : NiId → ℕ) (ns : List NiId) (i : ℕ) (d : NiId) (within : i < 
   sum-old old =
       ap (λ ms. sum_by g (each_once ms)) (take_more ns i d within)
       ∙ ap (sum_by g) (once-old (take i ns) (get_or ns i d) old)
+
+-- A list of interfaces below a number has none that isn't.
+pub none_below : (ns : List NiId) (below : ℕ) (n : NiId) → All (λ m. m.0 < below) ns → below ≤ n.0
+    → stands_in ns n ≡ false
+none_below [] below n all past = refl
+none_below (k ∷ ns) below n all past =
+    let first : k.0 < below = all 0 k (omega arith) in
+    or_from _ _ (ne_eqb k.0 n.0 (λ same. absurd (omega (arith, first, same, past))))
+    (none_below ns below n (λ i d within. all (suc i) d (omega arith)) past)
+
+-- A number that one more interface is below too.
+pub below_more : (ns : List NiId) (i : ℕ) (d : NiId) (below next : ℕ) → i < length ns
+    → All (λ (m : NiId). m.0 < below) (take i ns) → below ≤ next → (get_or ns i d).0 < next
+    → All (λ (m : NiId). m.0 < next) (take (i + 1) ns)
+below_more ns i d below next within all less one =
+    subst (All (λ (m : NiId). m.0 < next)) (sym (take_more ns i d within))
+    (All-push (λ (m : NiId). m.0 < next) (take i ns) (get_or ns i d)
+    (All-weaker (λ (m : NiId). m.0 < below) (λ (m : NiId). m.0 < next)
+    (λ m low. omega (arith, low, less)) (take i ns) all) one)
 
 -- One that is in a list is an element of it.
 pub stands-Contains : (ns : List NiId) (n : NiId) → stands_in ns n ≡ true → Contains ns n

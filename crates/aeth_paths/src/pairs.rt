@@ -1,6 +1,6 @@
 // The search over all pairs of a sender and a receiver.
 ghost use Rattle.std.specs.Prelude.{◌≡◌, ◌+◌, ◌<◌, ◌≤◌, ◌==◌, [], ◌∷◌, List, None};
-ghost use Rattle.std.specs.Prelude.{IfOk, MatchOption, false, length, sum_by};
+ghost use Rattle.std.specs.Prelude.{All, IfOk, MatchOption, false, length, sum_by};
 ghost use Rattle.std.specs.List.{list_any};
 ghost use Rattle.aeth_base.specs.declared.ids.LinkId.{LinkId};
 ghost use Rattle.aeth_base.specs.declared.ids.NiId.{NiId};
@@ -27,6 +27,17 @@ fn holds(list: &[NiId], ni: NiId) -> bool
     ensures { result ≡ list_any (λ n. n.0 == ni.0) list.now }
 {
     list.iter().any(|n| n.0 == ni.0)
+}
+
+// Whether an interface is in a list of such below a number: not where it isn't below it.
+fn holds_below(list: &[NiId], below: u64, ni: NiId) -> bool
+    requires { All (λ n. n.0 < below) list.now }
+    ensures { result ≡ list_any (λ n. n.0 == ni.0) list.now }
+{
+    if ni.0 as u64 >= below {
+        return false;
+    }
+    holds(list, ni)
 }
 
 // The list without links, which an interface begins.
@@ -122,11 +133,13 @@ fn try_to<L: Ledger>(
         task.now.book.now task.now.prices.now task.now.ask crowded.now a) (each_once to.now) }
 {
     let mut best = best;
+    let mut below = 0;
     for i in 0..to.len() {
         let b = to[i];
-        if !holds(&to[..i], b) {
+        if !holds_below(&to[..i], below, b) {
             best = try_pair(task, a, b, crowded, best, steps);
         }
+        below = below.max(b.0 as u64 + 1);
     }
     best
 }
@@ -147,11 +160,13 @@ fn try_from<L: Ledger>(
         task.now.prices.now task.now.ask from.now to.now crowded.now }
 {
     let mut best = None;
+    let mut below = 0;
     for i in 0..from.len() {
         let a = from[i];
-        if !holds(&from[..i], a) {
+        if !holds_below(&from[..i], below, a) {
             best = try_to(task, a, to, crowded, best, steps);
         }
+        below = below.max(a.0 as u64 + 1);
     }
     best
 }

@@ -14,7 +14,7 @@ ghost use Rattle.aeth_chip.specs.Paths.{to_of};
 ghost use Rattle.aeth_paths.specs.Candidates.{is_live};
 ghost use Rattle.aeth_chip.specs.LeastOnward.{least_from};
 ghost use Rattle.aeth_paths.specs.Open.{is_open, open_steps};
-ghost use Rattle.aeth_paths.specs.Over.{IsOver};
+ghost use Rattle.aeth_paths.specs.Over.{IsTurnFor};
 ghost use Rattle.aeth_paths.specs.Search.{completions, first_from, is_better, keep, turn_of};
 ghost use Rattle.aeth_paths.specs.Task.{links_from};
 ghost use Rattle.aeth_paths.specs.Walk.{GainsNothing, IsLeastFrom, IsPrefix, IsTask, Stands};
@@ -70,13 +70,6 @@ pub(crate) enum Turn {
     Away,
     Ends,
     Goes,
-}
-
-/// What comes of following a link: what is best then, and the list to go on from, if any.
-#[derive(Clone, Copy)]
-pub(crate) struct Over {
-    pub best: Option<Priced>,
-    pub longer: Option<Prefix>,
 }
 
 /// A link that leaves a node, by its place among these links; `None` where there is none.
@@ -322,36 +315,25 @@ fn is_hopeless(task: &Task, goal: &Goal, prefix: &Prefix, best: &Option<Priced>)
     !is_live(task, prefix)
 }
 
-/// What comes of a link that leaves a list's end: what is best then, or a list to go on from.
-fn over_link<L: Ledger>(
-    task: &Task,
-    goal: &Goal,
-    prefix: &Prefix,
-    link: LinkId,
-    best: Option<Priced>,
-    steps: &mut Steps<L>,
-) -> Over
+/// What a link that leaves a list's end is for a search that has a best path: `Away` too where no
+/// better path goes on over it.
+fn turn_for(task: &Task, goal: &Goal, prefix: &Prefix, link: LinkId, best: &Option<Priced>) -> Turn
     requires task { IsTask task.now }
     requires prefix { IsPrefix task.now prefix.now }
     requires short { length prefix.now.path < max_path_links }
     requires link { Contains (links_from task.now.chip.now.links prefix.now.end) link }
-    requires best { best ≡ priced (costs_of task.now) (path_in best) }
-    ensures over { IsOver task.now goal.now prefix.now link best result.best result.longer }
-    ensures steps { steps.new ≤ steps.old + 1 }
+    requires best { best.now ≡ priced (costs_of task.now) (path_in best.now) }
+    ensures { IsTurnFor task.now goal.now prefix.now link best.now result }
 {
     match turn_at(task, goal, prefix, link) {
-        Turn::Away => Over { best, longer: None },
-        Turn::Ends => {
-            let path = grown(task, prefix, link, steps);
-            let best = consider(task, goal, &path, best);
-            Over { best, longer: None }
-        }
+        Turn::Away => Turn::Away,
+        Turn::Ends => Turn::Ends,
         Turn::Goes => {
-            if is_vain(task, goal, prefix, link, &best) {
-                return Over { best, longer: None };
+            if is_vain(task, goal, prefix, link, best) {
+                Turn::Away
+            } else {
+                Turn::Goes
             }
-            let longer = Some(grown(task, prefix, link, steps));
-            Over { best, longer }
         }
     }
 }
@@ -389,11 +371,17 @@ pub(crate) fn extend<L: Ledger>(
         let Some(link) = leaving(task.chip, prefix.end, place) else {
             return best;
         };
-        let Over { best: met, longer } = over_link(task, goal, prefix, link, best, steps);
-        best = match longer {
-            None => met,
-            Some(longer) => extend(task, goal, &longer, met, left - 1, steps),
-        };
+        match turn_for(task, goal, prefix, link, &best) {
+            Turn::Away => {}
+            Turn::Ends => {
+                let whole = grown(task, prefix, link, steps);
+                best = consider(task, goal, &whole, best);
+            }
+            Turn::Goes => {
+                let longer = grown(task, prefix, link, steps);
+                best = extend(task, goal, &longer, best, left - 1, steps);
+            }
+        }
     }
     best
 }

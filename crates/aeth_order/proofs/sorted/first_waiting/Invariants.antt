@@ -1,9 +1,14 @@
-use Rattle.std.proofs.Common.{◌≡◌, drop}
-use Rattle.std.specs.List.{find}
+use Rattle.std.proofs.Common.{◌≤◌, length}
 use Rattle.aeth_order.specs.Grid.{waits}
+use Rattle.aeth_order.proofs.SortedLemmas.{FailFrom}
 use Rattle.aeth_order.proofs.sorted.first_waiting.Given as goal
 
--- None waits among those so far.
-abbrev pub invariant-loop-at : goal.invariant-loop-at
-invariant-loop-at l =
-    find (waits l.marks) (drop l.at l.order) ≡ find (waits l.marks) (drop l.from l.order)
+-- So many are left, and none behind them is meant.
+abbrev pub invariant-loop-left : goal.invariant-loop-left
+invariant-loop-left l = record {
+  within : l.left ≤ length l.order;
+  others : FailFrom (waits l.marks) l.order l.left;
+}
+
+abbrev pub decreases-loop-left : goal.decreases-loop-left
+decreases-loop-left l = l.left

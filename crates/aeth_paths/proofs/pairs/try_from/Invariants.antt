@@ -1,4 +1,5 @@
-use Rattle.std.proofs.Common.{◌≡◌, ◌+◌, ◌≤◌, None, take}
+use Rattle.std.proofs.Common.{◌≡◌, ◌+◌, ◌<◌, ◌≤◌, All, None, take}
+use Rattle.aeth_base.specs.declared.ids.NiId.{NiId}
 use Rattle.aeth_paths.specs.Open.{all_steps}
 use Rattle.aeth_paths.specs.Pairs.{OfferedFrom, Tries}
 use Rattle.aeth_paths.specs.Walk.{costs_of, path_in, priced}
@@ -10,6 +11,7 @@ invariant-loop-i g l = record {
   best : l.best ≡ priced (costs_of l.task) (path_in l.best);
   tries : Tries (costs_of l.task) None (path_in l.best)
       (OfferedFrom l.task.book.now l.task.ask l.crowded (take l.i l.from) l.to);
+  below : All (λ (n : NiId). n.0 < l.below) (take l.i l.from);
   steps : l.steps ≤ l.fn.steps + all_steps l.task.chip.now l.task.book.now l.task.prices.now
       l.task.ask (take l.i l.from) l.to l.crowded;
 }

@@ -1,13 +1,14 @@
-use Rattle.std.proofs.Common.{◌∙◌, ℕ, List, ap, arith, sym, subst}
+use Rattle.std.proofs.Common.{◌∙◌, ◌+◌, ◌<◌, ℕ, All, List, take, ap, arith, sym, subst}
 use Rattle.std.specs.Prelude.{sum_by}
 use Rattle.std.proofs.lemmas.List.{take_all}
+use Rattle.std.proofs.lemmas.List.Elements.{All-nil}
 use Rattle.aeth_base.specs.declared.ids.NiId.{NiId}
 use Rattle.aeth_paths.specs.Open.{allowed_steps, each_once}
 use Rattle.aeth_paths.specs.Pairs.{IsOffered, OfferedTo, Tries}
 use Rattle.aeth_paths.specs.Walk.{costs_of, path_in}
-use Rattle.aeth_paths.proofs.OnceLemmas.{stands-Contains, sum-new, sum-old}
+use Rattle.aeth_paths.proofs.OnceLemmas.{below_more, stands-Contains, sum-new, sum-old}
 use Rattle.aeth_paths.proofs.TryLemmas.{tries-again, tries-more, tries-no}
-use Rattle.aeth_paths.proofs.pairs.try_to.Goals.{then-not-holds, else-not-holds}
+use Rattle.aeth_paths.proofs.pairs.try_to.Goals.{then-not-holds_below, else-not-holds_below}
 use Rattle.aeth_paths.proofs.pairs.try_to.Goals as goal
 
 -- No receiver was tried.
@@ -19,6 +20,7 @@ loop-i-init g c =
       tries = tries-no
           (IsOffered task.book.now task.ask c.args.crowded.now c.args.a)
           (costs_of task) (path_in c.args.best);
+      below = All-nil (λ (n : NiId). n.0 < 0);
       steps = omega arith;
     }
 
@@ -33,29 +35,34 @@ loop-i-preserved g c =
     let best = path_in c.loop-i.best in
     let many : NiId → ℕ =
     allowed_steps task.chip.now task.book.now task.prices.now task.ask crowded c.args.a in
-    elim c.if-not-holds.branch [
-      | then-not-holds w ↦ record {
+    let less : All (λ (n : NiId). n.0 < c.max-below.result) (take (i + 1) xs) =
+    below_more xs i d c.loop-i.below c.max-below.result c.loop-i-test.true c.loop-i.invariant.below
+    (omega (arith, c.max-below.ensures)) (omega (arith, c.max-below.ensures)) in
+    elim c.if-not-holds_below.branch [
+      | then-not-holds_below w ↦ record {
         best = rw w.best-is w.try_pair-best.ensures.best;
         tries = rw w.best-is (tries-more
             (IsOffered task.book.now task.ask c.args.crowded.now c.args.a)
             (costs_of task) (path_in c.args.best) best (path_in w.try_pair-best.result) xs i d
             c.loop-i-test.true c.loop-i.invariant.tries w.try_pair-best.ensures.tries);
+        below = less;
         steps = omega (
           arith,
           w.steps-is,
-          sum-new many xs i d c.loop-i-test.true (sym c.holds.ensures ∙ w.if-not-holds.true),
+          sum-new many xs i d c.loop-i-test.true (sym c.holds_below.ensures ∙ w.if-not-holds_below.true),
           c.loop-i.invariant.steps,
           w.try_pair-best.ensures.steps,
         );
       }
-      | else-not-holds w ↦
-          let again = sym c.holds.ensures ∙ w.if-not-holds.false in
+      | else-not-holds_below w ↦
+          let again = sym c.holds_below.ensures ∙ w.if-not-holds_below.false in
           record {
             best = rw w.best-is c.loop-i.invariant.best;
             tries = rw w.best-is (tries-again
                 (IsOffered task.book.now task.ask c.args.crowded.now c.args.a)
                 (costs_of task) (path_in c.args.best) best xs i d c.loop-i-test.true
                 (stands-Contains _ _ again) c.loop-i.invariant.tries);
+            below = less;
             steps = omega (
               arith,
               w.steps-is,

@@ -1,19 +1,19 @@
-use Rattle.std.proofs.Common.{◌≡◌, ◌∙◌, ◌+◌, ◌-◌, ◌∷◌, [], ℕ, List, Some}
-use Rattle.std.proofs.Common.{length, sym, ap, subst, arith, rules, length-append}
+use Rattle.std.proofs.Common.{◌≡◌, ◌∙◌, ◌+◌, ◌-◌, ◌++◌, ◌∷◌, [], ℕ, List, Some}
+use Rattle.std.proofs.Common.{length, sym, ap, arith, rules, length-append}
 use Rattle.std.specs.Prelude.{slice_get}
 use Rattle.std.proofs.lemmas.Option.{slice_get_within}
 use Rattle.aeth_base.specs.declared.ids.LinkId.{LinkId}
 use Rattle.aeth_chip.specs.LeastOnward.{least_from}
 use Rattle.aeth_chip.specs.declared.node.Link.{Link}
-use Rattle.aeth_paths.specs.Over.{IsOver}
-use Rattle.aeth_paths.specs.Search.{Field, completions, first_from}
+use Rattle.aeth_paths.specs.Search.{Field, by_turn, completions, first_from, keep}
 use Rattle.aeth_paths.specs.Task.{links_from}
 use Rattle.aeth_paths.specs.Walk.{costs_of, field_of, path_in, priced}
+use Rattle.aeth_paths.specs.declared.search.Turn.{Turn}
 use Rattle.aeth_base.proofs.Members.{Contains-slice_get}
 use Rattle.aeth_paths.proofs.StepLemmas.{all-left, all-ports, along-longer, best-end, best-step}
-use Rattle.aeth_paths.proofs.StepLemmas.{completions-none, priced-again, stands-goes, steps-away}
+use Rattle.aeth_paths.proofs.StepLemmas.{completions-none, link-below, priced-again, stands-goes, steps-away}
 use Rattle.aeth_paths.proofs.StepLemmas.{steps-end, steps-longer, steps_over}
-use Rattle.aeth_paths.proofs.search.+extend.Goals.{in-None, in-Some-longer}
+use Rattle.aeth_paths.proofs.search.+extend.Goals.{in-Away, in-Ends, in-Goes}
 use Rattle.aeth_paths.proofs.search.+extend.Goals as goal
 
 -- No link may follow.
@@ -46,13 +46,30 @@ returns-in_default-clause-steps g t c =
     (c.loop-place.invariant.steps)
 
 -- The link leaves the end, and a further one may follow.
-pub over_link-met-requires-clause-link : goal.over_link-met-requires-clause-link
-over_link-met-requires-clause-link g t c =
+pub turn_for-requires-clause-link : goal.turn_for-requires-clause-link
+turn_for-requires-clause-link g t c =
     Contains-slice_get (links_from c.args.task.now.chip.now.links c.args.prefix.now.end)
     c.loop-place.place c.in-Some.link (sym c.in-Some.ensures)
 
-pub over_link-met-requires-clause-best : goal.over_link-met-requires-clause-best
-over_link-met-requires-clause-best g t c =
+pub turn_for-requires-clause-best : goal.turn_for-requires-clause-best
+turn_for-requires-clause-best g t c =
+    priced-again (costs_of c.args.task.now) _ c.loop-place.best c.loop-place.invariant.best
+
+-- The link is one of the chip.
+pub grown-whole-requires-clause-link : goal.grown-whole-requires-clause-link
+grown-whole-requires-clause-link g t c =
+    link-below c.args.task.now.chip.now.links c.args.prefix.now.end c.in-Some.link
+    (Contains-slice_get (links_from c.args.task.now.chip.now.links c.args.prefix.now.end)
+    c.loop-place.place c.in-Some.link (sym c.in-Some.ensures))
+
+pub grown-longer-requires-clause-link : goal.grown-longer-requires-clause-link
+grown-longer-requires-clause-link g t c =
+    link-below c.args.task.now.chip.now.links c.args.prefix.now.end c.in-Some.link
+    (Contains-slice_get (links_from c.args.task.now.chip.now.links c.args.prefix.now.end)
+    c.loop-place.place c.in-Some.link (sym c.in-Some.ensures))
+
+pub consider-best-requires-clause-best : goal.consider-best-requires-clause-best
+consider-best-requires-clause-best g t c =
     priced-again (costs_of c.args.task.now) _ c.loop-place.best c.loop-place.invariant.best
 
 -- What the longer list must be.
@@ -60,26 +77,25 @@ pub extend-best-requires : goal.extend-best-requires
 extend-best-requires g t c lives kept =
     let f = field_of c.args.task.now c.args.goal.now in
     let path = c.args.prefix.now.path in
-    let longer = c.in-Some-longer.longer in
-    let (is, same) = subst (IsOver c.args.task.now c.args.goal.now c.args.prefix.now c.in-Some.link
-    c.loop-place.best c.over_link-met.result.best) c.in-Some-longer.is
-    c.over_link-met.ensures.over in
+    let longer = c.grown-longer.result in
+    let known = c.grown-longer.ensures in
     let more : length longer.path ≡ length path + 1 =
-    ap (λ (p : List LinkId). length p) is.path ∙ length-append path (c.in-Some.link ∷ []) in (
+    ap (λ (p : List LinkId). length p) known.path ∙ length-append path (c.in-Some.link ∷ []) in (
       search (rules, c.decreases),
       (
         kept,
         (
           c.requires.task,
           (
-            is.known,
+            known.prefix,
             (
-              is.node,
+              known.node,
               (
-                stands-goes f path longer.path c.in-Some.link longer.end is.goes is.path is.end,
+                stands-goes f path longer.path c.in-Some.link longer.end c.in-Goes.ensures known.path
+                    known.end,
                 (
-                  priced-again (costs_of c.args.task.now) _ c.over_link-met.result.best
-                      (same ∙ c.loop-place.invariant.best),
+                  priced-again (costs_of c.args.task.now) _ c.loop-place.best
+                      c.loop-place.invariant.best,
                   omega (arith, more, c.requires.room),
                 ),
               ),
@@ -104,35 +120,42 @@ loop-place-preserved g t c =
     c.requires.task.book ∙ sym c.in-Some.ensures in
     let inside = slice_get_within links place link at in
     let step = best-step f path (completions f left) (path_in c.args.best) links place link
-    c.loop-place.best c.match-longer.best at c.loop-place.invariant.best in
+    c.loop-place.best c.match-turn_for.best at c.loop-place.invariant.best in
     let over = steps_over f (least_from task.chip.now c.args.goal.now.ni) left path in
     let few = steps-away over links place link c.args.steps.now c.loop-place.steps
-    c.match-longer.steps at in
-    let met = IsOver task c.args.goal.now c.args.prefix.now link c.loop-place.best
-    c.over_link-met.result.best in
-    elim c.match-longer.branch [
-      | in-None w ↦ record {
+    c.match-turn_for.steps at in
+    elim c.match-turn_for.branch [
+      | in-Away w ↦ record {
         within = omega (arith, inside);
-        best = step (w.best-is ∙ subst met w.in-None.is c.over_link-met.ensures.over left);
-        steps = few (omega (arith, w.steps-is, c.over_link-met.ensures.steps))
+        best = step (w.best-is ∙ w.in-Away.ensures left);
+        steps = few (omega (arith, w.steps-is)) c.loop-place.invariant.steps;
+      }
+      | in-Ends w ↦ record {
+        within = omega (arith, inside);
+        best = step (w.best-is ∙ w.consider-best.ensures
+            ∙ ap (λ (p : List LinkId). priced f.cost (keep f (path_in c.loop-place.best) p))
+            w.grown-whole.ensures.path
+            ∙ ap (λ (t : Turn). priced f.cost (first_from f (path_in c.loop-place.best)
+            (by_turn t ((path ++ link ∷ []) ∷ [])
+            (completions f left (f.to link) (path ++ link ∷ []))))) (sym w.in-Ends.ensures));
+        steps = few (omega (arith, w.steps-is, w.grown-whole.ensures.steps))
             c.loop-place.invariant.steps;
       }
-      | in-Some-longer w ↦
-          let (is, same) = subst met w.in-Some-longer.is c.over_link-met.ensures.over in
-          let longer = w.in-Some-longer.longer in
+      | in-Goes w ↦
+          let longer = w.grown-longer.result in
+          let known = w.grown-longer.ensures in
           record {
             within = omega (arith, inside);
             best = step (w.best-is ∙ w.extend-best.ensures.best
-                ∙ ap (λ o. priced f.cost (first_from f (path_in o)
-                (completions f left longer.end longer.path))) same
                 ∙ ap (λ ps. priced f.cost (first_from f (path_in c.loop-place.best) ps))
-                (along-longer f path link is.goes longer.end longer.path is.end is.path left));
+                (along-longer f path link w.in-Goes.ensures longer.end longer.path known.end
+                known.path left));
             steps = few (omega (
               arith,
               w.steps-is,
               w.extend-best.ensures.steps,
-              c.over_link-met.ensures.steps,
-              steps-longer f path link is.goes longer.end longer.path is.end is.path
+              known.steps,
+              steps-longer f path link w.in-Goes.ensures longer.end longer.path known.end known.path
                   (least_from task.chip.now c.args.goal.now.ni) left,
             )) c.loop-place.invariant.steps;
           }

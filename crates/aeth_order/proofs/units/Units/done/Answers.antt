@@ -13,10 +13,9 @@ use Rattle.aeth_order.proofs.units.Units.done.Goals.{else-unit-lt-MAX_USES-via-e
 pub invariant_of-self : goal.invariant_of-self
 invariant_of-self c =
     let units = c.self.inside in
-    order-done units.grid.items units.marks.items units.order.items units.passed
-    c.passed-self-inside.result c.args.unit c.self.invariant c.if-unit-lt-MAX_USES.true
-    (rw (c.deref.ensures.value, c.deref-then-place-len.ensures.value) at
-    c.passed-self-inside.ensures)
+    order-done units.grid.items units.marks.items units.order.items c.take_out.new.order.items
+    c.args.unit c.self.invariant c.if-unit-lt-MAX_USES.true c.take_out.ensures.falls
+    c.take_out.ensures.among c.take_out.ensures.others
 
 -- The others wait on.
 pub returns-then-place-len : goal.returns-then-place-len

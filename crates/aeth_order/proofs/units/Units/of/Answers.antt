@@ -40,7 +40,7 @@ invariant_of-result c =
     (rw (c.in_ok-grid.ensures, c.in_ok-marks.ensures)
     (grid-start app groups c.slots-slots.ensures.app c.requires))
     (subst (λ (us : List UnitKeys). IsPermutation us order) waiting c.in_ok-order.ensures.same)
-    c.in_ok-order.ensures.rises
+    c.in_ok-order.ensures.falls
 
 -- They are all units.
 pub returns : goal.returns

@@ -1,0 +1,32 @@
+use Rattle.std.proofs.Common.{◌∙◌, sym, arith}
+use Rattle.aeth_order.specs.Grid.{waits}
+use Rattle.aeth_order.proofs.SortedLemmas.{fail-more, found-here, found-none}
+use Rattle.aeth_order.proofs.sorted.first_waiting.Goals as goal
+
+-- Behind all of them is none.
+pub loop-left-init : goal.loop-left-init
+loop-left-init c = record {
+  within = omega arith;
+  others = λ k d low within. absurd (omega (arith, low, within));
+}
+
+-- Here is one.
+pub returns-then-waits : goal.returns-then-waits
+returns-then-waits c =
+    found-here (waits c.args.marks.now) c.args.order.now c.requires c.loop-left.left c.loop-left-test.true
+    c.loop-left.invariant.within (sym c.waits.ensures ∙ c.if-waits.true) c.loop-left.invariant.others
+
+-- Here is none.
+pub loop-left-preserved : goal.loop-left-preserved
+loop-left-preserved c = record {
+  within = omega (arith, c.loop-left.invariant.within);
+  others = fail-more (waits c.args.marks.now) c.args.order.now c.loop-left.left c.loop-left-test.true
+      c.loop-left.invariant.within (sym c.waits.ensures ∙ c.if-waits.false)
+      c.loop-left.invariant.others;
+}
+
+-- All were seen.
+pub returns : goal.returns
+returns c =
+    found-none (waits c.args.marks.now) c.args.order.now (λ k d low within.
+    c.loop-left.invariant.others k d (omega (arith, c.loop-left-test.false)) within)
