@@ -15,6 +15,7 @@ pub mod InOrder
 pub mod KeptLanes
 pub mod LandedWords
 pub mod LaneLookups
+pub mod LastFlits
 pub mod LastLanes
 pub mod NetworkLaws
 pub mod NetworkLogs
@@ -28,10 +29,15 @@ pub mod Preparing
 pub mod ReadyChannels
 pub mod ReadySound
 pub mod Replaced
+pub mod RestedNetworks
+pub mod RestingNetworks
+pub mod RestingParts
+pub mod RestingStates
 pub mod RowFilters
 pub mod RunningCycles
 pub mod SessionCycles
 pub mod SessionTold
+pub mod SettledQueues
 pub mod StillCycles
 pub mod StillEvents
 pub mod StillGoings

@@ -1,6 +1,9 @@
 -- Networks that the next cycle leaves as they are.
+--
+--   IsStill      the next cycle leaves a network
+--   passed_over      a network behind a later cycle that left it
 -- This project's own.
-use Rattle.std.specs.Prelude.{◌≡◌, ◌<◌, ℕ, true, [], None, Some, All, slice_get}
+use Rattle.std.specs.Prelude.{◌≡◌, ◌<◌, ◌+◌, ℕ, true, [], None, Some, All, fold, slice_get}
 use Rattle.aeth_clocked.specs.Wires.{flit_on}
 use Rattle.aeth_components.specs.Lanes.{is_open}
 use Rattle.aeth_components.specs.Phases.{asked_of}
@@ -8,6 +11,7 @@ use Rattle.aeth_components.specs.declared.lane.Lane.{Lane}
 use Rattle.aeth_schedule.specs.Windows.{IsWithin}
 use Rattle.aeth_events.specs.Events.{events_in}
 use Rattle.aeth_running.specs.Network.{NetworkState, goings_in, offers_in, ready_in, stepped}
+use Rattle.aeth_running.specs.Network.{takes_in, taking_with}
 
 -- The next cycle leaves a network as it is, but for sessions that go in cycle 0 and for how receivers
 -- take: no wire has a flit, before it and behind it, no word is offered, no later session goes, no event
@@ -21,3 +25,13 @@ pub record IsStill (all : NetworkState) : Type 0 where
   pub unasked : (number : ℕ) (lane : Lane) → slice_get (ready_in all).lanes number ≡ Some lane
       → is_open lane all.time ≡ true → asked_of lane ≡ 0
   pub unswitched : All (λ window. IsWithin window all.time → ⊥) all.stimuli.schedule.windows
+
+-- A network behind a later cycle that left it: its receivers take as the rows of the cycle say, and one
+-- cycle more is done.
+abbrev pub passed_over : NetworkState → NetworkState
+passed_over all = record all {
+  components = record all.components {
+    lanes = fold taking_with all.components.lanes (takes_in all.stimuli all.time);
+  };
+  time = all.time + 1;
+}

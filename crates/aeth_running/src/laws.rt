@@ -7,7 +7,7 @@ ghost use Rattle.aeth_fabric.specs.Fabric.{fabric_of};
 ghost use Rattle.aeth_running.specs.Idle.{IsIdle};
 ghost use Rattle.aeth_running.specs.Network.{first_network, played, ready_in};
 ghost use Rattle.aeth_running.specs.Running.{IsRunning, IsServing};
-ghost use Rattle.aeth_running.specs.Still.{IsStill};
+ghost use Rattle.aeth_running.specs.Still.{IsStill, passed_over};
 ghost use Rattle.aeth_running.specs.Told.{network_log};
 ghost use Rattle.aeth_report.specs.RunLog.{log_of};
 ghost use Rattle.std.specs.Option.{option_to_list};
@@ -80,6 +80,28 @@ pub fn idle_cycles_are_still()
     networks_carry();
     aeth_fabric::laws::runs_have_fabrics();
     aeth_tables::laws::switches();
+}
+
+/// A cycle that leaves a network leaves its components just as they are once they are ready for it: sessions
+/// have gone, which they do in cycle 0 alone, and receivers take as their rows say.
+///
+/// Behind cycle 0 it leaves all else of the network too.
+pub fn still_cycles_rest()
+    ensures components { (inputs : Inputs) → AreAccepted inputs → (t : ℕ) → t < inputs.cycles
+        → IsStill (played t (first_network inputs))
+        → (played (t + 1) (first_network inputs)).components
+        ≡ ready_in (played t (first_network inputs)) }
+    ensures later { (inputs : Inputs) → AreAccepted inputs → (t : ℕ) → t < inputs.cycles → 0 < t
+        → IsStill (played t (first_network inputs))
+        → played (t + 1) (first_network inputs) ≡ passed_over (played t (first_network inputs)) }
+{
+    networks_run();
+    networks_serve();
+    idle_cycles_are_still();
+    aeth_events::laws::events_are_events();
+    aeth_fabric::laws::runs_have_fabrics();
+    aeth_invariant::laws::switches_are_made();
+    aeth_invariant::laws::cycles_are_cycles();
 }
 
 /// The wires of the network of accepted inputs carry in each cycle what the run of the private servers

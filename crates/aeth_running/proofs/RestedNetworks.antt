@@ -1,0 +1,140 @@
+-- What a network of accepted inputs is behind a cycle that it is still in.
+use Rattle.std.proofs.Common.{◌≡◌, ◌<◌, ◌∙◌, ◌+◌, ◌++◌, ℕ, zero, suc, List, [], None, Some, ap}
+use Rattle.std.proofs.Common.{arith, fold, inl, inr, length, map, slice_get, sym}
+use Rattle.std.specs.List.{slice_index_or}
+use Rattle.std.proofs.lemmas.Bool.{cases_Bool}
+use Rattle.std.proofs.lemmas.List.{append-nil}
+use Rattle.aeth_clocked.specs.Wires.{flit_on}
+use Rattle.aeth_ni.specs.Interface.{InterfaceState}
+use Rattle.aeth_router.specs.declared.part.Part.TheVariants.{Interface}
+use Rattle.aeth_trace.specs.Channels.{channel_number}
+use Rattle.aeth_components.proofs.FrameLemmas.{length-wires_driven}
+use Rattle.aeth_components.proofs.TurnLemmas.{drawn_out-none, pulled-closed, pulled-open}
+use Rattle.aeth_components.specs.Components.{ComponentsState, moment_of}
+use Rattle.aeth_components.specs.Components.{wires_driven}
+use Rattle.aeth_components.specs.Lanes.{is_open}
+use Rattle.aeth_components.specs.Phases.{Moment, pulled, refilled}
+use Rattle.aeth_components.specs.declared.lane.Lane.{Lane}
+use Rattle.aeth_accepted.specs.Inputs.{Inputs}
+use Rattle.aeth_schedule.specs.Rooms.{rooms_of}
+use Rattle.aeth_schedule.specs.Switching.{loaded_of}
+use Rattle.aeth_schedule.specs.declared.going.Going.{Going}
+use Rattle.aeth_stimuli.specs.Loaded.{no_lane}
+use Rattle.aeth_stimuli.specs.Stimuli.{Offer}
+use Rattle.aeth_running.proofs.LastFlits.{last-latched, last-loaded}
+use Rattle.aeth_running.proofs.Played.{played-next, played-time}
+use Rattle.aeth_running.proofs.RestingNetworks.{stepped-components}
+use Rattle.aeth_running.proofs.RestingParts.{drives-rest, lands-none, latches-rest}
+use Rattle.aeth_running.proofs.RestingStates.{both-empty, in_turn-rests, state-rests}
+use Rattle.aeth_running.specs.Network.{NetworkState, first_network, played, ready_in, state_behind}
+use Rattle.aeth_running.specs.Network.{accepted_with, gone_with, goings_in, offers_in, outside_in}
+use Rattle.aeth_running.specs.Network.{outside_with, stepped, takes_in, taking_with, until_with}
+use Rattle.aeth_running.specs.Network.{untils_in}
+use Rattle.aeth_running.specs.Running.{IsServing}
+use Rattle.aeth_running.specs.Still.{IsStill, passed_over}
+
+-- Where the wires are empty interfaces tell of no last flit.
+last-none : (inputs : Inputs) (t : ℕ)
+    → ((l : ℕ) → flit_on (played t (first_network inputs)).components.wires l ≡ None)
+    → (i : ℕ) (ni : InterfaceState)
+    → slice_get (played t (first_network inputs)).components.parts i ≡ Some (Interface ni)
+    → ni.last ≡ None
+unfolding played stepped first_network
+last-none inputs zero empty i ni at =
+    last-loaded inputs.chip (rooms_of inputs) (loaded_of inputs) i ni at
+last-none inputs (suc t) empty i ni at = last-latched _ empty _ i ni at
+
+-- Where no session goes and no word is offered, and the components are as they were once they were
+-- ready, all else stays.
+over-nothing : (all : NetworkState) → (stepped all).components ≡ ready_in all
+    → goings_in all.stimuli all.time ≡ [] → offers_in all.stimuli all.time ≡ []
+    → stepped all ≡ passed_over all
+unfolding stepped
+over-nothing all rests ungone unoffered =
+    let untils = untils_in all.stimuli all.time all.untils in
+    let stood = λ (going : Going).
+    slice_index_or all.components.lanes (channel_number going.channel) no_lane in
+    let behind = λ (goings : List Going) (offers : List Offer).
+    let until = fold until_with all.untils goings in
+    let one : NetworkState = record all {
+      components = record all.components {
+        lanes = fold taking_with
+            (fold (accepted_with all.time until) (fold gone_with all.components.lanes goings) offers)
+            (takes_in all.stimuli all.time);
+      };
+      untils = until;
+      outside = fold (outside_with all.time until) all.outside offers;
+      replaced = all.replaced ++ map stood goings;
+      time = all.time + 1;
+    } in
+    one in
+    ap (λ (one : ComponentsState). record all {
+      components = one;
+      untils = untils;
+      outside = outside_in all.stimuli all.time untils all.outside;
+      replaced = all.replaced ++ map stood (goings_in all.stimuli all.time);
+      time = all.time + 1;
+    }) rests
+    ∙ (λ i. behind (ungone i) (unoffered i))
+    ∙ ap (λ (replaced : List Lane). record (passed_over all) { replaced = replaced })
+    (append-nil all.replaced)
+
+module _ (inputs : Inputs) (t : ℕ)
+    (serves : IsServing inputs t (played t (first_network inputs)).components
+    (ready_in (played t (first_network inputs))))
+    (still : IsStill (played t (first_network inputs)))
+    (hands : (number : ℕ) (lane : Lane)
+    → slice_get (ready_in (played t (first_network inputs))).lanes number ≡ Some lane
+    → refilled (ready_in (played t (first_network inputs))).words t
+    (ready_in (played t (first_network inputs))).parts lane
+    ≡ ((ready_in (played t (first_network inputs))).parts, lane)) where
+  abbrev all : NetworkState
+  all = played t (first_network inputs)
+
+  abbrev ready : ComponentsState
+  ready = ready_in all
+
+  takes : (number : ℕ) (lane : Lane) → slice_get ready.lanes number ≡ Some lane
+      → pulled t ready.parts lane ≡ (ready.parts, lane)
+  takes number lane at = elim (cases_Bool (is_open lane t)) [
+    | inl opened ↦
+        pulled-open t ready.parts lane opened
+        ∙ drawn_out-none ready.parts lane
+        (still.unasked number lane at (ap (is_open lane) (played-time inputs t) ∙ opened))
+    | inr closed ↦ pulled-closed t ready.parts lane closed
+  ]
+
+  behind : (stepped all).components ≡ state_behind [] t ready
+  behind = stepped-components all
+      ∙ (λ i. state_behind (still.eventless i) (played-time inputs t i) ready)
+
+  -- No component sends.
+  silent : (l : ℕ) → flit_on (wires_driven ready.parts (length ready.wires) t) l ≡ None
+  silent l =
+      ap (λ (one : Moment). flit_on (wires_driven one.parts (length ready.wires) t) l)
+      (sym (in_turn-rests (refilled ready.words t) (moment_of ready) hands))
+      ∙ ap (λ (one : ComponentsState). flit_on one.wires l) (sym behind) ∙ still.silent l
+
+  -- So each rests, and nothing is counted.
+  rests : (stepped all).components ≡ ready
+  rests =
+      let wired = serves.follows.wired in
+      let latched = serves.follows.latched in
+      let last = last-none inputs t still.empty in
+      behind
+      ∙ state-rests ready t still.empty hands takes
+      (drives-rest ready.parts ready.wires t wired latched still.empty silent last)
+      (both-empty (wires_driven ready.parts (length ready.wires) t) ready.wires
+      (length-wires_driven ready.parts (length ready.wires) t) silent still.empty)
+      (latches-rest ready.parts ready.wires t wired latched still.empty silent last)
+      (lands-none ready.parts ready.wires t wired latched still.empty silent last)
+
+  pub components-rest : (played (t + 1) (first_network inputs)).components ≡ ready
+  components-rest =
+      ap (λ (one : NetworkState). one.components) (played-next (first_network inputs) t) ∙ rests
+
+  pub passes-over : 0 < t → played (t + 1) (first_network inputs) ≡ passed_over all
+  passes-over late =
+      let time = played-time inputs t in
+      played-next (first_network inputs) t
+      ∙ over-nothing all rests (still.ungone (omega arith)) still.unoffered

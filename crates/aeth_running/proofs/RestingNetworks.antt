@@ -1,0 +1,241 @@
+-- A network of accepted inputs in an idle cycle: refilling hands nothing on.
+use Rattle.std.proofs.Common.{◌≡◌, ◌≤◌, ◌<◌, ◌⊎◌, ◌∙◌, ◌+◌, ◌-◌, ℕ, suc, Contains, List, []}
+use Rattle.std.proofs.Common.{◌∷◌, None, Option, Some, ap, arith, filter, inl, inr, length, map, min}
+use Rattle.std.proofs.Common.{refl, slice_get, subst, sym}
+use Rattle.std.specs.Prelude.{nat_le, nat_lt, ◌&&◌}
+use Rattle.std.proofs.lemmas.Bool.{cases_Bool, cases_lt, cases_order, le-ltb, lt-ltb}
+use Rattle.std.proofs.lemmas.Option.{same_Some}
+use Rattle.aeth_base.proofs.Members.{Contains-here, Contains-there, filter-Contains, map-Contains}
+use Rattle.aeth_clocked.specs.Wires.{flit_on}
+use Rattle.aeth_clocked.specs.declared.flit.Flit.{Flit}
+use Rattle.aeth_ni.specs.Limits.{waiting_words}
+use Rattle.aeth_ni.specs.Queue.{QueueState}
+use Rattle.aeth_server.proofs.SessionEnds.{idle-before}
+use Rattle.aeth_server.specs.FinishTimes.{arrivals_before}
+use Rattle.aeth_server.specs.PrivateServer.{PrivateServer, arrived, sent}
+use Rattle.aeth_trace.specs.declared.words.WordRow.{WordRow}
+use Rattle.aeth_trace.specs.Channels.{is_channel}
+use Rattle.aeth_components.proofs.TurnLemmas.{refilled-closed, refilled-none, refilled-open}
+use Rattle.aeth_components.specs.Changes.{switched}
+use Rattle.aeth_components.specs.Components.{ComponentsState, Cycle}
+use Rattle.aeth_components.specs.Frames.{frame_of}
+use Rattle.aeth_components.specs.Lanes.{is_open}
+use Rattle.aeth_components.specs.Phases.{left_of, refilled}
+use Rattle.aeth_components.specs.View.{queue_of as queue_in_parts}
+use Rattle.aeth_components.specs.declared.event.Event.{Event}
+use Rattle.aeth_components.specs.declared.lane.Lane.{Lane}
+use Rattle.aeth_router.specs.declared.part.Part.{Part}
+use Rattle.aeth_refinement.specs.Accepted.{IsAccepted}
+use Rattle.aeth_refinement.specs.Fabric.{Fabric, IsGoing, Owns, server_at}
+use Rattle.aeth_refinement.specs.Switches.{Switched}
+use Rattle.aeth_refinement.proofs.Owning.{waiting-length}
+use Rattle.aeth_refinement.proofs.Unique.{paths-of}
+use Rattle.aeth_accepted.specs.Inputs.{Inputs, run_of}
+use Rattle.aeth_fabric.specs.Fabric.{fabric_of, placed_at}
+use Rattle.aeth_stimuli.specs.Sessions.{channel_of}
+use Rattle.aeth_stimuli.specs.Stimuli.{stimuli_of}
+use Rattle.aeth_events.specs.Events.{events_in}
+use Rattle.aeth_invariant.specs.Events.{AreEvents}
+use Rattle.aeth_invariant.specs.Following.{Follows}
+use Rattle.aeth_invariant.specs.Framed.{IsFramed}
+use Rattle.aeth_invariant.specs.Served.{handed_after}
+use Rattle.aeth_invariant.specs.View.{net_of}
+use Rattle.aeth_running.proofs.KeptLanes.{cycle-behind}
+use Rattle.aeth_running.proofs.NetworkWires.{exact}
+use Rattle.aeth_running.proofs.Played.{played-next, played-stimuli, played-time}
+use Rattle.aeth_running.proofs.SettledQueues.{handed-full, handed_on-full, sent-same}
+use Rattle.aeth_running.specs.Network.{NetworkState, first_network, played, ready_in, state_behind}
+use Rattle.aeth_running.specs.Network.{stepped}
+use Rattle.aeth_running.specs.Running.{IsRunning, IsServing}
+
+-- Where no word is offered in a cycle, none arrives in it.
+same-arrivals : (t : ℕ) (xs : List ℕ) → ((a : ℕ) → Contains xs a → a ≡ t → ⊥)
+    → arrivals_before xs (t + 1) ≡ arrivals_before xs t
+same-arrivals t [] none = refl
+same-arrivals t (x ∷ xs) none =
+    let rest = same-arrivals t xs (λ a has. none a (Contains-there x xs a has)) in
+    elim (cases_order x t) [
+      | inl same ↦ absurd (none x (Contains-here x xs) same)
+      | inr (inl before) ↦ rw (lt-ltb x t before, lt-ltb x (t + 1) (omega arith))
+          (ap (λ n. suc n) rest)
+      | inr (inr behind) ↦ rw (le-ltb x t (omega arith), le-ltb x (t + 1) (omega arith)) rest
+    ]
+
+same-arrived : (server : PrivateServer) (t : ℕ)
+    → ((a : ℕ) → Contains server.offers a → a ≡ t → ⊥) → arrived server (t + 1) ≡ arrived server t
+same-arrived server t none =
+    let accepts = λ (a : ℕ). nat_le server.go a && nat_lt a server.until in
+    same-arrivals t (filter accepts server.offers)
+    (λ a has. none a (filter-Contains accepts server.offers a has).0)
+
+-- The components behind a cycle.
+pub stepped-components : (all : NetworkState)
+    → (stepped all).components ≡ state_behind (events_in all.stimuli all.time) all.time (ready_in all)
+unfolding stepped
+stepped-components all = refl
+
+module _ (inputs : Inputs) (ok : IsAccepted (fabric_of inputs))
+    (follows-on : (fabric : Fabric) → IsAccepted fabric → (channel : ℕ → ℕ)
+    (events : List Event) (t : ℕ) (handed : ℕ → ℕ) (old new : ComponentsState)
+    → Follows fabric channel t t handed old → AreEvents fabric (t + 1) events
+    → Cycle events t old new → Follows fabric channel t (t + 1)
+    (handed_after fabric (net_of handed (switched events old.parts) old.wires) t) new)
+    (switches : (fabric : Fabric) (e : ℕ) (events : List Event) (parts : List Part)
+    (handed : ℕ → ℕ) (wires : List (Option Flit)) (count : ℕ)
+    → IsFramed fabric (map frame_of parts) count → AreEvents fabric e events
+    → Switched fabric e (net_of handed parts wires) (net_of handed (switched events parts) wires))
+    (events-are : (t : ℕ) → t < inputs.cycles
+    → AreEvents (fabric_of inputs) (t + 1) (events_in (stimuli_of inputs) t))
+    (running : (t : ℕ) → t ≤ inputs.cycles
+    → IsRunning inputs t (played t (first_network inputs)).components)
+    (serving : (t : ℕ) → t < inputs.cycles
+    → IsServing inputs t (played t (first_network inputs)).components
+    (ready_in (played t (first_network inputs)))) where
+  abbrev fabric : Fabric
+  fabric = fabric_of inputs
+
+  abbrev ready : ℕ → ComponentsState
+  ready t = ready_in (played t (first_network inputs))
+
+  components-next : (t : ℕ) → (played (t + 1) (first_network inputs)).components
+      ≡ state_behind (events_in (stimuli_of inputs) t) t (ready t)
+  components-next t =
+      let all = played t (first_network inputs) in
+      let stimuli = played-stimuli inputs t in
+      let time = played-time inputs t in
+      ap (λ (one : NetworkState). one.components) (played-next (first_network inputs) t)
+      ∙ stepped-components all
+      ∙ (λ i. state_behind (events_in (stimuli i) (time i)) (time i) (ready t))
+
+  -- A session that is in use in a cycle and went before it has been handed so many words.
+  handed-before : (t c : ℕ) (known : c < fabric.count) (early : t + 1 < inputs.cycles)
+      (going : IsGoing fabric c (t + 1)) → (server_at fabric c).go ≤ t
+      → (serving (t + 1) early).handed c
+      ≡ min (sent (server_at fabric c) t + waiting_words) (arrived (server_at fabric c) (suc t))
+  handed-before t c known early going gone =
+      let goes = going.goes in
+      let unfinished = going.unfinished in
+      let earlier : IsGoing fabric c t = record { goes = gone; unfinished = omega arith } in
+      let before = serving t (omega arith) in
+      let serves = serving (t + 1) early in
+      let old = ready t in
+      let events = events_in (stimuli_of inputs) t in
+      let new = state_behind events t old in
+      let are = events-are t (omega arith) in
+      let tables = net_of before.handed (switched events old.parts) old.wires in
+      let follows = follows-on fabric ok (channel_of inputs) events t before.handed old new
+      before.follows are (cycle-behind events t old) in
+      let next : t + 1 ≡ suc t = omega arith in
+      let change : Switched fabric (suc t) (net_of before.handed old.parts old.wires) tables =
+      subst (λ n. Switched fabric n (net_of before.handed old.parts old.wires) tables) next
+      (switches fabric (t + 1) events old.parts before.handed old.wires (length old.wires)
+      before.follows.framed are) in
+      let full = handed-full fabric ok t c known earlier (net_of before.handed old.parts old.wires) tables
+      before.follows.stands change in
+      let was = follows.served.own c known earlier in
+      let there = ap (λ (all : ComponentsState). slice_get all.lanes (channel_of inputs c))
+      (components-next t) ∙ was.at in
+      let stays = serves.prepares.stays c was.lane known going (omega arith) there in
+      let has = serves.follows.served.own c known going in
+      let same = same_Some has.lane _ (sym has.at ∙ stays) in
+      sym has.served.counted.handed_is ∙ ap (λ (lane : Lane). lane.handed) same
+      ∙ was.served.counted.handed_is ∙ full
+
+  handed-at : (t u c : ℕ) (known : c < fabric.count) (early : t < inputs.cycles)
+      (going : IsGoing fabric c t) → u + 1 ≡ t → (server_at fabric c).go ≤ u
+      → (serving t early).handed c
+      ≡ min (sent (server_at fabric c) u + waiting_words) (arrived (server_at fabric c) (suc u))
+  handed-at t u c known early going next gone =
+      subst (λ (n : ℕ). (soon : n < inputs.cycles) (going : IsGoing fabric c n)
+      → (serving n soon).handed c
+      ≡ min (sent (server_at fabric c) u + waiting_words) (arrived (server_at fabric c) (suc u))) next
+      (λ soon using. handed-before u c known soon using gone) early going
+
+  module _ (t : ℕ) (early : t < inputs.cycles)
+      (empty : (l : ℕ) → flit_on (played t (first_network inputs)).components.wires l ≡ None)
+      (unoffered : (row : WordRow) → Contains inputs.words row → row.cycle ≡ t → ⊥) where
+    -- No word arrives in the cycle.
+    none-arrives : (c : ℕ) → arrived (server_at fabric c) (t + 1) ≡ arrived (server_at fabric c) t
+    none-arrives c =
+        let channel = (placed_at (run_of inputs) c).channel in
+        let own = λ (row : WordRow). is_channel channel row.channel in
+        same-arrived (server_at fabric c) t (λ a has now.
+        let (row, is, listed) = map-Contains (λ (row : WordRow). row.cycle)
+        (filter own inputs.words) a has in
+        unoffered row (filter-Contains own inputs.words row listed).0 (is ∙ now))
+
+    -- No word was sent in the cycle before.
+    none-sent : (u c : ℕ) → c < fabric.count → IsGoing fabric c u → u + 1 ≡ t
+        → sent (server_at fabric c) t ≡ sent (server_at fabric c) u
+    none-sent u c known going next =
+        ap (sent (server_at fabric c)) (sym next)
+        ∙ sent-same fabric ok u c known going
+        (flit_on (played (u + 1) (first_network inputs)).components.wires)
+        (exact inputs running u (omega arith))
+        (λ l. ap (λ n. flit_on (played n (first_network inputs)).components.wires l) next ∙ empty l)
+
+    -- A session in use has handed all on that it accepted, or eight of its words wait.
+    settled : (c : ℕ) (known : c < fabric.count) (going : IsGoing fabric c t)
+        → (arrived (server_at fabric c) (t + 1) ≤ (serving t early).handed c)
+        ⊎ (length (queue_in_parts (ready t).parts (fabric.passage c).ni
+        (fabric.passage c).queue).waiting ≡ waiting_words)
+    settled c known going =
+        let server = server_at fabric c in
+        let goes = going.goes in
+        let unfinished = going.unfinished in
+        let arrives = none-arrives c in
+        elim (cases_lt server.go t) [
+          | inr late ↦
+              let none = (idle-before server (paths-of fabric ok c known) t late).arrived in
+              inl (omega (arith, none, arrives))
+          | inl before ↦
+              let u = t - 1 in
+              let next : u + 1 ≡ t = omega arith in
+              let handed = handed-at t u c known early going next (omega arith) in
+              let earlier : IsGoing fabric c u =
+              record { goes = omega arith; unfinished = omega arith } in
+              let sends = none-sent u c known earlier next in
+              let now : suc u ≡ t = omega arith in
+              let arrived_is = ap (arrived server) now in
+              let order = ok.ordered c known in
+              let since = order.set_since in
+              let set = order.set_go in
+              let own : Owns fabric c t = record { since = omega arith; finish = omega arith } in
+              let serves = serving t early in
+              let waits = waiting-length fabric ok t t
+              (net_of serves.handed (ready t).parts (ready t).wires) serves.follows.stands c known own in
+              elim (cases_lt (sent server u + waiting_words) (arrived server t)) [
+                | inl more ↦ inr (omega (arith, handed, sends, arrived_is, waits, more))
+                | inr fewer ↦ inl (omega (arith, handed, arrives, arrived_is, fewer))
+              ]
+        ]
+
+    -- So refilling leaves its channel.
+    pub hands-rest : (number : ℕ) (lane : Lane) → slice_get (ready t).lanes number ≡ Some lane
+        → refilled (ready t).words t (ready t).parts lane ≡ ((ready t).parts, lane)
+    hands-rest number lane at =
+        let parts = (ready t).parts in
+        let words = (ready t).words in
+        let serves = serving t early in
+        elim (cases_Bool (is_open lane t)) [
+          | inr closed ↦ refilled-closed words t parts lane closed
+          | inl opened ↦
+              let used = serves.follows.served.only number lane at opened in
+              let c = used.session in
+              let has = serves.follows.served.own c used.known used.going in
+              let same : has.lane ≡ lane = same_Some has.lane lane
+              (sym (sym (ap (slice_get (ready t).lanes) used.place) ∙ has.at) ∙ at) in
+              let accepted = sym (ap (λ (one : Lane). one.accepted) same) ∙ has.served.fed.accepted in
+              let handed = sym (ap (λ (one : Lane). one.handed) same) ∙ has.served.counted.handed_is in
+              let ni = sym (ap (λ (one : Lane). one.sender.ni.0) same) ∙ has.served.of.sender.ni in
+              let queue = sym (ap (λ (one : Lane). one.sender.queue) same)
+              ∙ has.served.of.sender.queue in
+              elim (settled c used.known used.going) [
+                | inl all ↦ refilled-none words t parts lane (omega (arith, all, accepted, handed))
+                | inr full ↦
+                    refilled-open words t parts lane opened
+                    ∙ handed_on-full (left_of words lane) parts lane
+                    (ap (λ (q : QueueState). length q.waiting)
+                    (λ i. queue_in_parts parts (ni i) (queue i)) ∙ full)
+              ]
+        ]
