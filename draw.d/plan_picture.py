@@ -193,9 +193,14 @@ def reading(chip_map, chosen):
     )
 
 
-def draw_head(lines, use, width):
+def sentences_of(told, reading_of_it):
+    """The sentences below the name of a picture: what it tells, and how it is read."""
+    return [(text, None) for text in told] + [(reading_of_it, "less")]
+
+
+def draw_head(lines, name, width):
     """The name of the picture and the sentences below it, and how high they are."""
-    parts, y = [svg.label(f"Use case {use}", MARGIN, MARGIN + 14, "head", width, 18)], MARGIN + 34
+    parts, y = [svg.label(name, MARGIN, MARGIN + 14, "head", width, 18)], MARGIN + 34
     for sentence, kind in lines:
         for text in svg.wrapped(sentence, min(width, MOST_WIDTH), 11):
             parts.append(svg.label(text, MARGIN, y, kind))
@@ -209,8 +214,7 @@ def draw_plan(design, chosen=()):
     chip_map = ChipMap(design)
     width = max(chip_map.width, LEAST_WIDTH)
     told = summary(design)
-    sentences = [(text, None) for text in told] + [(reading(chip_map, chosen), "less")]
-    head, top = draw_head(sentences, design.use, width)
+    head, top = draw_head(sentences_of(told, reading(chip_map, chosen)), f"Use case {design.use}", width)
     legend = Legend(list(chosen) or design.channels, width, chip_map.height + 2 * MARGIN)
     inner = [legend.head(), *chip_parts.draw_chip(chip_map), draw_channels(chip_map, legend, chosen)]
     bottom = legend.bottom

@@ -89,10 +89,15 @@ class WithProgram(unittest.TestCase):
 
 
 class Readme(WithProgram):
+    @classmethod
+    def setUpClass(cls):
+        super().setUpClass()
+        cls.home.put("small.toml", cls.home.design("chip", "torus", "3", "3", "--slots", "4")[1])
+
     def test_its_pictures_are_those_of_its_commands(self):
         text = (TOP / "README.md").read_text().replace("\\\n", "")
         commands = re.findall(r"^\./draw (.*) > (docs/pictures/\S+)", text, re.M)
-        self.assertGreaterEqual(len(commands), 2)
+        self.assertGreaterEqual(len(commands), 3)
         for words, picture in commands:
             self.assertEqual(self.draw(*words.split()), (TOP / picture).read_text(), picture)
 
