@@ -189,18 +189,21 @@ class Gate(WithHome):
 
     def setUp(self):
         super().setUp()
-        born = subprocess.run(["stat", "-c", "%W", self.home.top], capture_output=True, check=False).stdout
-        if not born.strip().isdigit() or not int(born):
+        if self.born(".") <= 0:
             self.skipTest("this file system doesn't tell when a folder was made")
         self.leave()
 
-    def leave(self):
-        time.sleep(0.05)  # the clock of files is coarse
+    def leave(self, pause=0.05):
+        time.sleep(pause)  # the clock of files is coarse
         (self.home.top / "crates/aeth_base/out").mkdir()
         for name in ("aeth_middle", "aeth"):
             (self.home.top / "crates" / name / "out").mkdir()
         program = self.home.put("crates/aeth/out/aeth", "#!/bin/sh\necho left\n")
         program.chmod(0o755)
+
+    def take_away(self):
+        for name in ("aeth_base", "aeth_middle", "aeth"):
+            shutil.rmtree(self.home.top / "crates" / name / "out")
 
     def test_left(self):
         for _ in range(2):
@@ -216,6 +219,29 @@ class Gate(WithHome):
         shutil.copy2(kept, self.main)
         self.says("main base middle", 1)
 
+    def test_left_and_changed_in_the_same_tick(self):
+        """What changed as the gate made its first folder counts as changed: the clock of files may tell one time of both."""
+        for number in range(1, 6):
+            self.change_and_leave(f"change {number}\n")
+            self.says(f"change {number} base middle", number)
+
+    def change_and_leave(self, text):
+        """Changes a source, and lets a gate begin before the clock of files has gone on by more than a tick."""
+        for _ in range(100):
+            self.take_away()
+            self.main.write_text(text)
+            self.leave(pause=0)
+            if self.born("crates/aeth_base/out") - self.main.stat().st_ctime < 0.01:
+                return
+        self.skipTest("this machine is too busy to make a source and a folder within a tick")
+
+    def born(self, name):
+        """When a folder was made, or 0 where the file system doesn't tell."""
+        told = subprocess.run(
+            ["stat", "-c", "%.9W", self.home.top / name], capture_output=True, check=False, env={**os.environ, "LC_ALL": "C"}
+        ).stdout
+        return float(told or 0)
+
     def test_left_and_deleted(self):
         time.sleep(0.05)
         self.home.put("crates/aeth/specs/Words.antt", "")
@@ -228,8 +254,7 @@ class Gate(WithHome):
 
     def test_rt_ci_takes_nothing_away(self):
         self.home.run()
-        for name in ("aeth_base", "aeth_middle", "aeth"):
-            shutil.rmtree(self.home.top / "crates" / name / "out")
+        self.take_away()
         self.assertEqual(self.home.run(), (0, "left\n", ""))
 
 
