@@ -12,9 +12,9 @@ RANGES = {
 }
 
 
-def section(title):
+def section(title, document="FORMATS.md"):
     """The text of a section."""
-    parts = re.split(r"(?m)^## ", (HOME / "docs" / "FORMATS.md").read_text(encoding="utf-8"))
+    parts = re.split(r"(?m)^## ", (HOME / "docs" / document).read_text(encoding="utf-8"))
     return next(part for part in parts if part.startswith(title + "\n"))
 
 
@@ -29,6 +29,12 @@ def rules_of_plans():
     return dict(re.findall(r"(?m)^\| (\d) \| ([^|]+) \|", section("`check`")))
 
 
+def rules_of_logs():
+    """By number the rules of the rows of a clean log."""
+    rules = re.findall(r"(?m)^(\d)\. (.*(?:\n   .*)*)", section("Logs of links", "RULES.md"))
+    return {number: re.sub(r"\s+", " ", text) for number, text in rules}
+
+
 def keys_of(title, table):
     """The keys of a table of a chip or an application, with what each must be."""
     rows = re.findall(r"(?m)^\| ([^|]+) \| (`[^|]+) \| ([^|]+) \|$", section(title))
@@ -41,7 +47,11 @@ def keys_of(title, table):
 
 
 def columns_of(file):
-    """The header of a trace file, and what its columns have."""
+    """The header of a file of rows, and what its columns have."""
+    if file == "log":
+        text = re.sub(r"\s+", " ", section("Logs of links"))
+        header, ranges = re.search(r"(`cycle,[^`]+`).*? (Cycles are [^.]*)\.", text).groups()
+        return f"The columns {header} have numbers. {ranges}."
     header, columns = re.search(rf"(?m)^\| {file} \| (`[^|]+`) \| ([^|]+) \|$", section("Trace files")).groups()
     return f"The columns {header} have {columns}."
 
@@ -83,6 +93,8 @@ def broken_at(file, title, rule, path):
     broken = rules_of(title)[rule]
     if broken == "as for chip files":
         broken = rules_of("Chip files")[rule]
+    if broken.startswith("as of a plan"):
+        broken = rules_of("Plans")[rule] + broken.removeprefix("as of a plan")
     if file not in RANGES or path is None:
         return broken
     if rule == 2:

@@ -5,7 +5,7 @@ import math
 from aeth import run_aeth
 from files import toml_lines
 from places import WALKS, row_line
-from rules import broken_at, columns_of, rules_of_plans
+from rules import broken_at, columns_of, rules_of, rules_of_logs, rules_of_plans
 
 # The file words of each command, in the order of its words.
 FILES = {
@@ -13,12 +13,17 @@ FILES = {
     "app": ["chip", "app"],
     "allocate": ["chip", "app"],
     "check": ["chip", "app", "plan"],
+    "explain": ["chip", "app", "cert"],
     "tables": ["chip", "app", "plan", "use"],
+    "route-tables": ["chip", "app", "plan", "use"],
     "simulate": ["chip", "app", "plan", "words", "receivers", "switches"],
+    "links": ["chip", "app", "plan", "words", "receivers", "switches"],
+    "audit": ["chip", "app", "plan", "switches", "log"],
+    "chain": ["chip", "app", "plan", "use", "chain", "words", "receivers"],
 }
 SECTIONS = {
-    "chip": "Chip files", "app": "Application files", "plan": "Plans",
-    "words": "Trace files", "receivers": "Trace files", "switches": "Trace files",
+    "chip": "Chip files", "app": "Application files", "plan": "Plans", "cert": "Certificates",
+    "words": "Trace files", "receivers": "Trace files", "switches": "Trace files", "log": "Logs of links",
 }
 MOST_BYTES = 33_554_432
 MOST_DEPTH = 80  # of arrays and inline tables, one within another
@@ -120,7 +125,7 @@ def in_toml(file, paths, rule, place, value):
 
 
 def in_rows(file, path, name, place, value):
-    """Where a refusal of a plan or a trace points, in words: of rows out of order also the one before."""
+    """Where a refusal of lines or rows points, in words: of rows out of order also the one before."""
     data = Path(path).read_bytes()
     lines = data.decode("utf-8", "replace").splitlines()
     if name == "TooMany":
@@ -130,7 +135,7 @@ def in_rows(file, path, name, place, value):
     shown = []
     places = [place - 1, place] if name in ("OutOfOrder", "Overlap", "WrongOrder") else [place]
     for row in places:
-        line = row if file == "plan" else row_line(data, row)
+        line = row if file in ("plan", "cert") else row_line(data, row)
         if not line or line > len(lines):
             return shown + [f"{path}, at its end"]
         shown.append(f"{path}, line {line}: {lines[line - 1]}")
@@ -150,6 +155,9 @@ def refusal(file, rule, name, place, value, paths):
         return [f"{path}: it has more than {MOST_BYTES:,} bytes, the most that a file may have."]
     if file == "use":
         return [f"No use case of {paths.get('app')} has the name `{value}`."]
+    if file == "chain":
+        item = f"Item {place} of the chain: {paths['chain'].split(',')[place - 1]}"
+        return [item, f"Rule {rule} of chains, {name}, is broken where {rules_of('`chain`')[rule]}."]
     title, at = SECTIONS[file], None
     if name == "BadToml":
         shown = [why_no_toml(path, Path(path).read_bytes())]
@@ -183,6 +191,12 @@ def broken_plan(rule, line, other, paths):
     return shown + [f"Rule {rule} of an accepted plan is broken where {rules_of_plans()[rule].strip()}."]
 
 
+def fault(rule, row, paths):
+    """A row of a log that an audit finds, and the rule that it breaks."""
+    shown = in_rows("log", paths["log"], "", int(row), "")
+    return shown + [f"It breaks rule {rule} of the rows of a clean log: {rules_of_logs()[rule]}"]
+
+
 def told(line, paths):
     """A line of standard error in words, or none where it says enough."""
     word, *rest = line.split(" ")
@@ -195,6 +209,12 @@ def told(line, paths):
         return broken_plan(*rest, paths)
     if word == "missing":
         return [f"The plan has no grant for channel {rest[2]} of connection `{rest[0]}` in group {rest[1]}."]
+    if word == "fault":
+        return fault(*rest, paths)
+    if line.startswith("not dead "):
+        return in_rows("cert", paths["cert"], "", int(rest[1]), "") + ["Its links are no cut of the try above it."]
+    if word == "open":
+        return [f"No cut of the try begins the path {rest[3]} of channel {rest[2]} of connection `{rest[0]}`."]
     if word == "read":
         return [f"{paths.get(rest[1])} can't be read: it is missing, a folder, or unreadable."]
     if word == "usage":

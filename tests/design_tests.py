@@ -1,8 +1,10 @@
 """Tests of `./design`: each shape through `aeth`, each kind of trace by what it may hold, each refusal with its words."""
 from collections import Counter
 from html.parser import HTMLParser
+from tempfile import NamedTemporaryFile
 import csv
 import io
+import re
 import sys
 import unittest
 
@@ -11,6 +13,7 @@ from home import Home, PROGRAM, TOP
 sys.path.append(str(TOP / "design.d"))
 import files  # noqa: E402: its folder is told above
 import toml_lines  # noqa: E402
+import where  # noqa: E402
 
 EXAMPLES = TOP / "examples"
 
@@ -257,6 +260,58 @@ class Refusals(Designs):
 
     def test_no_command(self):
         self.assertIn("These words are no command", self.run_script("design", "where", "slots", "8")[2])
+
+
+class Words(unittest.TestCase):
+    """What is said of lines of `aeth`, without the program."""
+
+    def told(self, command, line, *words):
+        return "\n".join(where.told(line, dict(zip(where.FILES[command], map(str, words)))))
+
+    def test_logs_of_links(self):
+        log = EXAMPLES / "one.links.csv"
+        words = ("audit", "pair.toml", "one.toml", "one.plan", "one.switches.csv", log)
+        for line, tells in (
+            ("refused log 3 OutOfOrder 2 4", (f"{log}, line 2: 4,0,", f"{log}, line 3: 5,4,", "the row isn't in a later cycle")),
+            ("refused log 1 BadRow 1 -", ("line 2: 4,0,", "The columns `cycle,link,header,first,second` have numbers. Cycles are 0")),
+            ("refused log 2 Unknown 3 2", ("line 4: 6,3,2147483648,100,101   (field 2)", "is broken where the link is none")),
+            ("refused log 4 TooMany 0 1000001", (f"{log}: it has 1,000,001 rows", "more than 1,000,000 rows.")),
+            ("fault 3 2", ("line 3: 5,4,", "It breaks rule 3 of the rows of a clean log: It comes from a row on the link before,")),
+            ("fault 1 1", ("line 2: 4,0,", "rule 1 of the rows of a clean log: Its link is reserved in its cycle.")),
+        ):
+            told = self.told(words[0], line, *words[1:])
+            for text in tells:
+                self.assertIn(text, told)
+
+    def test_certificates(self):
+        with NamedTemporaryFile("w", suffix=".cert") as cert:
+            cert.write("explain 1\ntry c0 0 back 1\ncut 9\nend\n")
+            cert.flush()
+            for line, tells in (
+                ("refused cert 1 BadLine 2 -", ("line 2: try c0 0 back 1", "hasn't this form at its position", "a `cut` line")),
+                ("refused cert 2 Unknown 3 2", ("line 3: cut 9   (field 2)", "a link number is no link")),
+                ("refused cert 3 WrongTry 2 -", ("line 2: try c0 0 back 1", "isn't that of the refusal in its place")),
+                ("not dead 3", ("line 3: cut 9", "Its links are no cut")),
+                ("open c0 0 back 0,1", ("No cut of the try begins the path 0,1 of channel back of connection `c0`.",)),
+            ):
+                told = self.told("explain", line, "pair.toml", "roll.toml", cert.name)
+                for text in tells:
+                    self.assertIn(text, told)
+
+    def test_chains(self):
+        words = ("pair.toml", "local.toml", "local.plan", "main", "c1:fwd:3,c0:back", "words", "receivers")
+        told = self.told("chain", "refused chain 3 NotJoined 2 c0", *words)
+        self.assertIn("Item 2 of the chain: c0:back", told)
+        self.assertIn("Rule 3 of chains, NotJoined, is broken where from the second item on: the channel doesn't begin", told)
+
+    def test_each_command_with_files(self):
+        """It knows the files of each command that has some, and where the rules of each file stand."""
+        formats = (TOP / "docs/FORMATS.md").read_text(encoding="utf-8")
+        words = {"CHIP", "APP", "PLAN", "USE", "WORDS", "RECEIVERS", "SWITCHES", "LOG", "CERT", "CHAIN"}
+        for command, given in re.findall(r"^aeth ([a-z-]+) (.*)", formats, re.M):
+            files_of = [word.lower() for word in re.findall(r"\w+", given) if word in words]
+            if files_of:
+                self.assertEqual(where.FILES[command], files_of)
 
 
 class Page(HTMLParser):

@@ -175,6 +175,8 @@ class Builds(WithHome):
             how = {"stdout": subprocess.DEVNULL, "stderr": subprocess.DEVNULL, "stdin": subprocess.DEVNULL}
             settings = {**self.home.settings, "SLOW": "9"}
             before = self.home.built()
+            # Tests that a shell runs in the background are begun with SIGINT ignored, and so would be what they run.
+            how["preexec_fn"] = lambda: signal.signal(number, signal.SIG_DFL)
             ran = subprocess.Popen([self.home.top / "aeth"], env=settings, start_new_session=True, **how)
             while self.home.built() == before and ran.poll() is None:
                 time.sleep(0.05)
