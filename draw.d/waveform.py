@@ -124,19 +124,18 @@ def states_of(log, cycles, channels):
 
 
 def changes_of(states, signals):
-    """The lines of all changes: first of the values of all signals, then of those that differ from the ones before."""
+    """A text for each state: first of the values of all signals, then of those that differ from the ones before."""
     _, before = next(states)
-    yield from ["#0", "$dumpvars"]
-    for link, signs in enumerate(signals):
-        yield from map("".join, zip(before.get(link, EMPTY), signs))
-    yield "$end"
+    lines = [
+        value + sign for link, signs in enumerate(signals) for value, sign in zip(before.get(link, EMPTY), signs)
+    ]
+    yield "\n".join(["#0", "$dumpvars", *lines, "$end"])
     for cycle, flits in states:
-        yield f"#{cycle}"
+        lines = [f"#{cycle}"]
         for link in sorted(before.keys() | flits.keys()):
             values, earlier = flits.get(link, EMPTY), before.get(link, EMPTY)
-            for value, old, sign in zip(values, earlier, signals[link]):
-                if value != old:
-                    yield value + sign
+            lines += [value + sign for value, old, sign in zip(values, earlier, signals[link]) if value != old]
+        yield "\n".join(lines)
         before = flits
 
 
