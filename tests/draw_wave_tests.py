@@ -105,6 +105,14 @@ class Dumps(unittest.TestCase):
         first = '1!\nb1 "\nb0 #\nb0 $\nb10 %\nb1100100 &\nb1100101 \'\nsc0:fwd (\n'
         self.assertIn(f"#4\n{first}#5\n0!\nbz \"\n", dump.body)
 
+    def test_signals_of_the_example_for_a_viewer(self):
+        files = [(EXAMPLES / name).read_bytes() for name in ("mesh.toml", "video.toml")]
+        scopes = Dump(draw_wave(*files, b"plan 1 64\nend\n", HEAD, 9)).scopes
+        shown = re.findall(r"^links\.(\w+)\.(\w+)(?:\[31:0\])?$", (EXAMPLES / "video.gtkw").read_text(), re.M)
+        self.assertEqual(len(shown), 16)
+        for scope, field in shown:
+            self.assertIn(field, scopes[scope])
+
     def test_first_and_last_cycles(self):
         for log, cycles, times in (
             ("", 3, [0, 3]),
