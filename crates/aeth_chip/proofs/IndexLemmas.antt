@@ -1,5 +1,8 @@
 -- What is read in an index of a chip's links is what stands among the links.
-use Rattle.std.proofs.Common.{◌≡◌, ◌<◌, ◌≤◌, ◌+◌, ◌++◌, ◌∙◌, ℕ, false, List, [], ◌∷◌, Some, length}
+use Rattle.std.proofs.Common.{◌≡◌, ◌<◌, ◌≤◌, ◌+◌, ◌++◌, ◌∙◌, ℕ, zero, suc, false, List, [], ◌∷◌, Some}
+use Rattle.std.proofs.Common.{length}
+use Rattle.std.specs.List.{range_with_len}
+use Rattle.std.specs.Prelude.{count_by}
 use Rattle.std.proofs.Common.{if◌then◌else◌, map, slice_get, subst, take, refl, sym, ap, inl, inr}
 use Rattle.std.proofs.Common.{arith}
 use Rattle.std.specs.declared.vec.Vec.{Vec}
@@ -16,8 +19,12 @@ use Rattle.aeth_chip.specs.declared.node.Link.{Link}
 use Rattle.aeth_chip.specs.declared.node.Node.{Node}
 use Rattle.aeth_chip.specs.declared.node.Node.TheVariants.{Router, Ni}
 use Rattle.aeth_chip.specs.Chip.{ChipData, IsChip, IsNode}
-use Rattle.aeth_chip.specs.Index.{AreListed, IsPort, entry_for, list_at}
-use Rattle.aeth_chip.specs.Nodes.{IsBelow, begins_at, has_end, numbers_from, router_of, same_node}
+use Rattle.aeth_chip.specs.Index.{AreListed, AreRouterLinks, IsPort, as_router, count_at}
+use Rattle.aeth_chip.specs.Index.{crowded_in, entry_for, list_at}
+use Rattle.aeth_chip.specs.ChipFile.{crowded}
+use Rattle.aeth_chip.specs.declared.lists.RouterLinks.{RouterLinks}
+use Rattle.aeth_chip.specs.Nodes.{IsBelow, begins_at, end_node, has_end, numbers_from, router_of}
+use Rattle.aeth_chip.specs.Nodes.{same_node}
 use Rattle.aeth_chip.proofs.NodeLemmas.{length-numbers_from, numbers_from-none, numbers_from-push}
 
 -- A known node is no router past the last.
@@ -40,7 +47,7 @@ nothing_past_last chip To is_chip r past =
 
 -- The list of a router has its links, and that of a router past the last none.
 pub links_listed : (chip : ChipData) (end : End) (lists : List (Vec LinkId Global)) → IsChip chip
-    → AreListed end chip.links (length chip.routers) lists → (router : RouterId)
+    → AreListed as_router end chip.links (length chip.routers) lists → (router : RouterId)
     → map (λ (link : LinkId). link.0) (list_at lists router.0)
     ≡ numbers_from 0 (has_end end (Router router)) chip.links
 links_listed chip end lists is_chip listed router =
@@ -53,53 +60,49 @@ links_listed chip end lists is_chip listed router =
           rw none (sym (nothing_past_last chip end is_chip router.0 (omega arith)))
     ]
 
--- The node at an end of a link.
-abbrev pub node_of : End → Link → Node
-node_of From link = link.from
-node_of To link = link.to
-
 has_end-node : (end : End) (node : Node) (link : Link)
-    → has_end end node link ≡ same_node (node_of end link) node
+    → has_end end node link ≡ same_node (end_node end link) node
 has_end-node From node link = refl
 has_end-node To node link = refl
 
-entry_number : (node : Node) (number router : ℕ)
-    → map (λ (link : LinkId). link.0) (entry_for node (record { 0 = number }) router)
-    ≡ (if same_node node (Router (record { 0 = router })) then number ∷ [] else [])
-entry_number node number router =
-    elim (cases_Bool (same_node node (Router (record { 0 = router })))) [
+entry_number : (kind : ℕ → Node) (node : Node) (link number : ℕ)
+    → map (λ (l : LinkId). l.0) (entry_for kind node (record { 0 = link }) number)
+    ≡ (if same_node node (kind number) then link ∷ [] else [])
+entry_number kind node link number =
+    elim (cases_Bool (same_node node (kind number))) [
       | inl same ↦ rw same refl
       | inr other ↦ rw other refl
     ]
 
 -- One more link.
-pub listed-more : (end : End) (links : List Link) (routers number : ℕ) (link : Link)
-    (old new : List (Vec LinkId Global)) → AreListed end (take number links) routers old
+pub listed-more : (kind : ℕ → Node) (end : End) (links : List Link) (count number : ℕ) (link : Link)
+    (old new : List (Vec LinkId Global)) → AreListed kind end (take number links) count old
     → slice_get links number ≡ Some link → length new ≡ length old
-    → ((router : ℕ) → list_at new router
-    ≡ list_at old router ++ entry_for (node_of end link) (record { 0 = number }) router)
-    → AreListed end (take (number + 1) links) routers new
-listed-more end links routers number link old new listed at size entered = record {
+    → ((place : ℕ) → list_at new place
+    ≡ list_at old place ++ entry_for kind (end_node end link) (record { 0 = number }) place)
+    → AreListed kind end (take (number + 1) links) count new
+listed-more kind end links count number link old new listed at size entered = record {
   size = size ∙ listed.size;
-  each = λ router within.
-      let node : Node = Router (record { 0 = router }) in
+  each = λ place within.
+      let node : Node = kind place in
       let test = has_end end node in
       let inside = slice_get_within links number link at in
       let more : take (number + 1) links ≡ take number links ++ link ∷ [] =
       take_more links number link inside
       ∙ ap (λ x. take number links ++ x ∷ []) (get_or_from_slice_get links number link link at) in
-      let count : length (take number links) ≡ number = length-take-le number links (omega arith) in
+      let count_is : length (take number links) ≡ number =
+      length-take-le number links (omega arith) in
       let pushed = numbers_from-push test 0 (take number links) link in
-      let place : 0 + length (take number links) ≡ number = omega arith in
+      let here : 0 + length (take number links) ≡ number = omega arith in
       rw (
-        entered router,
-        map-append (λ (l : LinkId). l.0) (list_at old router)
-            (entry_for (node_of end link) (record { 0 = number }) router),
-        listed.each router within,
-        entry_number (node_of end link) number router,
+        entered place,
+        map-append (λ (l : LinkId). l.0) (list_at old place)
+            (entry_for kind (end_node end link) (record { 0 = number }) place),
+        listed.each place within,
+        entry_number kind (end_node end link) number place,
         more,
         pushed,
-        place,
+        here,
         has_end-node end node link,
       ) refl;
 }
@@ -112,7 +115,7 @@ below_sender routers (Ni n) router below is = absurd (cc is)
 
 -- The length of a router's list is the port of the next link on which it sends.
 pub port_next : (links : List Link) (routers number place : ℕ) (link : Link)
-    (lists : List (Vec LinkId Global)) → AreListed From (take number links) routers lists
+    (lists : List (Vec LinkId Global)) → AreListed as_router From (take number links) routers lists
     → slice_get links number ≡ Some link → IsBelow routers link.from
     → ((router : RouterId) → router_of link.from ≡ Some router
     → place ≡ length (list_at lists router.0)) → IsPort links number place
@@ -123,3 +126,38 @@ port_next links routers number place link lists listed at below is_place router 
     ∙ sym (length-map (list_at lists router.0) (λ (l : LinkId). l.0))
     ∙ ap length (listed.each router.0 within)
     ∙ length-numbers_from (begins_at (Router router)) 0 (take number links)
+
+-- A list that has one number has one link.
+pub one_link : (list : List LinkId) (numbers : List ℕ) (number : ℕ)
+    → map (λ (l : LinkId). l.0) list ≡ numbers → numbers ≡ number ∷ [] → length list ≡ 1
+one_link list numbers number are one =
+    sym (length-map list (λ (l : LinkId). l.0)) ∙ ap length (are ∙ one)
+
+-- A router's list has as many links as have the router at that end.
+count_listed : (end : End) (links : List Link) (routers router : ℕ)
+    (lists : List (Vec LinkId Global)) → AreListed as_router end links routers lists
+    → router < routers → count_at lists router ≡ count_by (has_end end (as_router router)) links
+count_listed end links routers router lists listed within =
+    sym (length-map (list_at lists router) (λ (l : LinkId). l.0))
+    ∙ ap length (listed.each router within)
+    ∙ length-numbers_from (has_end end (as_router router)) 0 links
+
+crowded-listed : (links : List Link) (routers router : ℕ) (its : RouterLinks)
+    → AreRouterLinks links routers its → router < routers
+    → crowded_in its router ≡ crowded links router
+crowded-listed links routers router its listed within =
+    rw (
+      count_listed From links routers router its.outgoing.items listed.outgoing within,
+      count_listed To links routers router its.incoming.items listed.incoming within,
+    ) refl
+
+-- The routers that are crowded by their lists are so by the links.
+pub crowded-each : (links : List Link) (routers : ℕ) (its : RouterLinks)
+    → AreRouterLinks links routers its → (from count : ℕ) → from + count ≤ routers
+    → map (crowded_in its) (range_with_len from count) ≡ map (crowded links) (range_with_len from count)
+crowded-each links routers its listed from zero within = refl
+crowded-each links routers its listed from (suc count) within =
+    rw (
+      crowded-listed links routers from its listed (omega arith),
+      crowded-each links routers its listed (from + 1) count (omega arith),
+    ) refl

@@ -14,7 +14,7 @@ use Rattle.aeth_chip.specs.Chip.{ChipData, IsChip, IsLinkOf, IsNode}
 use Rattle.aeth_chip.specs.ChipFile.{ends_are_known, is_in_range, keys_fit, names_differ}
 use Rattle.aeth_chip.specs.ChipFile.{nis_are_single, ports_are_few, unknown_end}
 use Rattle.aeth_chip.specs.Limits.{max_links}
-use Rattle.aeth_chip.specs.Nodes.{IsBelow}
+use Rattle.aeth_chip.specs.Nodes.{IsBelow, IsNiBelow}
 use Rattle.aeth_chip.specs.Told.{known, link_of, link_tables, nis_of, node_at, node_of, routers_of}
 use Rattle.aeth_chip.specs.Told.{HasDelay, told_chip, told_links}
 use Rattle.aeth_chip.proofs.PortLemmas.{each_has_few_ports, each_is_single}
@@ -101,6 +101,15 @@ few_links root kept =
     rw (length-map (link_tables root) (link_of (routers_of root) (nis_of root)))
     (in_range root kept).few_links
 
+-- Where the links are judged by their ends alone, each is one of the chip that is told.
+pub told_links_are : (root : Members) → keys_fit root ≡ Ok tt → is_in_range root ≡ Ok tt
+    → ends_are_known root ≡ Ok tt → (l : ℕ) (link : Link)
+    → slice_get (told_links root) l ≡ Some link → IsLinkOf (told_chip root) link
+unfolding ends_are_known
+told_links_are root keys range ends l link at =
+    each_is_link (told_chip root) 0 (link_tables root)
+    (judged-none 5 (codes "UnknownName") _ tt ends) (delays_are root keys range) l link at
+
 -- The rules of chip files.
 pub record KeepsRules (root : Members) : Type 0 where
   pub keys : keys_fit root ≡ Ok tt
@@ -112,10 +121,8 @@ pub record KeepsRules (root : Members) : Type 0 where
 
 -- What keeps every rule tells a chip.
 pub told_is_chip : (root : Members) → KeepsRules root → IsChip (told_chip root)
-unfolding ends_are_known
 told_is_chip root keeps =
     let range = in_range root keeps.range in
-    let known_ends = judged-none 5 (codes "UnknownName") _ tt keeps.ends in
     record {
       some_slots = range.some_slots;
       slots = range.few_slots;
@@ -126,8 +133,7 @@ told_is_chip root keeps =
       named = names_are root keeps.range;
       apart = names_apart root keeps.names;
       few_links = few_links root keeps.range;
-      links = λ l link at. each_is_link (told_chip root) 0 (link_tables root) known_ends
-          (delays_are root keeps.keys keeps.range) l link at;
+      links = told_links_are root keeps.keys keeps.range keeps.ends;
       ports = each_has_few_ports (length (routers_of root)) (told_links root) keeps.ports;
       single = each_is_single (nis_of root) (told_links root) keeps.single;
     }
@@ -138,11 +144,29 @@ pub node_below : (routers nis : List (List ℕ)) (node : Node) → IsNode router
 node_below routers nis (Router r) within = within
 node_below routers nis (Ni n) within = tt
 
--- The links of a chip have its routers at their ends.
-pub have_nodes : (chip : ChipData) → IsChip chip → (l : ℕ) (link : Link)
-    → slice_get chip.links l ≡ Some link
-    → IsBelow (length chip.routers) link.from × IsBelow (length chip.routers) link.to
-have_nodes chip is_chip l link at = (
-  node_below chip.routers chip.nis link.from (is_chip.links l link at).from,
-  node_below chip.routers chip.nis link.to (is_chip.links l link at).to,
-)
+-- So is it an interface below their number, or a router.
+pub node_ni_below : (routers nis : List (List ℕ)) (node : Node) → IsNode routers nis node
+    → IsNiBelow (length nis) node
+node_ni_below routers nis (Router r) within = tt
+node_ni_below routers nis (Ni n) within = within
+
+-- The links that are told have routers and interfaces of the file at their ends.
+pub told_below : (root : Members) → keys_fit root ≡ Ok tt → is_in_range root ≡ Ok tt
+    → ends_are_known root ≡ Ok tt → (l : ℕ) (link : Link)
+    → slice_get (told_links root) l ≡ Some link
+    → IsBelow (length (routers_of root)) link.from × IsBelow (length (routers_of root)) link.to
+told_below root keys range ends l link at =
+    let is = told_links_are root keys range ends l link at in (
+      node_below (routers_of root) (nis_of root) link.from is.from,
+      node_below (routers_of root) (nis_of root) link.to is.to,
+    )
+
+pub told_ni_below : (root : Members) → keys_fit root ≡ Ok tt → is_in_range root ≡ Ok tt
+    → ends_are_known root ≡ Ok tt → (l : ℕ) (link : Link)
+    → slice_get (told_links root) l ≡ Some link
+    → IsNiBelow (length (nis_of root)) link.from × IsNiBelow (length (nis_of root)) link.to
+told_ni_below root keys range ends l link at =
+    let is = told_links_are root keys range ends l link at in (
+      node_ni_below (routers_of root) (nis_of root) link.from is.from,
+      node_ni_below (routers_of root) (nis_of root) link.to is.to,
+    )

@@ -1,17 +1,22 @@
 -- What the index of a chip's links has, by which the links of a node are found without a walk.
 -- This project's own.
 use Rattle.std.specs.Prelude.{◌≡◌, ◌<◌, ℕ, List, [], ◌∷◌, Option, Some, None, length, map}
-use Rattle.std.specs.Prelude.{slice_get, take, count_by, if◌then◌else◌}
+use Rattle.std.specs.Prelude.{slice_get, take, count_by, max, nat_le, if◌then◌else◌}
 use Rattle.std.specs.declared.vec.Vec.{Vec}
 use Rattle.std.specs.declared.alloc.Global.{Global}
 use Rattle.aeth_base.specs.declared.ids.LinkId.{LinkId}
 use Rattle.aeth_base.specs.declared.ids.RouterId.{RouterId}
+use Rattle.aeth_base.specs.declared.shown.Shown.{Shown}
+use Rattle.aeth_base.specs.declared.shown.Shown.TheVariants.{Number}
+use Rattle.aeth_chip.specs.Limits.{max_ports}
 use Rattle.aeth_chip.specs.Nodes.{begins_at, has_end, numbers_from, receives_on, same_node}
 use Rattle.aeth_chip.specs.Nodes.{sender_of, sends_on}
 use Rattle.aeth_chip.specs.Wires.{further_wires, wires_of}
 use Rattle.aeth_chip.specs.declared.index.Ends.{Ends}
 use Rattle.aeth_chip.specs.declared.index.Index.{Index}
-use Rattle.aeth_chip.specs.declared.index.RouterLinks.{RouterLinks}
+use Rattle.aeth_chip.specs.declared.lists.ListedLinks.{ListedLinks}
+use Rattle.aeth_chip.specs.declared.lists.NiLinks.{NiLinks}
+use Rattle.aeth_chip.specs.declared.lists.RouterLinks.{RouterLinks}
 use Rattle.aeth_chip.specs.declared.node.End.{End}
 use Rattle.aeth_chip.specs.declared.node.End.TheVariants.{From, To}
 use Rattle.aeth_chip.specs.declared.node.Link.{Link}
@@ -31,18 +36,24 @@ list_in (Some list) = list.items
 abbrev pub list_at : List (Vec LinkId Global) → ℕ → List LinkId
 list_at lists place = list_in (slice_get lists place)
 
--- The lists have, for each router, the links that have it at this end.
-pub record AreListed (end : End) (links : List Link) (routers : ℕ)
-    (lists : List (Vec LinkId Global)) : Type 0 where
-  pub size : length lists ≡ routers
-  pub each : (router : ℕ) → router < routers
-      → map (λ (link : LinkId). link.0) (list_at lists router)
-      ≡ numbers_from 0 (has_end end (Router (record { 0 = router }))) links
+-- The router and the network interface of a number.
+abbrev pub as_router : ℕ → Node
+as_router number = Router (record { 0 = number })
 
--- What a link adds to the list of a router, where the node at its end is that router.
-abbrev pub entry_for : Node → LinkId → ℕ → List LinkId
-entry_for node link router =
-    if same_node node (Router (record { 0 = router })) then link ∷ [] else []
+abbrev pub as_ni : ℕ → Node
+as_ni number = Ni (record { 0 = number })
+
+-- The lists have, for each of so many nodes of a kind, the links that have it at this end.
+pub record AreListed (node : ℕ → Node) (end : End) (links : List Link) (count : ℕ)
+    (lists : List (Vec LinkId Global)) : Type 0 where
+  pub size : length lists ≡ count
+  pub each : (number : ℕ) → number < count
+      → map (λ (link : LinkId). link.0) (list_at lists number)
+      ≡ numbers_from 0 (has_end end (node number)) links
+
+-- What a link adds to the list of a node, where this is the node at its end.
+abbrev pub entry_for : (ℕ → Node) → Node → LinkId → ℕ → List LinkId
+entry_for node at link number = if same_node at (node number) then link ∷ [] else []
 
 -- How many links before a link its router sends on: the port.
 abbrev pub IsPort : List Link → ℕ → ℕ → Type 0
@@ -51,9 +62,29 @@ IsPort links l port = (router : RouterId) → sender_of links l ≡ Some router
 
 -- The links of each router, and their ports.
 pub record AreRouterLinks (links : List Link) (routers : ℕ) (its : RouterLinks) : Type 0 where
-  pub outgoing : AreListed From links routers its.outgoing.items
-  pub incoming : AreListed To links routers its.incoming.items
+  pub outgoing : AreListed as_router From links routers its.outgoing.items
+  pub incoming : AreListed as_router To links routers its.incoming.items
   pub ports : HasEntries (IsPort links) (length links) its.ports.items
+
+-- The links of each network interface.
+pub record AreNiLinks (links : List Link) (nis : ℕ) (its : NiLinks) : Type 0 where
+  pub outgoing : AreListed as_ni From links nis its.outgoing.items
+  pub incoming : AreListed as_ni To links nis its.incoming.items
+
+-- Links with lists of them for so many routers and network interfaces.
+pub record AreLinkLists (routers nis : ℕ) (listed : ListedLinks) : Type 0 where
+  pub of_routers : AreRouterLinks listed.links.items routers listed.routers
+  pub of_nis : AreNiLinks listed.links.items nis listed.nis
+
+-- How many links a list of lists has at a place.
+abbrev pub count_at : List (Vec LinkId Global) → ℕ → ℕ
+count_at lists place = length (list_at lists place)
+
+-- The greater of a router's two numbers of links in its lists, where it is too great.
+abbrev pub crowded_in : RouterLinks → ℕ → Option Shown
+crowded_in its router =
+    let ports = max (count_at its.outgoing.items router) (count_at its.incoming.items router) in
+    if nat_le ports max_ports then None else Some (Number ports)
 
 -- The one link on which a network interface sends, and the one on which it receives.
 pub record IsEnds (links : List Link) (ni : ℕ) (ends : Ends) : Type 0 where

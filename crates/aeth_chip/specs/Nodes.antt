@@ -1,9 +1,10 @@
 -- Nodes of a chip, and the links that begin or end there.
 --
 --   same_node, begins_at, ends_at, has_end    what is one node, and where a link begins and ends
+--   end_node    the node at an end of a link
 --   numbers_from, sends_on, receives_on    the numbers of the links of a node
 --   router_of, is_router, sender_of    the router that a node is, and that sends on a link
---   IsBelow    whether a node's router is one of so many
+--   IsBelow, IsNiBelow    whether a node's router, or its interface, is one of so many
 -- This project's own.
 use Rattle.std.specs.Prelude.{ℕ, ◌+◌, ◌<◌, ◌==◌, Bool, true, false, List, [], ◌∷◌, Option, Some}
 use Rattle.std.specs.Prelude.{None, option_and_then, slice_get, if◌then◌else◌}
@@ -33,6 +34,11 @@ ends_at node link = same_node link.to node
 abbrev pub has_end : End → Node → Link → Bool
 has_end From = begins_at
 has_end To = ends_at
+
+-- The node at an end of a link.
+abbrev pub end_node : End → Link → Node
+end_node From link = link.from
+end_node To link = link.to
 
 -- The numbers of the links that pass a test, where the first link has this number.
 abbrev pub numbers_from : ℕ → (Link → Bool) → List Link → List ℕ
@@ -67,3 +73,8 @@ sender_of links link = option_and_then (λ l. router_of l.from) (slice_get links
 abbrev pub IsBelow : ℕ → Node → Type 0
 IsBelow routers (Router r) = r.0 < routers
 IsBelow routers (Ni n) = Unit {0}
+
+-- The node is a router, or an interface whose number is below this.
+abbrev pub IsNiBelow : ℕ → Node → Type 0
+IsNiBelow nis (Router r) = Unit {0}
+IsNiBelow nis (Ni n) = n.0 < nis

@@ -10,6 +10,7 @@ mod keys;
 pub mod laws;
 mod levels;
 mod links;
+mod lists;
 mod node;
 mod ports;
 mod reading;

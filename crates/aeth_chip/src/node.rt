@@ -1,6 +1,6 @@
 // Routers and network interfaces, and the links that join them.
 ghost use Rattle.std.specs.Prelude.{◌≡◌};
-ghost use Rattle.aeth_chip.specs.Nodes.{begins_at, ends_at, has_end, same_node};
+ghost use Rattle.aeth_chip.specs.Nodes.{begins_at, end_node, ends_at, same_node};
 
 use aeth_base::{NiId, RouterId};
 
@@ -60,13 +60,13 @@ impl Link {
         self.to.is_same(node)
     }
 
-    /// Whether the node is at this end of the link.
-    pub(crate) fn has_end(&self, end: End, node: Node) -> bool
-        ensures { result ≡ has_end end node self.now }
+    /// The node at this end of the link.
+    pub(crate) fn node_at(&self, end: End) -> Node
+        ensures { result ≡ end_node end self.now }
     {
         match end {
-            End::From => self.begins_at(node),
-            End::To => self.ends_at(node),
+            End::From => self.from,
+            End::To => self.to,
         }
     }
 }

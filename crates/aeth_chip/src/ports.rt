@@ -1,48 +1,25 @@
-// The links of a router and of a network interface.
-ghost use Rattle.std.specs.Prelude.{◌≡◌, ◌<◌, ◌^◌, length, count_by, map, option_map, slice_get};
+// The rules on the links of a router and of a network interface.
+ghost use Rattle.std.specs.Prelude.{◌≡◌, ◌<◌, ◌^◌, length, map, option_map};
 ghost use Rattle.std.specs.List.{range_with_len};
 ghost use Rattle.aeth_chip.specs.ChipFile.{crowded, is_single, lone, not_single, router_at};
 ghost use Rattle.aeth_chip.specs.ChipFile.{same_router, unjoined};
-ghost use Rattle.aeth_chip.specs.Nodes.{has_end, numbers_from, receives_on, router_of, sends_on};
+ghost use Rattle.aeth_chip.specs.Index.{AreNiLinks, AreRouterLinks, crowded_in};
+ghost use Rattle.aeth_chip.specs.Nodes.{end_node, router_of};
 ghost use Rattle.aeth_document.specs.Arrays.{texts_in};
 ghost use Rattle.aeth_document.specs.Walks.{walked};
 
 use crate::chip::MAX_PORTS;
+use crate::lists::{ListedLinks, RouterLinks, list_at};
 use crate::node::{End, Link, Node};
-use aeth_base::{LinkId, NiId, RouterId};
+use aeth_base::{LinkId, RouterId};
 use aeth_document::{Shown, Texts, Walk, shown_text};
 
-/// The link at a place among those that have the node at this end.
-pub(crate) fn nth_link(links: &[Link], end: End, node: Node, place: u32) -> Option<LinkId>
-    requires { length links.now < 2 ^ 32 }
-    ensures { option_map (λ l. l.0) result
-        ≡ slice_get (numbers_from 0 (has_end end node) links.now) place }
+fn crowded(its: &RouterLinks, router: u32) -> Option<Shown>
+    ensures { result ≡ crowded_in its.now router }
 {
-    let mut left = place;
-    for (number, link) in links.iter().enumerate() {
-        if link.has_end(end, node) {
-            if left == 0 {
-                return Some(LinkId(number as u32));
-            }
-            left -= 1;
-        }
-    }
-    None
-}
-
-/// How many links have the node at this end.
-pub(crate) fn count_links(links: &[Link], end: End, node: Node) -> usize
-    ensures { result ≡ count_by (has_end end node) links.now }
-{
-    links.iter().filter(|link| link.has_end(end, node)).count()
-}
-
-fn crowded(links: &[Link], router: u32) -> Option<Shown>
-    ensures { result ≡ crowded links.now router }
-{
-    let node = Node::Router(RouterId(router));
-    let sent = count_links(links, End::From, node);
-    let ports = sent.max(count_links(links, End::To, node)) as u64;
+    let sent = list_at(&its.outgoing, router as usize).len();
+    let received = list_at(&its.incoming, router as usize).len();
+    let ports = sent.max(received) as u64;
     if ports <= MAX_PORTS as u64 {
         None
     } else {
@@ -50,27 +27,32 @@ fn crowded(links: &[Link], router: u32) -> Option<Shown>
     }
 }
 
-/// The walk after a check of each router's numbers of links.
+// The walk after a check of how many links the lists of each router have.
 #[tactic(auto, using(aeth_base::proofs::Ranges::range_more), unfolding(aeth_document::specs::Walks::walked))]
-pub(crate) fn crowded_routers(walk: Walk, routers: u32, links: &[Link]) -> Walk
-    ensures { result ≡ walked walk (map (crowded links.now) (range_with_len 0 routers)) }
+fn crowded_lists(walk: Walk, routers: u32, its: &RouterLinks) -> Walk
+    ensures { result ≡ walked walk (map (crowded_in its.now) (range_with_len 0 routers)) }
 {
     let mut walk = walk;
     for router in 0..routers {
-        walk = walk.check(crowded(links, router));
+        walk = walk.check(crowded(its, router));
     }
     walk
 }
 
-fn lone_link(links: &[Link], end: End, node: Node) -> Option<LinkId>
-    requires { length links.now < 2 ^ 32 }
-    ensures { option_map (λ l. l.0) result
-        ≡ lone (numbers_from 0 (has_end end node) links.now) }
+/// The walk after a check of each router's numbers of links.
+pub(crate) fn crowded_routers(walk: Walk, routers: u32, listed: &ListedLinks) -> Walk
+    requires { AreRouterLinks listed.now.links.items routers listed.now.routers }
+    ensures { result ≡ walked walk
+        (map (crowded listed.now.links.items) (range_with_len 0 routers)) }
 {
-    match nth_link(links, end, node, 1) {
-        Some(_) => None,
-        None => nth_link(links, end, node, 0),
-    }
+    crowded_lists(walk, routers, &listed.routers)
+}
+
+// The link of a list that has just one.
+fn lone_link(list: &[LinkId]) -> Option<LinkId>
+    ensures { option_map (λ l. l.0) result ≡ lone (map (λ l. l.0) list.now) }
+{
+    if list.len() == 1 { Some(list[0]) } else { None }
 }
 
 fn router_of(node: Node) -> Option<RouterId>
@@ -82,28 +64,15 @@ fn router_of(node: Node) -> Option<RouterId>
     }
 }
 
-fn router_after(links: &[Link], node: Node) -> Option<RouterId>
-    requires { length links.now < 2 ^ 32 }
-    ensures { result ≡ router_at (λ link. link.to) links.now (sends_on node links.now) }
+// The router at an end of the one link of a list.
+fn router_at(links: &[Link], list: &[LinkId], end: End) -> Option<RouterId>
+    ensures { result ≡ router_at (end_node end) links.now (map (λ l. l.0) list.now) }
 {
-    match lone_link(links, End::From, node) {
+    match lone_link(list) {
         None => None,
         Some(number) => match links.get(number.0 as usize) {
             None => None,
-            Some(link) => router_of(link.to),
-        },
-    }
-}
-
-fn router_before(links: &[Link], node: Node) -> Option<RouterId>
-    requires { length links.now < 2 ^ 32 }
-    ensures { result ≡ router_at (λ link. link.from) links.now (receives_on node links.now) }
-{
-    match lone_link(links, End::To, node) {
-        None => None,
-        Some(number) => match links.get(number.0 as usize) {
-            None => None,
-            Some(link) => router_of(link.from),
+            Some(link) => router_of(link.node_at(end)),
         },
     }
 }
@@ -120,20 +89,24 @@ fn same_router(router: Option<RouterId>, other: Option<RouterId>) -> bool
     }
 }
 
-fn is_single(links: &[Link], ni: u32) -> bool
-    requires { length links.now < 2 ^ 32 }
-    ensures { result ≡ is_single links.now ni }
+fn is_single(listed: &ListedLinks, nis: u32, ni: u32) -> bool
+    requires lists { AreNiLinks listed.now.links.items nis listed.now.nis }
+    requires ni { ni < nis }
+    ensures { result ≡ is_single listed.now.links.items ni }
 {
-    let node = Node::Ni(NiId(ni));
-    same_router(router_after(links, node), router_before(links, node))
+    let leaving = list_at(&listed.nis.outgoing, ni as usize);
+    let entering = list_at(&listed.nis.incoming, ni as usize);
+    let after = router_at(&listed.links, leaving, End::To);
+    same_router(after, router_at(&listed.links, entering, End::From))
 }
 
 // The name of a network interface that isn't joined to one router.
-fn unjoined(links: &[Link], ni: u32, name: &str) -> Option<Shown>
-    requires { length links.now < 2 ^ 32 }
-    ensures { result ≡ unjoined links.now ni name.now }
+fn unjoined(listed: &ListedLinks, nis: u32, ni: u32, name: &str) -> Option<Shown>
+    requires lists { AreNiLinks listed.now.links.items nis listed.now.nis }
+    requires ni { ni < nis }
+    ensures { result ≡ unjoined listed.now.links.items ni name.now }
 {
-    if is_single(links, ni) {
+    if is_single(listed, nis, ni) {
         None
     } else {
         Some(shown_text(name))
@@ -143,15 +116,16 @@ fn unjoined(links: &[Link], ni: u32, name: &str) -> Option<Shown>
 /// The walk after a check of each network interface, which is to be joined to one router by one
 /// link each way.
 #[tactic(auto, unfolding(aeth_document::specs::Walks::walked))]
-pub(crate) fn unjoined_nis(walk: Walk, nis: Texts<'_>, links: &[Link]) -> Walk
-    requires few { length links.now < 2 ^ 32 }
-    requires nis { length (texts_in nis) < 2 ^ 32 }
-    ensures { result ≡ walked walk (not_single links.now 0 (texts_in nis.entry)) }
+pub(crate) fn unjoined_nis(walk: Walk, names: Texts<'_>, nis: u32, listed: &ListedLinks) -> Walk
+    requires lists { AreNiLinks listed.now.links.items nis listed.now.nis }
+    requires names { length (texts_in names) ≡ nis }
+    ensures { result ≡ walked walk
+        (not_single listed.now.links.items 0 (texts_in names.entry)) }
 {
     let mut walk = walk;
     let mut ni = 0;
-    for name in nis {
-        walk = walk.check(unjoined(links, ni, name));
+    for name in names {
+        walk = walk.check(unjoined(listed, nis, ni, name));
         ni += 1;
     }
     walk

@@ -8,16 +8,18 @@ ghost use Rattle.aeth_chip.specs.ChipFile.{keys_fit, judged_links, most_slots, n
 ghost use Rattle.aeth_chip.specs.ChipFile.{nis_are_single, numbers, ports_are_few};
 ghost use Rattle.aeth_chip.specs.ChipParts.{chip_with};
 ghost use Rattle.aeth_chip.specs.Faults.{rule_of};
-ghost use Rattle.aeth_chip.specs.Limits.{max_links, max_nis, max_routers};
+ghost use Rattle.aeth_chip.specs.Index.{AreLinkLists, AreNiLinks, AreRouterLinks};
+ghost use Rattle.aeth_chip.specs.Limits.{max_nis, max_routers};
 ghost use Rattle.aeth_chip.specs.Told.{nis_of, routers_of, slots_of, told_links, version_of};
 ghost use Rattle.aeth_document.specs.Walks.{first_broken, repeats, size_of, walked};
 ghost use Rattle.toml.specs.View.{table_view};
 
 use crate::chip::{Chip, MAX_LINKS, MAX_NIS, MAX_ROUTERS, MAX_SLOTS_OF_VERSION_1};
 use crate::fault::ChipFault;
-use crate::index::index_of;
+use crate::index::{Index, ends_of, further_of};
 use crate::keys::{allows_delays, judge_keys, link_tables, nis_of, routers_of, version_of};
 use crate::links::{Names, delay_at, links_of};
+use crate::lists::{ListedLinks, listed_links};
 use crate::node::Link;
 use crate::ports::{crowded_routers, unjoined_nis};
 use aeth_base::{Broken, MAX_LINK_DELAY, MAX_SLOTS, NoMemory, Shown};
@@ -136,23 +138,24 @@ fn known_links(alloc: Global, root: &Table, names: &Names) -> Result<Vec<Link>, 
 }
 
 #[tactic(auto, unfolding(crate::specs::ChipFile::ports_are_few), using(aeth_document::proofs::WalkLemmas::walk_laws))]
-fn judge_ports(routers: u32, links: &[Link]) -> Result<(), ChipFault>
-    ensures { Reads rule_of (λ u. u) result (ports_are_few routers links.now) }
+fn judge_ports(routers: u32, listed: &ListedLinks) -> Result<(), ChipFault>
+    requires { AreRouterLinks listed.now.links.items routers listed.now.routers }
+    ensures { Reads rule_of (λ u. u) result (ports_are_few routers listed.now.links.items) }
 {
-    match crowded_routers(Walk::from(0), routers, links).found() {
+    match crowded_routers(Walk::from(0), routers, listed).found() {
         None => Ok(()),
         Some(broken) => Err(ChipFault::TooManyPorts(broken)),
     }
 }
 
 #[tactic(auto, unfolding(crate::specs::ChipFile::nis_are_single), using(aeth_document::proofs::WalkLemmas::walk_laws))]
-fn judge_nis(root: &Table, links: &[Link]) -> Result<(), ChipFault>
-    requires few_nis { length (nis_of (table_view root.now)) ≤ max_nis }
-    requires few_links { length links.now ≤ max_links }
+fn judge_nis(root: &Table, nis: u32, listed: &ListedLinks) -> Result<(), ChipFault>
+    requires lists { AreNiLinks listed.now.links.items nis listed.now.nis }
+    requires nis { length (nis_of (table_view root.now)) ≡ nis }
     ensures { Reads rule_of (λ u. u) result
-        (nis_are_single (nis_of (table_view root.now)) links.now) }
+        (nis_are_single (nis_of (table_view root.now)) listed.now.links.items) }
 {
-    match unjoined_nis(Walk::from(0), nis_of(root), links).found() {
+    match unjoined_nis(Walk::from(0), nis_of(root), nis, listed).found() {
         None => Ok(()),
         Some(broken) => Err(ChipFault::NiNotSingle(broken)),
     }
@@ -165,32 +168,50 @@ fn slots_of(root: &Table) -> u32
     size(integer_at(root, "slots")) as u32
 }
 
-// The links of a file whose routers and network interfaces have these names, or the first rule on
-// links that it breaks.
+// The links of a file whose routers and network interfaces have these names, with lists of them for
+// each, or the first rule on links that it breaks.
 #[tactic(auto, unfolding(crate::specs::ChipFile::judged_links))]
-fn judged_links(alloc: Global, root: &Table, names: &Names) -> Result<Vec<Link>, ChipFault>
+fn judged_links(alloc: Global, root: &Table, names: &Names) -> Result<ListedLinks, ChipFault>
     requires keys { keys_fit (table_view root.now) ≡ Ok tt }
     requires range { is_in_range (table_view root.now) ≡ Ok tt }
     requires routers { names.now.routers.keys ≡ routers_of (table_view root.now) }
     requires nis { names.now.nis.keys ≡ nis_of (table_view root.now) }
     requires few_routers { length names.now.routers.keys ≤ max_routers }
     requires few_nis { length names.now.nis.keys ≤ max_nis }
-    ensures { Reads rule_of (λ links. links.items) result (judged_links (table_view root.now)) }
+    ensures gives { Reads rule_of (λ listed. listed.links.items) result
+        (judged_links (table_view root.now)) }
+    ensures lists { IfOk result
+        (AreLinkLists (length names.now.routers.keys) (length names.now.nis.keys)) }
 {
     let links = known_links(alloc, root, names)?;
-    judge_ports(names.routers.len() as u32, &links)?;
-    judge_nis(root, &links)?;
-    Ok(links)
+    let routers = names.routers.len() as u32;
+    let nis = names.nis.len() as u32;
+    let listed = listed_links(alloc, routers, nis, links)?;
+    judge_ports(routers, &listed)?;
+    judge_nis(root, nis, &listed)?;
+    Ok(listed)
 }
 
 // The chip of these parts, with an index of its links.
-fn with_index(alloc: Global, slots: u32, names: Names, links: Vec<Link>) -> Result<Chip, NoMemory>
-    requires { IsChip (chip_with slots names links.items) }
-    ensures { IfOk result (λ chip. chip ≡ chip_with slots names links.items) }
+fn with_index(
+    alloc: Global,
+    slots: u32,
+    names: Names,
+    listed: ListedLinks,
+) -> Result<Chip, NoMemory>
+    requires chip { IsChip (chip_with slots names listed.links.items) }
+    requires lists { AreLinkLists (length names.routers.keys) (length names.nis.keys) listed }
+    ensures { IfOk result (λ chip. chip ≡ chip_with slots names listed.links.items) }
 {
-    let routers = names.routers.len() as u32;
-    let index = index_of(alloc, routers, names.nis.len() as u32, &links)?;
-    Ok(Chip::new(slots, names.routers, names.nis, links, index))
+    let ends = ends_of(alloc, names.nis.len() as u32, &listed)?;
+    let (further, wires) = further_of(alloc, &listed.links)?;
+    let index = Index {
+        routers: listed.routers,
+        ends,
+        further,
+        wires,
+    };
+    Ok(Chip::new(slots, names.routers, names.nis, listed.links, index))
 }
 
 #[tactic(auto, unfolding(crate::specs::ChipFile::chip_in))]
@@ -201,8 +222,8 @@ fn chip_in(alloc: Global, root: &Table) -> Result<Chip, ChipFault>
     judge_ranges(root)?;
     judge_names(alloc, root)?;
     let names = names_in(alloc, root)?;
-    let links = judged_links(alloc, root, &names)?;
-    Ok(with_index(alloc, slots_of(root), names, links)?)
+    let listed = judged_links(alloc, root, &names)?;
+    Ok(with_index(alloc, slots_of(root), names, listed)?)
 }
 
 /// The chip of a file's bytes, or the first rule that the file breaks; or memory ran out.

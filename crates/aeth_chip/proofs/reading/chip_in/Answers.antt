@@ -10,11 +10,11 @@ pub slots_of-requires : goal.slots_of-requires
 slots_of-requires c = (in_range _ c.in_ok-judge_ranges.ensures).few_slots
 
 -- What keeps all rules is a chip.
-pub with_index-requires : goal.with_index-requires
-with_index-requires c =
+pub with_index-requires-clause-chip : goal.with_index-requires-clause-chip
+with_index-requires-clause-chip c =
     let root = table_view c.args.root.now in
-    let links = c.in_ok-links.links.items in
-    let told = c.in_ok-links.ensures in
+    let links = c.in_ok-listed.listed.links.items in
+    let told = c.in_ok-listed.ensures.gives in
     let are = parts_are root c.slots_of.result c.in_ok-names.names links c.slots_of.ensures
     c.in_ok-names.ensures.routers c.in_ok-names.ensures.nis told in
     subst IsChip (sym are) (told-IsChip root links c.in_ok-judge_keys.ensures
@@ -24,8 +24,8 @@ with_index-requires c =
 pub returns : goal.returns
 returns c =
     let root = table_view c.args.root.now in
-    let links = c.in_ok-links.links.items in
-    let told = c.in_ok-links.ensures in
+    let links = c.in_ok-listed.listed.links.items in
+    let told = c.in_ok-listed.ensures.gives in
     let are = parts_are root c.slots_of.result c.in_ok-names.names links c.slots_of.ensures
     c.in_ok-names.ensures.routers c.in_ok-names.ensures.nis told in
     chip_in-told root links c.in_ok-judge_keys.ensures c.in_ok-judge_ranges.ensures

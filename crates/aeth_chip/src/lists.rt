@@ -1,0 +1,172 @@
+// Lists of the links of each router and of each network interface, made in one pass over the links.
+ghost use Rattle.std.specs.Prelude.{◌≡◌, ◌≢◌, ◌<◌, ◌≤◌, ◌++◌, ◌∷◌, ℕ, [], Some, IfOk, length};
+ghost use Rattle.std.specs.Prelude.{slice_get};
+ghost use Rattle.aeth_base.specs.declared.ids.NiId.{NiId};
+ghost use Rattle.aeth_base.specs.declared.ids.RouterId.{RouterId};
+ghost use Rattle.aeth_chip.specs.Index.{AreLinkLists, AreNiLinks, AreRouterLinks, as_ni, as_router};
+ghost use Rattle.aeth_chip.specs.Index.{entry_for, list_at};
+ghost use Rattle.aeth_chip.specs.Limits.{max_links};
+ghost use Rattle.aeth_chip.specs.Nodes.{IsBelow, IsNiBelow, router_of};
+ghost use Rattle.aeth_chip.specs.declared.node.Link.{Link};
+
+use crate::node::{Link, Node};
+use aeth_base::{LinkId, NoMemory};
+use std::alloc::Global;
+
+/// For each router the links on which it sends, its ports in file order, and those on which it
+/// receives; and for each link its place among those of the router that sends on it.
+#[derive(Drop)]
+pub(crate) struct RouterLinks {
+    pub outgoing: Vec<Vec<LinkId>>,
+    pub incoming: Vec<Vec<LinkId>>,
+    pub ports: Vec<usize>,
+}
+
+/// For each network interface the links on which it sends, and those on which it receives, in file
+/// order.
+#[derive(Drop)]
+pub(crate) struct NiLinks {
+    pub outgoing: Vec<Vec<LinkId>>,
+    pub incoming: Vec<Vec<LinkId>>,
+}
+
+/// Links, and the lists of them for each router and for each network interface.
+#[derive(Drop)]
+pub(crate) struct ListedLinks {
+    pub links: Vec<Link>,
+    pub routers: RouterLinks,
+    pub nis: NiLinks,
+}
+
+/// The list at a place of a list of lists, empty where there is none.
+pub(crate) fn list_at(lists: &[Vec<LinkId>], place: usize) -> &[LinkId]
+    ensures { result.now ≡ list_at lists.now place }
+{
+    match lists.get(place) {
+        None => &[],
+        Some(list) => list,
+    }
+}
+
+/// The links with the lists of them for so many routers and network interfaces, in about as many
+/// steps as links and nodes.
+pub(crate) fn listed_links(
+    alloc: Global,
+    routers: u32,
+    nis: u32,
+    links: Vec<Link>,
+) -> Result<ListedLinks, NoMemory>
+    requires few { length links.items ≤ max_links }
+    requires routers { (l : ℕ) (link : Link) → slice_get links.items l ≡ Some link
+        → IsBelow routers link.from × IsBelow routers link.to }
+    requires nis { (l : ℕ) (link : Link) → slice_get links.items l ≡ Some link
+        → IsNiBelow nis link.from × IsNiBelow nis link.to }
+    ensures links { IfOk result (λ listed. listed.links.items ≡ links.items) }
+    ensures lists { IfOk result (AreLinkLists routers nis) }
+{
+    let of_routers = router_links(alloc, routers, &links)?;
+    let of_nis = ni_links(alloc, nis, &links)?;
+    Ok(ListedLinks {
+        links,
+        routers: of_routers,
+        nis: of_nis,
+    })
+}
+
+// So many empty lists.
+fn empty_lists(alloc: Global, count: u32) -> Result<Vec<Vec<LinkId>>, NoMemory>
+    ensures size { IfOk result (λ lists. length lists.items ≡ count) }
+    ensures empty { IfOk result (λ lists. (place : ℕ) → list_at lists.items place ≡ []) }
+{
+    let mut lists = Vec::new(alloc);
+    for _ in 0..count {
+        lists.push(Vec::new(alloc))?;
+    }
+    Ok(lists)
+}
+
+// Puts a link at the end of a list, and tells its place there.
+fn push_at(lists: &mut Vec<Vec<LinkId>>, place: usize, link: LinkId) -> Result<usize, NoMemory>
+    requires { place < length lists.old.items }
+    ensures size { length lists.new.items ≡ length lists.old.items }
+    ensures here { IfOk result (λ _. list_at lists.new.items place
+        ≡ list_at lists.old.items place ++ link ∷ []) }
+    ensures others { (other : ℕ) → other ≢ place
+        → list_at lists.new.items other ≡ list_at lists.old.items other }
+    ensures end { IfOk result (λ end. end ≡ length (list_at lists.old.items place)) }
+{
+    let list = &mut lists[place];
+    let end = list.len();
+    list.push(link)?;
+    Ok(end)
+}
+
+// Puts a link into the list of the router at its end, and tells its place there.
+fn enter(lists: &mut Vec<Vec<LinkId>>, node: Node, link: LinkId) -> Result<usize, NoMemory>
+    requires { IsBelow (length lists.old.items) node }
+    ensures size { length lists.new.items ≡ length lists.old.items }
+    ensures lists { IfOk result (λ _. (router : ℕ) → list_at lists.new.items router
+        ≡ list_at lists.old.items router ++ entry_for as_router node link router) }
+    ensures place { IfOk result (λ place. (router : RouterId) → router_of node ≡ Some router
+        → place ≡ length (list_at lists.old.items router.0)) }
+{
+    match node {
+        Node::Ni(_) => Ok(0),
+        Node::Router(router) => push_at(lists, router.0 as usize, link),
+    }
+}
+
+// Puts a link into the list of the network interface at its end.
+fn enter_ni(lists: &mut Vec<Vec<LinkId>>, node: Node, link: LinkId) -> Result<(), NoMemory>
+    requires { IsNiBelow (length lists.old.items) node }
+    ensures size { length lists.new.items ≡ length lists.old.items }
+    ensures lists { IfOk result (λ _. (ni : ℕ) → list_at lists.new.items ni
+        ≡ list_at lists.old.items ni ++ entry_for as_ni node link ni) }
+{
+    match node {
+        Node::Router(_) => Ok(()),
+        Node::Ni(ni) => {
+            push_at(lists, ni.0 as usize, link)?;
+            Ok(())
+        }
+    }
+}
+
+// The links of so many routers, in one pass over the links.
+fn router_links(alloc: Global, routers: u32, links: &[Link]) -> Result<RouterLinks, NoMemory>
+    requires few { length links.now ≤ max_links }
+    requires nodes { (l : ℕ) (link : Link) → slice_get links.now l ≡ Some link
+        → IsBelow routers link.from × IsBelow routers link.to }
+    ensures { IfOk result (λ its. AreRouterLinks links.now routers its) }
+{
+    let mut outgoing = empty_lists(alloc, routers)?;
+    let mut incoming = empty_lists(alloc, routers)?;
+    let mut ports = Vec::new(alloc);
+    for (number, link) in links.iter().enumerate() {
+        let number = LinkId(number as u32);
+        ports.push(enter(&mut outgoing, link.from, number)?)?;
+        enter(&mut incoming, link.to, number)?;
+    }
+    Ok(RouterLinks {
+        outgoing,
+        incoming,
+        ports,
+    })
+}
+
+// The links of so many network interfaces, in one pass over the links.
+fn ni_links(alloc: Global, nis: u32, links: &[Link]) -> Result<NiLinks, NoMemory>
+    requires few { length links.now ≤ max_links }
+    requires nodes { (l : ℕ) (link : Link) → slice_get links.now l ≡ Some link
+        → IsNiBelow nis link.from × IsNiBelow nis link.to }
+    ensures { IfOk result (λ its. AreNiLinks links.now nis its) }
+{
+    let mut outgoing = empty_lists(alloc, nis)?;
+    let mut incoming = empty_lists(alloc, nis)?;
+    for (number, link) in links.iter().enumerate() {
+        let number = LinkId(number as u32);
+        enter_ni(&mut outgoing, link.from, number)?;
+        enter_ni(&mut incoming, link.to, number)?;
+    }
+    Ok(NiLinks { outgoing, incoming })
+}
