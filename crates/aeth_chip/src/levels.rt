@@ -7,6 +7,7 @@ ghost use Rattle.aeth_chip.specs.Levels.{SpreadsLevel, items_at, node_place};
 use crate::node::{Link, Node};
 use aeth_base::NoMemory;
 use std::alloc::Global;
+use std::mem::swap;
 
 // The place of a node in a row: the routers come first, then the interfaces.
 fn node_place(node: Node, routers: u32) -> usize
@@ -93,12 +94,14 @@ pub(crate) fn levels_to(
 {
     let mut levels = vec![in alloc; None; origins.len()]?;
     let mut level = 0;
-    let mut frontier = vec![in alloc; goal]?;
+    let mut frontier = Vec::with_capacity(alloc, routers as usize)?;
+    frontier.push(goal)?;
+    let mut next = Vec::with_capacity(alloc, routers as usize)?;
     'rounds: while !frontier.is_empty() {
         level += 1;
-        let mut next = Vec::new(alloc);
         spread_all(origins, &frontier, level, routers, &mut levels, &mut next)?;
-        frontier = next;
+        swap(&mut frontier, &mut next);
+        next.clear();
     }
     Ok(levels)
 }

@@ -1,4 +1,4 @@
-use Rattle.std.proofs.Common.{◌≡◌, ◌∙◌, ℕ, ◌+◌, List, [], Option, None, length}
+use Rattle.std.proofs.Common.{◌≡◌, ◌∙◌, ℕ, ◌+◌, ◌++◌, List, [], ◌∷◌, Option, None, length}
 use Rattle.std.proofs.Common.{vec_len, nat_eq, Bool, true, false, rules, Contains, refl, ap, subst}
 use Rattle.std.proofs.Common.{sym, arith}
 use Rattle.std.specs.Prelude.{replicate}
@@ -14,25 +14,30 @@ pub rounds-init : goal.rounds-init
 rounds-init c =
     let origins = c.args.origins.now in
     let start = found-start (IsOrigin origins) c.args.routers c.args.goal (length origins) in
+    let goal_alone : c.push.new.self.items ≡ c.args.goal ∷ [] =
+    c.in_ok-push.ensures.items
+    ∙ ap (λ (xs : List ℕ). xs ++ c.args.goal ∷ []) c.in_ok-frontier.ensures.items in
     let placed = subst (λ (xs : List ℕ).
     Found (IsOrigin origins) c.args.routers c.args.goal (length origins) 0 xs
-    (replicate (length origins) None)) (sym c.in_ok-frontier.ensures.items) start in
+    (replicate (length origins) None)) (sym goal_alone) start in
     let none : c.in_ok-levels.levels.items ≡ replicate (length origins) None = search rules in
-    subst (λ (xs : List (Option ℕ)).
-    Found (IsOrigin origins) c.args.routers c.args.goal (length origins) 0
-    c.in_ok-frontier.frontier.items xs) (sym none)
-    placed
+    record {
+      found = subst (λ (xs : List (Option ℕ)).
+          Found (IsOrigin origins) c.args.routers c.args.goal (length origins) 0
+          c.push.new.self.items xs) (sym none) placed;
+      empty = c.in_ok-next.ensures.items;
+    }
 
 -- The places to go on from are the goal or routers.
 pub spread_all-requires-clause-frontier : goal.spread_all-requires-clause-frontier
 spread_all-requires-clause-frontier c = λ place has.
-    front-below c.rounds.invariant c.requires.goal c.requires.routers place
+    front-below c.rounds.invariant.found c.requires.goal c.requires.routers place
     (subst (λ (xs : List ℕ). Contains xs place) c.deref.ensures.value has)
 
 pub spread_all-requires-clause-places : goal.spread_all-requires-clause-places
 spread_all-requires-clause-places c = λ from to origin.
     let low = c.requires.places from to origin in
-    let size = c.rounds.invariant.size in
+    let size = c.rounds.invariant.found.size in
     let same = ap length c.deref_mut.ensures.value in
     omega arith
 
@@ -48,22 +53,22 @@ pub rounds-preserved : goal.rounds-preserved
 rounds-preserved c =
     let origins = c.args.origins.now in
     let new = c.spread_all.new.levels in
-    let next = c.spread_all.new.next.items in
     let some = tested_some (vec_len c.rounds.frontier) c.is_empty.result c.is_empty.ensures
     c.rounds-test.true in
     let ok = c.rounds.frontier.ok in
-    let round = found-round c.rounds.invariant (λ none.
+    let round = found-round c.rounds.invariant.found (λ none.
     some (omega arith)) c.in_ok-spread_all.ensures c.deref.ensures.value refl
-    c.deref_mut.ensures.value c.new-next.ensures.items in
+    c.deref_mut.ensures.value c.rounds.invariant.empty in
     let size = ap length c.deref_mut.ensures.value in
     let long = c.rounds.levels.ok in
     let same_length : length new ≡ length c.rounds.levels.items = round.size
-    ∙ sym c.rounds.invariant.size in
-    subst (λ (xs : List (Option ℕ)).
+    ∙ sym c.rounds.invariant.found.size in
+    let written = subst (λ (xs : List (Option ℕ)).
     Found (IsOrigin origins) c.args.routers c.args.goal (length origins) (c.rounds.level + 1)
-    next xs)
+    c.spread_all.new.next.items xs)
     (sym (written_back c.rounds.levels.items new c.rounds.levels.len (omega arith) same_length))
-    round
+    round in
+    record { found = rw c.swap.ensures.x_after written; empty = c.clear.ensures.items }
 
 -- Nothing is left to go on from.
 pub returns : goal.returns
@@ -75,4 +80,4 @@ returns c =
     nil_from_length c.rounds.frontier.items (omega arith) in
     found-all (IsOrigin c.args.origins.now) c.args.routers c.args.goal (length c.args.origins.now)
     c.rounds.level
-    c.rounds.frontier.items c.rounds.levels.items c.rounds.invariant none
+    c.rounds.frontier.items c.rounds.levels.items c.rounds.invariant.found none
