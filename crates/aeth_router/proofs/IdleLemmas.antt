@@ -27,20 +27,25 @@ pub emitted_on-idle : (outgoing : List ℕ) (count link : ℕ)
 emitted_on-idle outgoing count link =
     sole-idle count (position (λ other. other == link) outgoing)
 
--- So its outgoing links are just empty.
+-- Links on which nothing is emitted are just empty.
+pub Drives-silent : (links : List ℕ) (emit : ℕ → Option Flit) (old new : List (Option Flit))
+    → ((link : ℕ) → emit link ≡ None) → Drives (is_among links) (λ _. None) old new
+    → Drives (is_among links) emit old new
+Drives-silent links emit old new silent drives =
+    record {
+      links = drives.links;
+      at = λ link within. rw (silent link) (drives.at link within);
+    }
+
+-- So are the outgoing links of a router that holds no flit.
 pub Drives-cleared : (outgoing : List ℕ) (held : List (Option Flit)) (old new : List (Option Flit))
     → held ≡ replicate (length held) None
     → Drives (is_among outgoing) (λ _. None) old new
     → Drives (is_among outgoing) (emitted_on outgoing held) old new
 Drives-cleared outgoing held old new idle drives =
-    record {
-      links = drives.links;
-      at = λ link within.
-          let none : emitted_on outgoing held link ≡ None =
-          ap (λ held. emitted_on outgoing held link) idle
-          ∙ emitted_on-idle outgoing (length held) link in
-          rw none (drives.at link within);
-    }
+    Drives-silent outgoing (emitted_on outgoing held) old new (λ link.
+    ap (λ held. emitted_on outgoing held link) idle
+    ∙ emitted_on-idle outgoing (length held) link) drives
 
 -- Where all these wires are empty, no flit is taken in.
 flits-none : (links : List ℕ) (wires : List (Option Flit))

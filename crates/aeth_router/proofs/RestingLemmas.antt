@@ -1,6 +1,6 @@
 -- When a router, a stage, or a component of any kind rests.
 use Rattle.std.proofs.Common.{◌≡◌, ◌↔◌, ◌∙◌, ℕ, sym, ap}
-use Rattle.std.proofs.Common.{List, length, replicate, Option, None}
+use Rattle.std.proofs.Common.{List, length, map, replicate, Option, None}
 use Rattle.aeth_clocked.specs.Resting.{HasNoFlit, RestsDrive, RestsLatch}
 use Rattle.aeth_clocked.specs.Wires.{flit_on}
 use Rattle.aeth_clocked.specs.declared.flit.Flit.{Flit}
@@ -13,9 +13,24 @@ use Rattle.aeth_router.specs.Router.{router_absorb, router_after, router_emit}
 use Rattle.aeth_router.specs.Router.{router_inputs, router_outputs}
 use Rattle.aeth_router.specs.Stage.{StageState, stage_absorb, stage_after, stage_emit}
 use Rattle.aeth_router.specs.Stage.{stage_inputs, stage_outputs}
+use Rattle.aeth_router.specs.TableRouter.{TableRouterState, table_absorb, table_after, table_emit}
+use Rattle.aeth_router.specs.TableRouter.{table_inputs, table_outputs}
 use Rattle.aeth_router.specs.declared.part.Part.{Part}
 use Rattle.aeth_router.specs.declared.part.Part.TheVariants.{Interface, Router, Stage}
 use Rattle.aeth_router.proofs.IdleLemmas.{HasNoFlit-map, emitted_on-idle}
+use Rattle.aeth_router.proofs.TableLemmas.{table_emit-idle}
+
+-- Where what is latched is empty, it is what is held just where none is held.
+takes-none : (held : List (Option Flit)) (incoming : List ℕ) (wires : List (Option Flit))
+    → length held ≡ length incoming
+    → ((held ≡ replicate (length held) None) × HasNoFlit (is_among incoming) wires)
+    ↔ (HasNoFlit (is_among incoming) wires × (map (flit_on wires) incoming ≡ held))
+takes-none held incoming wires places =
+    let none_come = λ (empty : HasNoFlit (is_among incoming) wires).
+    HasNoFlit-map incoming wires empty ∙ ap (λ n. replicate n None) (sym places) in (
+      (λ idle. (idle.1, none_come idle.1 ∙ sym idle.0)),
+      (λ rests. (sym rests.1 ∙ none_come rests.0, rests.0)),
+    )
 
 module _ (router : RouterState) (wires : List (Option Flit)) where
   -- A router rests from driving just where it holds no flit and its outgoing links are empty.
@@ -40,17 +55,45 @@ module _ (router : RouterState) (wires : List (Option Flit)) where
       × HasNoFlit (is_among router.incoming) wires)
       ↔ (HasNoFlit (router_inputs router) wires × RestsLatch router_absorb wires router)
   RestsLatch-router places =
-      let none_come = λ (empty : HasNoFlit (is_among router.incoming) wires).
-      HasNoFlit-map router.incoming wires empty
-      ∙ ap (λ n. replicate n None) (sym places) in (
-        (λ idle. (
-          idle.1,
-          ap (λ (held : List (Option Flit)). record router { held = held })
-              (none_come idle.1 ∙ sym idle.0),
-        )),
-        (λ rests. (
-          sym (ap (λ (router : RouterState). router.held) rests.1) ∙ none_come rests.0,
+      let takes_none = takes-none router.held router.incoming wires places in (
+        (λ idle. let rests = takes_none.0 idle in (
           rests.0,
+          ap (λ (held : List (Option Flit)). record router { held = held }) rests.1,
+        )),
+        (λ rests. takes_none.1 (
+          rests.0,
+          ap (λ (router : RouterState). router.held) rests.1,
+        )),
+      )
+
+-- So do routers with tables.
+module _ (router : TableRouterState) (wires : List (Option Flit)) where
+  pub RestsDrive-table : (cycle : ℕ)
+      → ((router.held ≡ replicate (length router.held) None)
+      × HasNoFlit (is_among router.outgoing) wires)
+      ↔ RestsDrive table_outputs table_emit table_after cycle wires router
+  RestsDrive-table cycle = (
+    (λ idle. record {
+      silent = λ link is. table_emit-idle router cycle link idle.0;
+      still = ap (λ (held : List (Option Flit)). record router { held = held }) (sym idle.0);
+      empty = idle.1;
+    }),
+    (λ rests. (sym (ap (λ (router : TableRouterState). router.held) rests.still), rests.empty)),
+  )
+
+  pub RestsLatch-table : length router.held ≡ length router.incoming
+      → ((router.held ≡ replicate (length router.held) None)
+      × HasNoFlit (is_among router.incoming) wires)
+      ↔ (HasNoFlit (table_inputs router) wires × RestsLatch table_absorb wires router)
+  RestsLatch-table places =
+      let takes_none = takes-none router.held router.incoming wires places in (
+        (λ idle. let rests = takes_none.0 idle in (
+          rests.0,
+          ap (λ (held : List (Option Flit)). record router { held = held }) rests.1,
+        )),
+        (λ rests. takes_none.1 (
+          rests.0,
+          ap (λ (router : TableRouterState). router.held) rests.1,
         )),
       )
 

@@ -8,8 +8,9 @@ use Rattle.std.proofs.lemmas.Bool.{eq-eqb}
 use Rattle.std.proofs.lemmas.Map.Keys.{any_passes_from_place}
 use Rattle.aeth_clocked.specs.declared.flit.Flit.{Flit}
 use Rattle.aeth_clocked.specs.Wires.{AgreeOn, flit_on}
-use Rattle.aeth_router.specs.Router.{RouterState, router_absorb, router_inputs}
+use Rattle.aeth_router.specs.Router.{RouterState, is_among, router_absorb, router_inputs}
 use Rattle.aeth_router.specs.Stage.{StageState, stage_absorb, stage_inputs}
+use Rattle.aeth_router.specs.TableRouter.{TableRouterState, table_absorb, table_inputs}
 
 -- Wires that agree on each link of a list have the same flits there.
 flits-agree : (links : List ℕ) (some other : List (Option Flit))
@@ -24,15 +25,21 @@ flits-agree (link ∷ links) some other agree =
     flits-agree links some other (λ place. agree (suc place)) in
     cc
 
+-- So have those that agree on each link that is among them.
+agrees-among : (links : List ℕ) (some other : List (Option Flit))
+    → AgreeOn (is_among links) some other → map (flit_on some) links ≡ map (flit_on other) links
+agrees-among links some other agree =
+    flits-agree links some other (λ place link at.
+    agree link (any_passes_from_place (λ among. among == link) links place link at
+    (eq-eqb link link refl)))
+
 -- A router latches alike from wires that agree on its incoming links.
 pub router_absorb-agrees : (router : RouterState) (some other : List (Option Flit))
     → AgreeOn (router_inputs router) some other
     → router_absorb router some ≡ router_absorb router other
 router_absorb-agrees router some other agree =
     ap (λ (held : List (Option Flit)). record router { held = held })
-    (flits-agree router.incoming some other (λ place link at.
-    agree link (any_passes_from_place (λ among. among == link) router.incoming place link at
-    (eq-eqb link link refl))))
+    (agrees-among router.incoming some other agree)
 
 -- A stage latches alike from wires that agree on its input.
 pub stage_absorb-agrees : (stage : StageState) (some other : List (Option Flit))
@@ -40,3 +47,11 @@ pub stage_absorb-agrees : (stage : StageState) (some other : List (Option Flit))
 stage_absorb-agrees stage some other agree =
     ap (λ (flit : Option (Option Flit)). record stage { held = unwrap_or flit None })
     (agree stage.input.0 (eq-eqb stage.input.0 stage.input.0 refl))
+
+-- A router with a table latches alike from wires that agree on its incoming links.
+pub table_absorb-agrees : (router : TableRouterState) (some other : List (Option Flit))
+    → AgreeOn (table_inputs router) some other
+    → table_absorb router some ≡ table_absorb router other
+table_absorb-agrees router some other agree =
+    ap (λ (held : List (Option Flit)). record router { held = held })
+    (agrees-among router.incoming some other agree)

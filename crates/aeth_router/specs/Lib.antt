@@ -4,4 +4,5 @@ pub mod PartAgreement
 pub mod Ports
 pub mod Router
 pub mod Stage
+pub mod TableRouter
 pub mod Traffic

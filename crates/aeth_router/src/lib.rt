@@ -5,8 +5,10 @@
 mod part;
 mod router;
 mod stage;
+mod table_router;
 mod traffic;
 
 pub use part::Part;
 pub use router::Router;
 pub use stage::Stage;
+pub use table_router::TableRouter;

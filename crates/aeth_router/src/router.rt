@@ -127,14 +127,14 @@ impl Clocked for Router {
 }
 
 // So many places, and a flit at none.
-fn empty_places(alloc: Global, count: usize) -> Result<Vec<Option<Flit>>, NoMemory>
+pub(crate) fn empty_places(alloc: Global, count: usize) -> Result<Vec<Option<Flit>>, NoMemory>
     ensures { IfOk result (λ held. held.items ≡ replicate count None) }
 {
     Ok(vec![in alloc; None; count]?)
 }
 
 // The links on which a node sends.
-fn sending(alloc: Global, chip: &Chip, node: Node) -> Result<Vec<LinkId>, NoMemory>
+pub(crate) fn sending(alloc: Global, chip: &Chip, node: Node) -> Result<Vec<LinkId>, NoMemory>
     ensures { IfOk result (λ links. numbers_of links.items ≡ sends_on node chip.now.links) }
 {
     let mut links = Vec::new(alloc);
@@ -147,7 +147,11 @@ fn sending(alloc: Global, chip: &Chip, node: Node) -> Result<Vec<LinkId>, NoMemo
 }
 
 // The last wires of links.
-fn last_wires(alloc: Global, chip: &Chip, links: &[LinkId]) -> Result<Vec<LinkId>, NoMemory>
+pub(crate) fn last_wires(
+    alloc: Global,
+    chip: &Chip,
+    links: &[LinkId],
+) -> Result<Vec<LinkId>, NoMemory>
     requires { AreLinks (is_among (numbers_of links.now)) (length chip.now.links) }
     ensures { IfOk result (λ wires. numbers_of wires.items
         ≡ map (last_wire chip.now.links) (numbers_of links.now)) }
@@ -168,7 +172,7 @@ fn last_wire(chip: &Chip, link: LinkId) -> LinkId
 }
 
 // Whether each of these wires is empty.
-fn are_empty(links: &[LinkId], wires: &Wires) -> bool
+pub(crate) fn are_empty(links: &[LinkId], wires: &Wires) -> bool
     requires { AreLinks (is_among (numbers_of links.now)) (length wires.now) }
     ensures { IsTrue result ↔ HasNoFlit (is_among (numbers_of links.now)) wires.now }
 {
@@ -181,7 +185,7 @@ fn are_empty(links: &[LinkId], wires: &Wires) -> bool
 }
 
 // Whether there is a flit at no place.
-fn are_none(held: &[Option<Flit>]) -> bool
+pub(crate) fn are_none(held: &[Option<Flit>]) -> bool
     ensures { IsTrue result ↔ (held.now ≡ replicate (length held.now) None) }
 {
     for latched in held {
@@ -193,7 +197,7 @@ fn are_none(held: &[Option<Flit>]) -> bool
 }
 
 // Holds from each incoming wire what is there.
-fn take_in(held: &mut [Option<Flit>], incoming: &[LinkId], wires: &Wires)
+pub(crate) fn take_in(held: &mut [Option<Flit>], incoming: &[LinkId], wires: &Wires)
     requires links { AreLinks (is_among (numbers_of incoming.now)) (length wires.now) }
     requires places { length held.old ≡ length incoming.now }
     ensures { held.new ≡ map (flit_on wires.now) (numbers_of incoming.now) }
