@@ -9,3 +9,5 @@ mod interface;
 mod resting;
 #[cfg(test)]
 mod router;
+#[cfg(test)]
+mod table_router;
