@@ -1,7 +1,8 @@
-"""Prints what `allocate`, `route-tables`, `simulate`, `chain` and `demo` must print, and a log of the links
-of a run, from the rules in docs/RULES.md alone.
+"""Prints what `allocate`, `explain`, `route-tables`, `simulate`, `chain` and `demo` must print, and a log of the
+links of a run, from the rules in docs/RULES.md alone.
 
     python3 bench/model.py allocate CHIP APP
+    python3 bench/model.py explain CHIP APP [CERT]
     python3 bench/model.py route-tables CHIP APP PLAN USE
     python3 bench/model.py simulate CHIP APP PLAN WORDS RECEIVERS SWITCHES CYCLES
     python3 bench/model.py links CHIP APP PLAN WORDS RECEIVERS SWITCHES CYCLES
@@ -10,11 +11,12 @@ of a run, from the rules in docs/RULES.md alone.
 
 It is a second implementation, for new rows of crates/aeth_transcripts: it shares nothing with the
 program. It knows no network: a run is one private server for each session, and a chain one for each
-channel. It judges no file, refuses nothing, and is slow.
+channel. It judges no file but a text of certificates, and is slow.
 """
 
 import sys
 
+from model_certificates import text_of, tries_of, verdict
 from model_plans import SIDES, Allocation, App, Chip
 
 NEVER = 10**12
@@ -332,7 +334,7 @@ def main(command, *words):
         chip, app, plan, use, word, offers, receivers, cycles = words
         files = chip, app, plan, offers, receivers
     else:
-        files = words[:3] if command == "route-tables" else words[:6]
+        files = words[:3] if command in ("explain", "route-tables") else words[:6]
     texts = []
     for name in files:
         with open(name, encoding="utf-8") as it:
@@ -341,6 +343,9 @@ def main(command, *words):
     app = App(texts[1], chip)
     if command == "allocate":
         sys.stdout.write(Allocation(chip, app).text())
+    elif command == "explain":
+        tries = tries_of(chip, app)
+        sys.stdout.write("".join(verdict(chip, app, tries, texts[2])[1:]) if texts[2:] else text_of(tries))
     elif command == "route-tables":
         sys.stdout.write(routes_of(chip, app, texts[2], words[3]))
     elif command == "chain":

@@ -147,7 +147,7 @@ class Allocation:
 
     def __init__(self, chip, app):
         self.chip, self.app = chip, app
-        self.seats, self.grants, self.refused = {}, {}, []
+        self.seats, self.grants, self.refused, self.tries = {}, {}, [], []
         for core, (_, ni) in enumerate(app.cores):
             if ni:
                 self.sit(core, ni)
@@ -166,6 +166,7 @@ class Allocation:
             before = dict(self.seats), dict(self.grants)
             for side in SIDES:
                 if not self.is_granted(unit, side):
+                    self.tries.append((self.seats, self.grants))
                     self.seats, self.grants = before
                     self.refused.append((*unit, side, turn))
                     break

@@ -1,0 +1,101 @@
+#!/usr/bin/env python3
+"""What a run of `rt ci` costs: processor seconds for each crate and kind, and in all.
+
+bench/gate.py [WORD]..
+
+Runs `rt ci` at the top of the repository, or the command that the words give, and samples the processes below it each
+half second. What it writes goes to standard error as it comes; the table is printed behind it: for each crate the seconds
+of its own proof, of its tests and of its must-fail edits, then all others (Python, compilers, programs), then the sums. Ends with
+the command's status. For a measure from nothing take a fresh clone, on a machine that does nothing else.
+"""
+import os
+import pathlib
+import re
+import resource
+import subprocess
+import sys
+import time
+
+KINDS = ("own", "tests", "edits")
+TICKS = os.sysconf("SC_CLK_TCK")
+NAME = re.compile(r"(?:^|\0)--crate-name\0([^\0]*)")
+
+
+def text_of(file):
+    try:
+        return file.read_bytes().decode(errors="replace")
+    except OSError:
+        return ""
+
+
+def folder_of(process):
+    try:
+        return os.readlink(process / "cwd")
+    except OSError:
+        return ""
+
+
+def kind_of(process):
+    """The crate and the kind of a prover's process, or none of any other."""
+    words = text_of(process / "cmdline")
+    name = NAME.search(words)
+    if not name:
+        return None
+    if "/rt-edit-" in folder_of(process):
+        return name[1], "edits"
+    return name[1], "tests" if "\0--test\0" in words + "\0" else "own"
+
+
+def seconds_of(process):
+    """The processor seconds that a process took, and when it began, which tells it from a later one of its number."""
+    fields = text_of(process / "stat").rpartition(")")[2].split()
+    return (int(fields[11]) + int(fields[12])) / TICKS, fields[19]
+
+
+def sample(taken, kinds):
+    for process in pathlib.Path("/proc").iterdir():
+        if not process.name.isdigit():
+            continue
+        try:
+            seconds, began = seconds_of(process)
+        except (IndexError, ValueError):
+            continue
+        key = process.name, began
+        if key not in kinds:
+            kinds[key] = kind_of(process)
+        if kinds[key]:
+            taken[key] = seconds
+
+
+def table_of(taken, kinds):
+    table = {}
+    for key, seconds in taken.items():
+        crate, kind = kinds[key]
+        row = table.setdefault(crate, dict.fromkeys(KINDS, 0))
+        row[kind] += seconds
+    return table
+
+
+def show(table, spent, clock):
+    print(f"{'CRATE':24}" + "".join(f"{kind:>9}" for kind in KINDS))
+    for crate, row in sorted(table.items(), key=lambda it: -sum(it[1].values())):
+        print(f"{crate:24}" + "".join(f"{row[kind]:9.0f}" for kind in KINDS))
+    sums = {kind: sum(row[kind] for row in table.values()) for kind in KINDS}
+    print(f"{'all':24}" + "".join(f"{sums[kind]:9.0f}" for kind in KINDS))
+    print(f"{'others':24}{spent - sum(sums.values()):9.0f}")
+    print(f"{spent / 60:.1f} processor minutes, {clock / 60:.1f} minutes of clock")
+
+
+def main(words):
+    os.chdir(pathlib.Path(__file__).resolve().parent.parent)
+    taken, kinds, began = {}, {}, time.monotonic()
+    run = subprocess.Popen(words or ["rt", "ci"], stdin=subprocess.DEVNULL, stdout=sys.stderr)
+    while run.poll() is None:
+        sample(taken, kinds)
+        time.sleep(0.5)
+    used = resource.getrusage(resource.RUSAGE_CHILDREN)
+    show(table_of(taken, kinds), used.ru_utime + used.ru_stime, time.monotonic() - began)
+    return run.returncode
+
+
+sys.exit(main(sys.argv[1:]))
