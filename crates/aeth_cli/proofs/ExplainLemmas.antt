@@ -1,5 +1,5 @@
 -- The text of certificates and their verdicts, try by try.
-use Rattle.std.proofs.Common.{◌≡◌, ◌∙◌, ◌+◌, ◌<◌, ◌≤◌, ◌++◌, ◌∷◌, [], ℕ, List, Option, Some, None, ap, arith}
+use Rattle.std.proofs.Common.{◌≡◌, ◌∙◌, ◌+◌, ◌<◌, ◌≤◌, ◌++◌, ◌∷◌, [], ℕ, List, Some, ap, arith}
 use Rattle.std.proofs.Common.{append_assoc, drop, get_or, inl, inr, length, map, sym, take}
 use Rattle.std.specs.Prelude.{codes, option_map, slice_get, unwrap_or}
 use Rattle.std.proofs.lemmas.Grind.{flat_map-append}
@@ -7,7 +7,6 @@ use Rattle.std.proofs.lemmas.List.{append-nil, drop_all, map-append}
 use Rattle.std.proofs.lemmas.Option.{get_or_from_slice_get, slice_get_cases}
 use Rattle.aeth_alloc.specs.Trials.{refused_of}
 use Rattle.aeth_alloc.specs.declared.outcome.Refused.{Refused}
-use Rattle.aeth_answers.specs.Job.{Job}
 use Rattle.aeth_app.specs.App.{AppData}
 use Rattle.aeth_base.proofs.Lists.{drop-slice_get, option_map-some, take-slice_get}
 use Rattle.aeth_base.specs.declared.ids.LinkId.{LinkId}

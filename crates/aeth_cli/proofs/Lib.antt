@@ -6,3 +6,4 @@ mod PromiseLemmas
 mod ToldLemmas
 mod VerdictJobs
 mod ExplainLemmas
+mod CertifiedLemmas

@@ -1,5 +1,5 @@
 -- Laws of the promise: what an answer keeps of it, once its text was written or cut short.
-use Rattle.std.proofs.Common.{◌≡◌, ◌≢◌, ◌∙◌, ◌≤◌, ◌<◌, ℕ, List, Option, Some, None, inl, inr}
+use Rattle.std.proofs.Common.{◌≡◌, ◌∙◌, ◌≤◌, ◌<◌, ℕ, List, Option, Some, None, inl, inr}
 use Rattle.std.proofs.Common.{ap, refl, subst, sym, arith}
 use Rattle.std.proofs.Math.Nat.{eq-or-lt_of_le}
 use Rattle.std.proofs.lemmas.Option.{same_Some}
@@ -10,7 +10,7 @@ use Rattle.aeth_io.specs.declared.sink.Sink as sink
 use Rattle.aeth_report.specs.Log.{LogData}
 use Rattle.aeth_answers.specs.Job.{Job, err_text, usage}
 use Rattle.aeth_answers.specs.Places.{Files, IsAfter, Places, files_of}
-use Rattle.aeth_answers.specs.Status.{done_status, memory_status, read_fault_status, usage_status}
+use Rattle.aeth_answers.specs.Status.{memory_status, read_fault_status, usage_status}
 use Rattle.aeth_answers.specs.Status.{write_fault_status}
 use Rattle.aeth_answers.specs.Task.{IsReadFault}
 use Rattle.aeth_answers.specs.Writing.{EndsWith, IsCutShort, IsWritten}

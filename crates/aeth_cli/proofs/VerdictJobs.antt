@@ -1,5 +1,5 @@
 -- Laws of the answer to certificates.
-use Rattle.std.proofs.Common.{◌≡◌, ◌≢◌, ◌<◌, ◌+◌, ℕ, List, [], ◌∷◌, arith, length}
+use Rattle.std.proofs.Common.{◌≢◌, ◌<◌, ◌+◌, ℕ, List, [], ◌∷◌, arith, length}
 use Rattle.aeth_answers.specs.Job.{Job}
 use Rattle.aeth_answers.specs.Status.{read_fault_status, usage_status}
 use Rattle.aeth_base.specs.declared.ids.LinkId.{LinkId}

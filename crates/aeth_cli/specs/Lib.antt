@@ -1,4 +1,5 @@
 pub mod Commands
+pub mod Explained
 pub mod Limits
 pub mod PlannedUses
 pub mod Promise

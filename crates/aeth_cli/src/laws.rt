@@ -7,7 +7,9 @@ ghost use Rattle.aeth_answers.specs.Task.{job_with};
 ghost use Rattle.aeth_base.specs.Limits.{max_cycles};
 ghost use Rattle.aeth_cli.specs.Commands.{command_of};
 ghost use Rattle.aeth_cli.specs.Commands.Allocate.{allocate_task};
+ghost use Rattle.aeth_cli.specs.Commands.Explain.{confirm_task, explain_task};
 ghost use Rattle.aeth_cli.specs.Commands.Simulate.{simulate_task};
+ghost use Rattle.aeth_cli.specs.Explained.{IsConfirmed, IsExplained};
 ghost use Rattle.aeth_cli.specs.Told.{IsAllocated, IsSimulated};
 ghost use Rattle.aeth_cli.specs.declared.commands.Command.TheVariants as command;
 ghost use Rattle.aeth_files.specs.declared.runs.RunFiles.{RunFiles};
@@ -39,6 +41,23 @@ pub fn allocated_designs()
     ensures { (content : List ℕ → Option (List ℕ)) (chip_name app_name : List ℕ) (asked : Job)
         → job_with content (allocate_task chip_name app_name) ≡ Some asked
         → asked.status ≢ refused_status → IsAllocated content chip_name app_name asked }
+{
+    aeth_chip::laws::files();
+    aeth_app::laws::files();
+}
+
+/// Where a job of `explain` refuses no file, its files told a chip and an application for it, and it prints a
+/// certificate for each unit that the allocation of these refuses. With a text of certificates, the file
+/// told lists of links for each, and the job is that they are complete exactly where the lists of each are
+/// a certificate.
+pub fn refusals_are_explained()
+    ensures explained { (content : List ℕ → Option (List ℕ)) (chip_name app_name : List ℕ)
+        (asked : Job) → job_with content (explain_task chip_name app_name) ≡ Some asked
+        → asked.status ≢ refused_status → IsExplained content chip_name app_name asked }
+    ensures confirmed { (content : List ℕ → Option (List ℕ)) (chip_name app_name cert_name : List ℕ)
+        (asked : Job) → job_with content (confirm_task chip_name app_name cert_name) ≡ Some asked
+        → asked.status ≢ refused_status
+        → IsConfirmed content chip_name app_name cert_name asked }
 {
     aeth_chip::laws::files();
     aeth_app::laws::files();

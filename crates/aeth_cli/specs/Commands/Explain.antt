@@ -10,7 +10,6 @@ use Rattle.aeth_answers.specs.Task.{Judging, Task, ends}
 use Rattle.aeth_answers.specs.Words.{◌>>=◌, file_name_of}
 use Rattle.aeth_app.specs.App.{AppData}
 use Rattle.aeth_base.specs.declared.ids.LinkId.{LinkId}
-use Rattle.aeth_chip.specs.Chip.{ChipData}
 use Rattle.aeth_explain.specs.Certificate.{cuts_of}
 use Rattle.aeth_explain.specs.Cuts.{HasCandidate}
 use Rattle.aeth_explain.specs.CutsText.{cuts_of_text, cuts_text, line_of}

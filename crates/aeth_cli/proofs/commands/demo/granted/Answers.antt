@@ -1,4 +1,4 @@
-use Rattle.std.proofs.Common.{◌∙◌, [], subst}
+use Rattle.std.proofs.Common.{subst}
 use Rattle.aeth_alloc.specs.Allocation.{OutcomeData}
 use Rattle.aeth_alloc.specs.Prices.{prices_of}
 use Rattle.aeth_playing.specs.declared.inputs.Planned.{Planned}

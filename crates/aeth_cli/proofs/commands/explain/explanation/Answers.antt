@@ -1,6 +1,5 @@
-use Rattle.std.proofs.Common.{◌≡◌, ◌∙◌, ◌++◌, List, ap, arith, map, subst}
-use Rattle.std.specs.Prelude.{IfSome, codes}
-use Rattle.aeth_base.specs.declared.ids.LinkId.{LinkId}
+use Rattle.std.proofs.Common.{◌∙◌, ◌++◌, List, ap, arith, map}
+use Rattle.std.specs.Prelude.{codes}
 use Rattle.aeth_explain.specs.Certificate.{cuts_of}
 use Rattle.aeth_explain.specs.CutsText.{cuts_text, line_of}
 use Rattle.aeth_group.specs.Members.{groups_of}

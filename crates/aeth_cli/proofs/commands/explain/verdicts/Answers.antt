@@ -1,7 +1,6 @@
-use Rattle.std.proofs.Common.{◌≡◌, ◌∙◌, ◌+◌, ◌<◌, ℕ, List, None, Option, Some, ap, arith, drop, length, sym}
+use Rattle.std.proofs.Common.{◌∙◌, ◌+◌, ◌<◌, ℕ, Option, ap, arith, drop, length, sym}
 use Rattle.std.specs.Prelude.{unwrap_or}
 use Rattle.aeth_answers.specs.Job.{Job}
-use Rattle.aeth_base.specs.declared.ids.LinkId.{LinkId}
 use Rattle.aeth_text.specs.Order.{line_after}
 use Rattle.aeth_cli.specs.Commands.Explain.{verdicts_job}
 use Rattle.aeth_cli.proofs.ExplainLemmas.{at-index, there, verdicts-step}
