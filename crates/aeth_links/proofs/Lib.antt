@@ -1,0 +1,6 @@
+mod SeenLemmas
+mod NetworkLemmas
+mod RowLemmas
+mod FlowLemmas
+mod FlitLemmas
+mod CleanLemmas
