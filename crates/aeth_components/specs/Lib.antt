@@ -6,6 +6,7 @@ pub mod Components
 pub mod Counting
 pub mod Ends
 pub mod Events
+pub mod First
 pub mod Frames
 pub mod Lanes
 pub mod Laws

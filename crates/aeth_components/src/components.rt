@@ -1,13 +1,15 @@
 // The components of a network and the channels' sessions.
 
-ghost use Rattle.std.specs.Prelude.{◌≡◌, ◌≤◌, ◌<◌, ◌*◌, ◌+◌, All, IfOk, IfSome, None, length, map};
-ghost use Rattle.std.specs.Prelude.{replicate, slice_get, slice_set};
+ghost use Rattle.std.specs.Prelude.{◌≡◌, ◌≤◌, ◌<◌, ◌↔◌, ◌*◌, ◌+◌, ℕ, All, IfOk, IfSome, IsTrue, None};
+ghost use Rattle.std.specs.Prelude.{length, map, replicate, slice_get, slice_set};
 ghost use Rattle.aeth_base.specs.Limits.{max_cycles};
 ghost use Rattle.aeth_ni.specs.Limits.{queues_of_interface};
+ghost use Rattle.aeth_clocked.specs.Wires.{flit_on};
 ghost use Rattle.aeth_components.specs.Changes.{switched};
 ghost use Rattle.aeth_components.specs.Components.{Cycle, first_components};
 ghost use Rattle.aeth_components.specs.Components.{Runs, frames_of, part_count};
 ghost use Rattle.aeth_components.specs.Events.{IsDoable};
+ghost use Rattle.aeth_components.specs.First.{HasSender, IsFirst};
 ghost use Rattle.aeth_components.specs.Frames.{IsWired, frame_of};
 ghost use Rattle.aeth_components.specs.Lanes.{IsLane, with_lane};
 ghost use Rattle.aeth_components.specs.Resting.{holding_of};
@@ -16,9 +18,11 @@ ghost use Rattle.aeth_components.specs.Turns.{AreReady, flits_on};
 use crate::channels::Channels;
 use crate::counting::tally;
 use crate::cycle::{drive, latch};
+use crate::ends::are_empty;
 use crate::event::Event;
 use crate::lane::Lane;
 use crate::making::parts_of;
+use crate::parts::next_among;
 use crate::phases::switch;
 use crate::turns::Turns;
 use aeth_base::{NoMemory, Steps};
@@ -114,6 +118,13 @@ impl Components {
         &self.wires
     }
 
+    /// Whether no wire has a flit.
+    pub fn are_wires_empty(&self) -> bool
+        ensures { IsTrue result ↔ ((wire : ℕ) → flit_on self.now.wires wire ≡ None) }
+    {
+        are_empty(&self.wires, &self.turns.ends)
+    }
+
     /// The channels, each with its session of the time.
     pub fn lanes(&self) -> &[Lane]
         ensures { result.now ≡ self.now.lanes }
@@ -133,6 +144,15 @@ impl Components {
         ensures { result.now ≡ self.now.flits }
     {
         &self.flits
+    }
+
+    /// The first cycle from `from` on, and below `to`, in which a component sends words of its own as
+    /// it stands; `to` where there is none.
+    pub fn next_sending(&self, from: u32, to: u32) -> u32
+        requires { from ≤ to }
+        ensures { IsFirst (HasSender self.now.parts) from to result }
+    {
+        next_among(&self.parts, from, to)
     }
 
     /// A channel has another session from now on.
