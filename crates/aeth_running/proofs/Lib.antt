@@ -17,6 +17,7 @@ pub mod LandedWords
 pub mod LaneLookups
 pub mod LastFlits
 pub mod LastLanes
+pub mod MuteParts
 pub mod NetworkLaws
 pub mod NetworkLogs
 pub mod NetworkRuns
@@ -26,6 +27,8 @@ pub mod Outside
 pub mod OutsideTold
 pub mod Played
 pub mod Preparing
+pub mod QuietCycles
+pub mod QuietNetworks
 pub mod ReadyChannels
 pub mod ReadySound
 pub mod Replaced

@@ -1,6 +1,7 @@
 pub mod FirstLog
 pub mod Idle
 pub mod Network
+pub mod Quiet
 pub mod Running
 pub mod Still
 pub mod Told

@@ -6,6 +6,7 @@ ghost use Rattle.aeth_accepted.specs.Inputs.{AreAccepted, Inputs, run_of};
 ghost use Rattle.aeth_fabric.specs.Fabric.{fabric_of};
 ghost use Rattle.aeth_running.specs.Idle.{IsIdle};
 ghost use Rattle.aeth_running.specs.Network.{first_network, played, ready_in};
+ghost use Rattle.aeth_running.specs.Quiet.{IsQuiet, brought_over, rested};
 ghost use Rattle.aeth_running.specs.Running.{IsRunning, IsServing};
 ghost use Rattle.aeth_running.specs.Still.{IsStill, passed_over};
 ghost use Rattle.aeth_running.specs.Told.{network_log};
@@ -102,6 +103,40 @@ pub fn still_cycles_rest()
     aeth_fabric::laws::runs_have_fabrics();
     aeth_invariant::laws::switches_are_made();
     aeth_invariant::laws::cycles_are_cycles();
+}
+
+/// Where the wires of a network are empty and so many cycles leave it, the next one leaves it too just
+/// where it is quiet: no word is offered in it, it is in no switch's window, no component sends in it as
+/// it stands now, and no open channel has a word that its receiver takes.
+pub fn quiet_cycles_are_still()
+    ensures { (inputs : Inputs) → AreAccepted inputs → (t k : ℕ) → t + k < inputs.cycles
+        → ((l : ℕ) → flit_on (played t (first_network inputs)).components.wires l ≡ None)
+        → ((j : ℕ) → j < k → IsStill (played (t + j) (first_network inputs)))
+        → IsStill (played (t + k) (first_network inputs))
+        ↔ IsQuiet (played t (first_network inputs)) k }
+{
+    networks_run();
+    networks_serve();
+    still_cycles_rest();
+    aeth_events::laws::events_are_events();
+    aeth_fabric::laws::runs_have_fabrics();
+    aeth_invariant::laws::switches_are_made();
+    aeth_invariant::laws::cycles_are_cycles();
+    aeth_tables::laws::switches();
+}
+
+/// Behind a cycle that leaves a network its sessions have gone and its receivers take as their rows say,
+/// and else it is as it was. Behind so many later ones its receivers take as the rows of all of these
+/// say, and nothing else has changed.
+pub fn networks_rest()
+    ensures one { (inputs : Inputs) → AreAccepted inputs → (t : ℕ) → t < inputs.cycles
+        → IsStill (played t (first_network inputs))
+        → played (t + 1) (first_network inputs) ≡ brought_over (played t (first_network inputs)) }
+    ensures later { (inputs : Inputs) → AreAccepted inputs → (t k : ℕ) → t + k ≤ inputs.cycles
+        → 0 < t → ((j : ℕ) → j < k → IsStill (played (t + j) (first_network inputs)))
+        → played (t + k) (first_network inputs) ≡ rested k (played t (first_network inputs)) }
+{
+    still_cycles_rest();
 }
 
 /// The wires of the network of accepted inputs carry in each cycle what the run of the private servers

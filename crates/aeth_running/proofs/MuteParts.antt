@@ -1,0 +1,103 @@
+-- Components over empty wires drive nothing just where none of them sends words of its own.
+use Rattle.std.proofs.Common.{◌≡◌, ◌∙◌, ℕ, true, false, List, [], ◌∷◌, Option, Some, None, ap}
+use Rattle.std.proofs.Common.{arith, suc, inl, inr, is_some, length, map, refl, slice_get, sym}
+use Rattle.std.specs.Option.{option_map}
+use Rattle.std.proofs.lemmas.Bool.{cases_Bool, cases_lt, eq-eqb}
+use Rattle.std.proofs.lemmas.List.{length-map}
+use Rattle.std.proofs.lemmas.Option.{slice_get-map}
+use Rattle.std.specs.Prelude.{replicate}
+use Rattle.aeth_base.proofs.Members.{All-slice_get}
+use Rattle.aeth_clocked.proofs.DrivenLemmas.{driven-at}
+use Rattle.aeth_clocked.specs.Driven.{driven}
+use Rattle.aeth_clocked.specs.Wires.{AreLinks, flit_on}
+use Rattle.aeth_clocked.specs.declared.flit.Flit.{Flit}
+use Rattle.aeth_ni.specs.Component.{emitted_by, queue_at_cycle}
+use Rattle.aeth_router.proofs.RestingLemmas.{RestsDrive-router, RestsDrive-stage}
+use Rattle.aeth_router.specs.Part.{emit_of, outputs_of}
+use Rattle.aeth_router.specs.Router.{RouterState}
+use Rattle.aeth_router.specs.declared.part.Part.{Part}
+use Rattle.aeth_router.specs.declared.part.Part.TheVariants.{Interface, Router, Stage}
+use Rattle.aeth_components.proofs.FrameLemmas.{AreDisjoint-parts, length-wires_driven}
+use Rattle.aeth_components.specs.Components.{wires_driven}
+use Rattle.aeth_components.specs.Frames.{Frame, IsWired, frame_of, sends_by}
+use Rattle.aeth_components.specs.Turns.{sends_own}
+use Rattle.aeth_invariant.proofs.Driving.{flit_on-driven, flit_on-past}
+use Rattle.aeth_invariant.specs.View.{HaveLatched}
+
+-- A wire on which each component that sends there emits nothing is driven empty.
+pub driven-none : (parts : List Part) (cycle link : ℕ)
+    → ((i : ℕ) (part : Part) → slice_get parts i ≡ Some part → outputs_of part link ≡ true
+    → emit_of part cycle link ≡ None)
+    → driven outputs_of emit_of parts cycle link ≡ None
+driven-none [] cycle link none = refl
+driven-none (part ∷ parts) cycle link none = elim (cases_Bool (outputs_of part link)) [
+  | inl own ↦ rw own (none 0 part refl own)
+  | inr other ↦ rw other (driven-none parts cycle link (λ i one at. none (suc i) one at))
+]
+
+-- A test that a flit passes or not.
+is_some-none : (flit : Option Flit) → is_some flit ≡ false → flit ≡ None
+is_some-none None not = refl
+is_some-none (Some flit) not = absurd (cc not)
+
+module _ (parts : List Part) (wires : List (Option Flit)) (cycle : ℕ)
+    (wired : IsWired (map frame_of parts) (length wires)) (latched : HaveLatched parts wires)
+    (empty : (l : ℕ) → flit_on wires l ≡ None) where
+  -- Nothing comes from empty wires.
+  nothing-from : (links : List ℕ) → map (flit_on wires) links ≡ replicate (length links) None
+  nothing-from [] = refl
+  nothing-from (link ∷ links) =
+      ap (λ (one : Option Flit). one ∷ map (flit_on wires) links) (empty link)
+      ∙ ap (λ (others : List (Option Flit)). None ∷ others) (nothing-from links)
+
+  -- So a router holds nothing.
+  held-none : (i : ℕ) (router : RouterState) → slice_get parts i ≡ Some (Router router)
+      → router.held ≡ replicate (length router.held) None
+  held-none i router at =
+      let places : length router.held ≡ length router.incoming =
+      ap length (latched.routers i router at) ∙ length-map router.incoming (flit_on wires) in
+      latched.routers i router at ∙ nothing-from router.incoming
+      ∙ ap (λ n. replicate n None) (sym places)
+
+  -- A component that sends nothing of its own emits nothing.
+  emits-none : (i : ℕ) (part : Part) → slice_get parts i ≡ Some part
+      → sends_own cycle part ≡ false → (link : ℕ) → outputs_of part link ≡ true
+      → emit_of part cycle link ≡ None
+  emits-none i (Interface ni) at mute link own = is_some-none _ mute
+  emits-none i (Router router) at mute link own =
+      ((RestsDrive-router router wires cycle).0 (held-none i router at, λ l is. empty l)).silent link
+      own
+  emits-none i (Stage stage) at mute link own =
+      ((RestsDrive-stage stage wires cycle).0
+      (latched.stages i stage at ∙ empty stage.input.0, empty stage.output.0)).silent link own
+
+  -- Where none sends, the wires stay empty.
+  pub mute-silent : ((i : ℕ) (part : Part) → slice_get parts i ≡ Some part
+      → sends_own cycle part ≡ false)
+      → (l : ℕ) → flit_on (wires_driven parts (length wires) cycle) l ≡ None
+  mute-silent mute l = elim (cases_lt l (length wires)) [
+    | inl within ↦
+        flit_on-driven parts (length wires) cycle l within
+        ∙ driven-none parts cycle l (λ i part at own. emits-none i part at (mute i part at) l own)
+    | inr past ↦
+        let size = length-wires_driven parts (length wires) cycle in
+        flit_on-past (wires_driven parts (length wires) cycle) l (omega (arith, size, past))
+  ]
+
+  -- And where they stay empty, none sends.
+  pub silent-mute : ((l : ℕ) → flit_on (wires_driven parts (length wires) cycle) l ≡ None)
+      → (i : ℕ) (part : Part) → slice_get parts i ≡ Some part → sends_own cycle part ≡ false
+  silent-mute silent i (Interface ni) at =
+      let leaving = ni.leaving.0 in
+      let own = eq-eqb leaving leaving refl in
+      let links = All-slice_get (λ (frame : Frame). AreLinks (sends_by frame) (length wires))
+      (map frame_of parts) i (frame_of (Interface ni)) wired.outputs
+      (slice_get-map frame_of parts i ∙ ap (option_map frame_of) at) in
+      let none : emitted_by (queue_at_cycle ni.entries cycle) ni.queues ≡ None =
+      sym (flit_on-driven parts (length wires) cycle leaving (links leaving own)
+      ∙ driven-at outputs_of emit_of parts i cycle leaving (Interface ni)
+      (AreDisjoint-parts parts (length wires) wired) at own)
+      ∙ silent leaving in
+      ap is_some none
+  silent-mute silent i (Router router) at = refl
+  silent-mute silent i (Stage stage) at = refl
