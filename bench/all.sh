@@ -86,6 +86,9 @@ if is_chosen audit short; then
     python3 "$home/bench/model.py" links chip app_hops plan words_20k receivers switches_1024 10000 >log
 fi
 run short audit - 211330979 audit chip app_hops plan switches_1024 log 10000
+run short explain 133 900000000 explain chip app_stress
+if is_chosen confirm short; then "$program" explain chip app_stress >cert; fi
+run short confirm 130 918000000 explain chip app_stress cert
 run_word long
 run short simulate_short - 99711593 simulate chip app_hops plan words_20k receivers switches_1024 20000
 run long simulate_idle 110 50196354 simulate chip app_hops plan words_none receivers_none switches_one 1000000
