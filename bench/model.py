@@ -1,11 +1,12 @@
-"""Prints what `allocate`, `explain`, `route-tables`, `simulate`, `chain` and `demo` must print, and a log of the
-links of a run, from the rules in docs/RULES.md alone.
+"""Prints what `allocate`, `explain`, `route-tables`, `simulate`, `links`, `audit`, `chain` and `demo` must print, from
+the rules in docs/RULES.md alone.
 
     python3 bench/model.py allocate CHIP APP
     python3 bench/model.py explain CHIP APP [CERT]
     python3 bench/model.py route-tables CHIP APP PLAN USE
     python3 bench/model.py simulate CHIP APP PLAN WORDS RECEIVERS SWITCHES CYCLES
     python3 bench/model.py links CHIP APP PLAN WORDS RECEIVERS SWITCHES CYCLES
+    python3 bench/model.py audit CHIP APP PLAN SWITCHES LOG CYCLES
     python3 bench/model.py chain CHIP APP PLAN USE CHAIN WORDS RECEIVERS CYCLES
     python3 bench/model.py demo N
 
@@ -196,6 +197,64 @@ class Run:
         )
 
 
+class Audit:
+    """The audit of a log of links by a run, of which it knows no words."""
+
+    def __init__(self, run, rows):
+        self.cycles = run.cycles
+        self.servers = [
+            Server(run, (connection, side), session)
+            for connection, sessions in run.sessions.items()
+            for session in sessions
+            for side in SIDES
+        ]
+        self.rows = [row for row in rows if row[0] < run.cycles]
+        self.seen = {(cycle, link): flit for cycle, link, *flit in self.rows}
+
+    def goes_on(self, earlier, later):
+        """Whether the flit on one link goes on as that on another, a hop further."""
+        if earlier not in self.seen or later not in self.seen:
+            return False
+        (header, *words), flit = self.seen[earlier], self.seen[later]
+        route = header % 2**21
+        return flit == [header - route + route // 8, *words]
+
+    def rule(self, cycle, link, header, *words):
+        """The least rule that a row breaks; 0 where it breaks none."""
+        places = [
+            (server, place, server.offsets)
+            for server in self.servers
+            for place, at in enumerate(server.path)
+            if at == link
+            and server.go <= cycle - server.offsets[place] < server.stop
+            and (cycle - server.offsets[place]) % server.slots in server.starts
+        ]
+        if not places:
+            return 1
+        ((server, place, offsets),) = places
+        count, credits = header >> 30, header >> 26 & 15
+        if header % 2**26 != server.headers[place] or count == 3 or count + credits == 0:
+            return 2
+        if any(words[count:]):
+            return 2
+        here, path = (cycle, link), server.path
+        if place:
+            before = cycle - offsets[place] + offsets[place - 1], path[place - 1]
+            if not self.goes_on(before, here):
+                return 3
+        if place + 1 < len(path):
+            after = cycle - offsets[place] + offsets[place + 1], path[place + 1]
+            if after[0] < self.cycles and not self.goes_on(here, after):
+                return 3
+        return 0
+
+    def text(self):
+        for number, row in enumerate(self.rows):
+            if rule := self.rule(*row):
+                return f"fault {rule} {number + 1}\n"
+        return "clean\n"
+
+
 def rows_of(text):
     return [row.split(",") for row in text.split("\n")[1:] if row]
 
@@ -334,7 +393,7 @@ def main(command, *words):
         chip, app, plan, use, word, offers, receivers, cycles = words
         files = chip, app, plan, offers, receivers
     else:
-        files = words[:3] if command in ("explain", "route-tables") else words[:6]
+        files = words[: {"explain": 3, "route-tables": 3, "audit": 5}.get(command, 6)]
     texts = []
     for name in files:
         with open(name, encoding="utf-8") as it:
@@ -351,6 +410,10 @@ def main(command, *words):
     elif command == "chain":
         run = run_of(chip, app, *texts[2:], f"cycle,use,drain\n0,{use},0\n", int(cycles))
         sys.stdout.write(Chain(run, use, word).text())
+    elif command == "audit":
+        run = run_of(chip, app, texts[2], "", "", texts[3], int(words[5]))
+        rows = [[int(it) for it in row] for row in rows_of(texts[4])]
+        sys.stdout.write(Audit(run, rows).text())
     else:
         run = run_of(chip, app, *texts[2:], int(words[6]))
         sys.stdout.write(run.log() if command == "links" else run.text())
