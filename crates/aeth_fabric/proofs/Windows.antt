@@ -24,6 +24,7 @@ use Rattle.aeth_reconf.proofs.WindowLemmas.{in_order, slots_in_order}
 use Rattle.aeth_refinement.specs.Accepted.{HasEntry, HasRoute, IsOrdered}
 use Rattle.aeth_refinement.specs.Fabric.{IsSameQueue, Owns, server_at}
 use Rattle.aeth_accepted.specs.Inputs.{row_at}
+use Rattle.aeth_fabric.specs.Fabric.{entered_by}
 use Rattle.aeth_fabric.specs.Fabric.{Placed, cleared_by, fabric_over, flow_in, freed_by, freed_in}
 use Rattle.aeth_fabric.specs.Fabric.{no_placed, passage_of, placed_at, placed_of, row_in, slot_at}
 use Rattle.aeth_fabric.specs.Fabric.{slot_freed_in, slot_set_in, stays_in}
@@ -184,6 +185,11 @@ module _ (run : Run) where
       let count = length-wires_along run.design.chip.links (flow_in run p).path in
       omega (arith, drain, count)
 
+  -- A use case is entered before the sessions go that come with it.
+  enters-first : (opening : Option Switch) → entered_by run opening ≤ go_of run.spans opening
+  enters-first None = omega arith
+  enters-first (Some switch) = omega arith
+
   -- So the cycles of each session are in order.
   pub ordered : IsSound run → AreWritten → (c : ℕ) → c < length (placed_of run)
       → IsOrdered (fabric_over run) c
@@ -199,6 +205,7 @@ module _ (run : Run) where
         set_since = owned_first run.design.groups (row_at run.design) run.spans run.switches may
             p.channel p.place p.stay (stay c p is);
         set_go = first;
+        entered_go = enters-first p.stay.opening;
         set_stop = omega (arith, first, go_stop);
         stop_freed = omega (arith, stop_fin, free);
         slot_after = λ x own. (ordered_slot sound may c p is x own).behind_route;

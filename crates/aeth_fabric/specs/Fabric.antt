@@ -19,7 +19,7 @@ use Rattle.aeth_ni.specs.declared.row.ChannelRow.{ChannelRow}
 use Rattle.aeth_trace.specs.Channels.{is_channel}
 use Rattle.aeth_report.specs.Channels.{channels_of, opposite}
 use Rattle.aeth_report.specs.Flows.{Flow, Run, flow_of}
-use Rattle.aeth_report.specs.Sessions.{Stay, Switch, session_of, stays_of}
+use Rattle.aeth_report.specs.Sessions.{Stay, Switch, close_by, session_of, stays_of}
 use Rattle.aeth_report.specs.declared.session.Session.{Session}
 use Rattle.aeth_reconf.specs.Windows.{cleared_of, freed_of, set_of, since_of, slot_set_of}
 use Rattle.aeth_refinement.specs.Fabric.{Fabric, Passage}
@@ -115,6 +115,12 @@ module _ (run : Run) where
   abbrev pub slot_freed_in : Placed → ℕ → ℕ
   slot_freed_in placed slot = cleared_by placed (slot_at placed slot) placed.stay.closing
 
+  -- When the use case is entered with which a session comes: once what the switch closes is
+  -- finished.
+  abbrev pub entered_by : Option Switch → ℕ
+  entered_by None = 0
+  entered_by (Some switch) = (close_by run.spans switch).fin
+
   -- A session as a passage.
   abbrev pub passage_of : Placed → Passage
   passage_of placed = record {
@@ -129,6 +135,7 @@ module _ (run : Run) where
     freed = freed_in placed;
     slot_set = slot_set_in placed;
     slot_freed = slot_freed_in placed;
+    entered = entered_by placed.stay.opening;
   }
 
   -- Whether a session is that of the opposite channel at the same place.

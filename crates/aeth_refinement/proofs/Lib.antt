@@ -16,3 +16,4 @@ pub mod Events
 pub mod Switching
 pub mod Whole
 pub mod Listed
+pub mod Tables

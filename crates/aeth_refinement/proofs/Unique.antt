@@ -16,7 +16,7 @@ use Rattle.aeth_server.specs.SlotCycles.{is_slot}
 use Rattle.aeth_server.proofs.SessionEnds.{idle-before}
 use Rattle.aeth_refinement.specs.Accepted.{IsAccepted}
 use Rattle.aeth_refinement.specs.Carried.{IsOnWire}
-use Rattle.aeth_refinement.specs.Fabric.{Fabric, IsGoing, flow_at, has_slot, server_at}
+use Rattle.aeth_refinement.specs.Fabric.{Fabric, IsGoing, IsInTables, flow_at, has_slot, server_at}
 use Rattle.aeth_refinement.proofs.Counts.{credited-rests, sent-rests}
 
 module _ (fabric : Fabric) (ok : IsAccepted fabric) where
@@ -189,6 +189,14 @@ module _ (fabric : Fabric) (ok : IsAccepted fabric) where
       let time = on.time in
       record { goes = omega arith; unfinished = omega arith }
 
+  -- So tables of routers have its session.
+  pub in_tables : (l t c i u : ℕ) → IsOnWire fabric l t c i u → IsInTables fabric c t
+  in_tables l t c i u on =
+      let going = live l t c i u on in
+      let goes = going.goes in
+      let first = (ok.ordered c on.known).entered_go in
+      record { since = omega (arith, first, goes); unfinished = going.unfinished }
+
   -- A wire has one flit at most.
   pub one_flit : (l t c i u d j v : ℕ) → IsOnWire fabric l t c i u → IsOnWire fabric l t d j v
       → (c ≡ d) × (i ≡ j) × (u ≡ v)
@@ -200,7 +208,7 @@ module _ (fabric : Fabric) (ok : IsAccepted fabric) where
       ∙ sym (mod-add-mod v fabric.size j) in
       let found =
       (ok.apart c d one.known two.known).wire i j l (u % fabric.size) (v % fabric.size) t
-      (live l t c i u one) (live l t d j v two) one.place two.place x y same in
+      (in_tables l t c i u one) (in_tables l t d j v two) one.place two.place x y same in
       let places = found.1 in
       let now = one.time in
       let then = two.time in

@@ -7,3 +7,4 @@ pub mod Cycle
 pub mod Standing
 pub mod Runs
 pub mod Carries
+pub mod Tables

@@ -1,10 +1,12 @@
 //! What holds of every network whose sessions are those of an accepted plan, over the definitions
 //! alone.
-ghost use Rattle.std.specs.Prelude.{◌≡◌, ◌≤◌, ◌<◌, ◌+◌, ◌-◌, ◌++◌, ℕ, min, length};
-ghost use Rattle.std.specs.Prelude.{Option, Some};
+ghost use Rattle.std.specs.Prelude.{◌≡◌, ◌≤◌, ◌<◌, ◌+◌, ◌-◌, ◌++◌, ℕ, min, length, map};
+ghost use Rattle.std.specs.Prelude.{None, Option, Some};
 ghost use Rattle.std.specs.Option.{option_to_list};
 ghost use Rattle.aeth_clocked.specs.declared.flit.Flit.{Flit};
 ghost use Rattle.aeth_ni.specs.Component.{Arrival, arrival_of};
+ghost use Rattle.aeth_router.specs.Ports.{flits_for, sole};
+ghost use Rattle.aeth_refinement.specs.Tables.{AreEntries, GoesOnOnce, passed_on};
 ghost use Rattle.aeth_server.specs.PrivateServer.{landed, pull_at, taken};
 ghost use Rattle.aeth_refinement.specs.Accepted.{IsAccepted};
 ghost use Rattle.aeth_refinement.specs.Carried.{Exact, IsPassed, words_from};
@@ -96,4 +98,25 @@ pub fn no_flit_is_lost()
     ensures read { (fabric : Fabric) → IsAccepted fabric → (t : ℕ) (wires : ℕ → Option Flit)
         → Exact fabric t wires → (l : ℕ) (flit : Flit) → wires l ≡ Some flit
         → (arrival : Arrival) × (arrival_of (Some flit) ≡ Some arrival) }
+{}
+
+/// Where routers hold what the fabric carried in the cycle before, or nothing in the first cycle,
+/// tables that have just the entries of the sessions in them send on what headers do.
+pub fn tables_forward()
+    ensures after { (fabric : Fabric) → IsAccepted fabric → 0 < fabric.size → (t : ℕ)
+        (held : ℕ → Option Flit) → Exact fabric t held → (from : ℕ → Option ℕ)
+        → AreEntries fabric (t + 1) from → (l r : ℕ) → fabric.start l ≡ AtRouter r
+        → passed_on from held l
+        ≡ sole (flits_for (fabric.port l) (map held (fabric.incoming r))) }
+    ensures first { (fabric : Fabric) (held : ℕ → Option Flit) → ((l : ℕ) → held l ≡ None)
+        → (from : ℕ → Option ℕ) (l r : ℕ) → passed_on from held l
+        ≡ sole (flits_for (fabric.port l) (map held (fabric.incoming r))) }
+{}
+
+/// There each flit that a router holds goes on by one wire, and by no other.
+pub fn tables_lose_nothing()
+    ensures { (fabric : Fabric) → IsAccepted fabric → 0 < fabric.size → (t : ℕ)
+        (held : ℕ → Option Flit) → Exact fabric t held → (from : ℕ → Option ℕ)
+        → AreEntries fabric (t + 1) from → (m r : ℕ) (flit : Flit) → fabric.end m ≡ AtRouter r
+        → held m ≡ Some flit → GoesOnOnce fabric from m r }
 {}

@@ -1,9 +1,8 @@
 -- Two sessions that are in use in one cycle are together in one group, and of one connection they
 -- are one: by the finish of what each switch closes.
-use Rattle.std.proofs.Common.{◌≡◌, ◌≤◌, ◌<◌, ◌∙◌, ℕ, ◌+◌, List, [], ◌∷◌, map, Contains, Option, Some}
-use Rattle.std.proofs.Common.{None, slice_get, refl, sym, ap, subst, inl, inr, arith}
+use Rattle.std.proofs.Common.{◌≡◌, ◌≤◌, ◌<◌, ◌∙◌, ℕ, ◌+◌, List, [], ◌∷◌, Contains, Option, Some}
+use Rattle.std.proofs.Common.{None, slice_get, sym, ap, subst, inl, inr, arith}
 use Rattle.std.proofs.lemmas.Bool.{cases_lt, le-ltb, lt-ltb}
-use Rattle.std.proofs.lemmas.Option.{slice_get-map, same_Some}
 use Rattle.std.specs.Prelude.{IfSome, Ok, ⊤, option_map}
 pub use Rattle.aeth_base.proofs.Lists.{map-slice_get as mapped_at}
 use Rattle.aeth_base.proofs.Members.{Contains-nil, map-Contains}
@@ -15,7 +14,7 @@ use Rattle.aeth_report.specs.declared.session.Session.{Session}
 use Rattle.aeth_report.specs.Sessions.{AreTogether, IsInUse, Stay, Switch, close_by, go_by, go_of}
 use Rattle.aeth_report.specs.Sessions.{session_of, sessions_of, stays_of}
 use Rattle.aeth_report.proofs.Stays.{switch_of}
-use Rattle.aeth_report.proofs.StayMeetings.{AreRising, Covers, stays_meet}
+use Rattle.aeth_report.proofs.StayMeetings.{AreRising, Covers, Meet, stays_meet}
 use Rattle.aeth_report.proofs.StaysAlone.{stays_alone}
 
 -- Behind use case u, no row comes before `low`, and none before the channels are in use that the row
@@ -40,7 +39,7 @@ in_time spans u low place (row ∷ rows) is = elim (cases_lt row.cycle low) [
 
 module _ (groups : GroupsData) (spans : SpanData) where
   -- When what a switch closes is finished.
-  abbrev finish_by : Switch → ℕ
+  abbrev pub finish_by : Switch → ℕ
   finish_by switch = (close_by spans switch).fin
 
   -- Rows in time finish one after the other.
@@ -54,8 +53,12 @@ module _ (groups : GroupsData) (spans : SpanData) where
         rising row.to.0 (go_by spans switch) (finish_by switch) rows (omega arith) times.1,
       )
 
-  -- A stay whose session is in use covers the cycle.
-  covers : (s : Stay) (t : ℕ) → IsInUse (session_of spans s) t → Covers groups finish_by s t
+  -- A stay is in the tables from the finish of the switch that opens it to its own.
+  abbrev pub IsInTables : Stay → ℕ → Type 0
+  IsInTables s t = Covers groups finish_by s t
+
+  -- So is one whose session is in use.
+  covers : (s : Stay) (t : ℕ) → IsInUse (session_of spans s) t → IsInTables s t
   covers s t used =
       let openings : (o : Option Switch) → go_of spans o ≤ t
       → IfSome o (λ switch. finish_by switch ≤ t) = elim [
@@ -73,24 +76,41 @@ module _ (groups : GroupsData) (spans : SpanData) where
         closed_by = closings s.closing used.unfinished;
       }
 
+  -- Two stays that are in the tables in one cycle are together.
+  pub stays_meet_in_tables : (rows : List SwitchRow) (c d t : ℕ) → are_apart spans rows ≡ Ok tt
+      → (s e : Stay) → Contains (stays_of groups c rows) s → Contains (stays_of groups d rows) e
+      → IsInTables s t → IsInTables e t → Meet groups c d s e
+  stays_meet_in_tables [] c d t apart s e has_s has_e on_s on_e = Contains-nil has_s
+  stays_meet_in_tables (first ∷ rows) c d t apart s e has_s has_e on_s on_e =
+      stays_meet groups finish_by rows first.to.0 0 c d None None t
+      (rising first.to.0 0 0 rows (omega arith) (in_time spans first.to.0 0 2 rows apart)) s e has_s
+      has_e on_s on_e
+
+  -- Of one connection they are one.
+  pub stays_alone_in_tables : (rows : List SwitchRow) (c t : ℕ) → are_apart spans rows ≡ Ok tt
+      → (i j : ℕ) (s e : Stay) → slice_get (stays_of groups c rows) i ≡ Some s
+      → slice_get (stays_of groups c rows) j ≡ Some e → IsInTables s t → IsInTables e t → i ≡ j
+  stays_alone_in_tables [] c t apart i j s e at_s at_e on_s on_e = absurd cc
+  stays_alone_in_tables (first ∷ rows) c t apart i j s e at_s at_e on_s on_e =
+      stays_alone groups finish_by c rows None first.to.0 0 t
+      (rising first.to.0 0 0 rows (omega arith) (in_time spans first.to.0 0 2 rows apart)) i j s e
+      at_s at_e on_s on_e
+
   -- What two sessions with a common cycle are.
   pub record SessionsMeet (c d : ℕ) (s e : Session) : Type 0 where
     pub group : s.group.0 ≡ e.group.0
     pub together : AreTogether groups s.group.0 c d
 
-  -- Behind a first row they meet.
-  meet_behind : (first : SwitchRow) (rows : List SwitchRow) (c d t : ℕ)
-      → AreInTime spans first.to.0 0 rows → (s e : Session)
-      → Contains (sessions_of groups spans c (first ∷ rows)) s
-      → Contains (sessions_of groups spans d (first ∷ rows)) e → IsInUse s t → IsInUse e t
+  -- Two sessions that are in use in one cycle are together.
+  pub sessions_meet : (rows : List SwitchRow) (c d t : ℕ) → are_apart spans rows ≡ Ok tt
+      → (s e : Session) → Contains (sessions_of groups spans c rows) s
+      → Contains (sessions_of groups spans d rows) e → IsInUse s t → IsInUse e t
       → SessionsMeet c d s e
-  meet_behind first rows c d t times s e has_s has_e used_s used_e =
-      let all = first ∷ rows in
-      let one = map-Contains (session_of spans) (stays_of groups c all) s has_s in
-      let two = map-Contains (session_of spans) (stays_of groups d all) e has_e in
+  sessions_meet rows c d t apart s e has_s has_e used_s used_e =
+      let one = map-Contains (session_of spans) (stays_of groups c rows) s has_s in
+      let two = map-Contains (session_of spans) (stays_of groups d rows) e has_e in
       let used = λ (z : Session). IsInUse z t in
-      let meet = stays_meet groups finish_by rows first.to.0 0 c d None None t
-      (rising first.to.0 0 0 rows (omega arith) times) one.0 two.0 one.2 two.2
+      let meet = stays_meet_in_tables rows c d t apart one.0 two.0 one.2 two.2
       (covers one.0 t (subst used (sym one.1) used_s))
       (covers two.0 t (subst used (sym two.1) used_e)) in
       let group_s : one.0.group ≡ s.group.0 = ap (λ (z : Session). z.group.0) one.1 in
@@ -100,28 +120,14 @@ module _ (groups : GroupsData) (spans : SpanData) where
         together = subst (λ (g : ℕ). AreTogether groups g c d) group_s meet.together;
       }
 
-  -- Two sessions that are in use in one cycle are together.
-  pub sessions_meet : (rows : List SwitchRow) (c d t : ℕ) → are_apart spans rows ≡ Ok tt
-      → (s e : Session) → Contains (sessions_of groups spans c rows) s
-      → Contains (sessions_of groups spans d rows) e → IsInUse s t → IsInUse e t
-      → SessionsMeet c d s e
-  sessions_meet [] c d t apart s e has_s has_e used_s used_e = Contains-nil has_s
-  sessions_meet (first ∷ rows) c d t apart s e has_s has_e used_s used_e =
-      meet_behind first rows c d t (in_time spans first.to.0 0 2 rows apart) s e has_s has_e used_s
-      used_e
-
   -- Of one connection they are one.
   pub sessions_alone : (rows : List SwitchRow) (c t : ℕ) → are_apart spans rows ≡ Ok tt
       → (i j : ℕ) (s e : Session) → slice_get (sessions_of groups spans c rows) i ≡ Some s
       → slice_get (sessions_of groups spans c rows) j ≡ Some e → IsInUse s t → IsInUse e t → i ≡ j
-  sessions_alone [] c t apart i j s e at_s at_e used_s used_e = absurd cc
-  sessions_alone (first ∷ rows) c t apart i j s e at_s at_e used_s used_e =
-      let all = first ∷ rows in
-      let one = mapped_at (session_of spans) (stays_of groups c all) i s at_s in
-      let two = mapped_at (session_of spans) (stays_of groups c all) j e at_e in
+  sessions_alone rows c t apart i j s e at_s at_e used_s used_e =
+      let one = mapped_at (session_of spans) (stays_of groups c rows) i s at_s in
+      let two = mapped_at (session_of spans) (stays_of groups c rows) j e at_e in
       let used = λ (z : Session). IsInUse z t in
-      let times = in_time spans first.to.0 0 2 rows apart in
-      stays_alone groups finish_by c rows None first.to.0 0 t
-      (rising first.to.0 0 0 rows (omega arith) times) i j one.0 two.0 one.1 two.1
+      stays_alone_in_tables rows c t apart i j one.0 two.0 one.1 two.1
       (covers one.0 t (subst used (sym one.2) used_s))
       (covers two.0 t (subst used (sym two.2) used_e))

@@ -3,7 +3,6 @@ use Rattle.std.proofs.Common.{◌≡◌, ◌<◌, ◌∙◌, ℕ, Bool, cond, Li
 use Rattle.std.proofs.Common.{Contains, Option, Some, slice_get, sym, ap, subst, inl}
 use Rattle.std.proofs.Common.{inr, arith}
 use Rattle.std.proofs.lemmas.Bool.{cases_Bool, and_right, both_ways, not_from_true}
-use Rattle.std.proofs.lemmas.Option.{get_or_from_slice_get, slice_get_within}
 use Rattle.std.specs.Prelude.{IfSome, not}
 use Rattle.aeth_base.proofs.Members.{Contains-nil}
 pub use Rattle.aeth_base.proofs.Members.{Contains-slice_get as at-Contains}

@@ -1,0 +1,193 @@
+-- A router by tables sends on what a router by headers does, where it holds what a fabric carries.
+use Rattle.std.proofs.Common.{◌≡◌, ◌<◌, ◌∙◌, ℕ, zero, suc, ◌+◌, ◌-◌, ◌%◌, map, true}
+use Rattle.std.proofs.Common.{Option, Some, None, refl, sym, ap, subst, arith}
+use Rattle.std.proofs.Math.Nat.{add-mod_right, mod-add-mod}
+use Rattle.std.proofs.lemmas.Option.{same_Some}
+use Rattle.std.specs.Prelude.{option_and_then, option_map}
+use Rattle.aeth_clocked.specs.declared.flit.Flit.{Flit}
+use Rattle.aeth_report.proofs.SessionMeetings.{mapped_at}
+use Rattle.aeth_router.proofs.PortLemmas.{Alone-from_sole}
+use Rattle.aeth_router.specs.Ports.{flits_for, hopped, sole}
+use Rattle.aeth_refinement.specs.Accepted.{IsAccepted}
+use Rattle.aeth_refinement.specs.Carried.{Comes, Exact, IsOnWire, flit_of}
+use Rattle.aeth_refinement.specs.Fabric.{AtRouter, Fabric, IsPlace, has_slot}
+use Rattle.aeth_refinement.specs.Tables.{AreEntries, GoesOnOnce, HasPassing, passed_on}
+use Rattle.aeth_refinement.proofs.Routers.{before, behind, from_router, goes_past, not_both}
+use Rattle.aeth_refinement.proofs.Routers.{place_before, router_all, router_only, starts_at}
+use Rattle.aeth_refinement.proofs.Routers.{to_router}
+use Rattle.aeth_refinement.proofs.Routes.{hops-on}
+use Rattle.aeth_refinement.proofs.Unique.{in-slot, some-injected, in_tables}
+
+-- Numbers that are one round a table behind one more are one round it.
+mod-one : (size a b : ℕ) → 0 < size → (a + 1) % size ≡ (b + 1) % size → a % size ≡ b % size
+mod-one size a b some same =
+    let turn : (c : ℕ) → ((c + 1) % size + (size - 1)) % size ≡ c % size =
+    λ c. mod-add-mod (c + 1) size (size - 1)
+    ∙ ap (λ (n : ℕ). n % size) (omega (arith, some)) ∙ add-mod_right c size in
+    sym (turn a) ∙ ap (λ (n : ℕ). (n + (size - 1)) % size) same ∙ turn b
+
+-- Two answers that are given together.
+same_answers : {X : Type 0} (one other : Option X)
+    → ((x : X) → one ≡ Some x → other ≡ Some x) → ((x : X) → other ≡ Some x → one ≡ Some x)
+    → one ≡ other
+same_answers (Some x) other to back = sym (to x refl)
+same_answers None None to back = refl
+same_answers None (Some y) to back = back y refl
+
+-- What is sent on is held, from the wire of the entry.
+sent-by : (held : ℕ → Option Flit) (m : ℕ) (found : Option Flit) (flit : Flit) → held m ≡ found
+    → option_map hopped found ≡ Some flit
+    → (f : Flit) × (held m ≡ Some f) × (hopped f ≡ flit)
+sent-by held m None flit holds is = absurd (cc is)
+sent-by held m (Some f) flit holds is = (f, holds, same_Some (hopped f) flit is)
+
+sent-from : (held : ℕ → Option Flit) (entry : Option ℕ) (flit : Flit)
+    → option_map hopped (option_and_then held entry) ≡ Some flit
+    → (m : ℕ) × (entry ≡ Some m) × (f : Flit) × (held m ≡ Some f) × (hopped f ≡ flit)
+sent-from held None flit is = absurd (cc is)
+sent-from held (Some m) flit is =
+    let sent = sent-by held m (held m) flit refl is in (m, refl, sent.0, sent.1, sent.2)
+
+module _ (fabric : Fabric) (ok : IsAccepted fabric) (some : 0 < fabric.size) where
+  -- A flit on a wire was injected in a slot of its session's own.
+  own-slot : (l t c i u : ℕ) → IsOnWire fabric l t c i u
+      → has_slot fabric c (u % fabric.size) ≡ true
+  own-slot l t c i u on =
+      (in-slot fabric ok c u on.known (some-injected fabric ok c u on.injected)).uses
+
+  -- And it comes to a wire in the slot that is as far behind.
+  slot-on : (l t c i u : ℕ) → IsOnWire fabric l t c i u
+      → (u % fabric.size + i) % fabric.size ≡ t % fabric.size
+  slot-on l t c i u on =
+      mod-add-mod u fabric.size i ∙ ap (λ n. n % fabric.size) on.time
+
+  -- The entry for a wire that a flit is on is its session's: the flit goes on where the entry says.
+  goes-there : (t m l d j u n : ℕ) → HasPassing fabric (suc t) m l
+      → IsOnWire fabric m t d j u → IsPlace fabric d (suc j) n → IsPlace fabric d (suc j) l
+  goes-there t m l d j u n entry on next =
+      let c = entry.number in
+      let i = entry.place in
+      let passing = entry.passing in
+      let slot : (passing.slot + i) % fabric.size ≡ t % fabric.size =
+      let one : passing.slot + suc i ≡ (passing.slot + i) + 1 = omega arith in
+      let two : suc t ≡ t + 1 = omega arith in
+      mod-one fabric.size (passing.slot + i) t some (rw (one, two) at passing.time) in
+      let same = (ok.apart c d passing.known on.known).wire i j m passing.slot (u % fabric.size)
+      (suc t) entry.in_tables
+      (in_tables fabric ok n (suc t) d (suc j) u (behind fabric ok m n t d j u on next))
+      passing.here on.place passing.uses (own-slot m t d j u on)
+      (slot ∙ sym (slot-on m t d j u on)) in
+      subst (λ n. IsPlace fabric n (suc j) l) same.0
+      (subst (λ k. IsPlace fabric c (suc k) l) same.1 passing.next)
+
+  module _ (t : ℕ) (held : ℕ → Option Flit) (exact : Exact fabric t held) (from : ℕ → Option ℕ)
+      (entries : AreEntries fabric (suc t) from) where
+    -- A flit that goes on has its entry.
+    has-entry : (m l r c i u : ℕ) → fabric.start l ≡ AtRouter r → IsPlace fabric c i m
+        → IsOnWire fabric l (suc t) c (suc i) u → from l ≡ Some m
+    has-entry m l r c i u start here on =
+        entries.all c i m l r start (in_tables fabric ok l (suc t) c (suc i) u on) (record {
+          known = on.known;
+          here = here;
+          next = on.place;
+          slot = u % fabric.size;
+          uses = own-slot l (suc t) c (suc i) u on;
+          time = slot-on l (suc t) c (suc i) u on;
+        })
+
+    -- A table sends on what is to go on there.
+    pub passed-all : (l r c i u : ℕ) → fabric.start l ≡ AtRouter r
+        → IsOnWire fabric l (suc t) c i u → passed_on from held l ≡ Some (flit_of fabric c i u)
+    passed-all l r c zero u start on =
+        absurd (not_both r (fabric.passage c).ni (fabric.start l) start
+        (starts_at fabric ok c l on.known on.place))
+    passed-all l r c (suc i) u start on =
+        let m = place_before (fabric.passage c).wires i l on.place in
+        let through = from_router fabric ok c i m.0 l r on.known m.1 on.place start in
+        let holds : held m.0 ≡ Some (flit_of fabric c i u) =
+        exact.all m.0 c i u (before fabric ok l m.0 t c i u on m.1) in
+        ap (λ (o : Option ℕ). option_map hopped (option_and_then held o))
+        (has-entry m.0 l r c i u start m.1 on)
+        ∙ ap (λ (o : Option Flit). option_map hopped o) holds
+        ∙ ap (λ (f : Flit). Some f) (hops-on fabric ok c i m.0 l u on.known through.0)
+
+    -- What it sends on is a flit of a session, one place on.
+    pub passed-only : (l r : ℕ) (flit : Flit) → fabric.start l ≡ AtRouter r
+        → passed_on from held l ≡ Some flit → Comes fabric l (suc t) flit
+    passed-only l r flit start is =
+        let sent = sent-from held (from l) flit is in
+        let m = sent.0 in
+        let entry = entries.only m l r start sent.1 in
+        let passing = entry.passing in
+        let comes = exact.only m sent.2 sent.3 in
+        let d = comes.number in
+        let j = comes.place in
+        let u = comes.cycle in
+        let on = comes.on in
+        let through = from_router fabric ok entry.number entry.place m l r passing.known
+        passing.here passing.next start in
+        let next = goes_past fabric ok d j m on.known on.place
+        (not_both r (fabric.passage (fabric.opposite d)).ni (fabric.end m) through.1) in
+        let there = goes-there t m l d j u next.0 entry on next.1 in
+        let hop = to_router fabric ok d j m l r on.known on.place there through.1 in
+        record {
+          number = d;
+          place = suc j;
+          cycle = u;
+          on = behind fabric ok m l t d j u on there;
+          is = sym sent.4 ∙ ap hopped comes.is ∙ hops-on fabric ok d j m l u on.known hop.0;
+        }
+
+    -- A flit that a router holds goes on by one wire, and by no other.
+    pub passed-once : (m r : ℕ) (flit : Flit) → fabric.end m ≡ AtRouter r → held m ≡ Some flit
+        → GoesOnOnce fabric from m r
+    passed-once m r flit end holds =
+        let comes = exact.only m flit holds in
+        let d = comes.number in
+        let j = comes.place in
+        let u = comes.cycle in
+        let on = comes.on in
+        let next = goes_past fabric ok d j m on.known on.place
+        (not_both r (fabric.passage (fabric.opposite d)).ni (fabric.end m) end) in
+        let hop = to_router fabric ok d j m next.0 r on.known on.place next.1 end in
+        record {
+          link = next.0;
+          starts = hop.1;
+          entry = has-entry m next.0 r d j u hop.1 on.place
+              (behind fabric ok m next.0 t d j u on next.1);
+          alone = λ l s start is.
+              let there = goes-there t m l d j u next.0 (entries.only m l s start is) on next.1 in
+              same_Some l next.0 (sym there ∙ next.1);
+        }
+
+    -- So a table sends on what headers do.
+    pub forwards : (l r : ℕ) → fabric.start l ≡ AtRouter r
+        → passed_on from held l ≡ sole (flits_for (fabric.port l) (map held (fabric.incoming r)))
+    forwards l r start =
+        same_answers (passed_on from held l)
+        (sole (flits_for (fabric.port l) (map held (fabric.incoming r))))
+        (λ flit is.
+        let comes = passed-only l r flit start is in
+        router_all fabric ok t held exact l r comes.number comes.place comes.cycle start comes.on
+        ∙ ap (λ (f : Flit). Some f) (sym comes.is))
+        (λ flit is.
+        let comes = router_only fabric ok t held exact l r flit start is in
+        passed-all l r comes.number comes.place comes.cycle start comes.on
+        ∙ ap (λ (f : Flit). Some f) (sym comes.is))
+
+-- Before the first cycle neither sends anything on.
+pub forwards-none : (fabric : Fabric) (held : ℕ → Option Flit) → ((l : ℕ) → held l ≡ None)
+    → (from : ℕ → Option ℕ) (l r : ℕ)
+    → passed_on from held l ≡ sole (flits_for (fabric.port l) (map held (fabric.incoming r)))
+forwards-none fabric held none from l r =
+    same_answers (passed_on from held l)
+    (sole (flits_for (fabric.port l) (map held (fabric.incoming r))))
+    (λ flit is.
+    let sent = sent-from held (from l) flit is in
+    let lost : None ≡ Some sent.2 = sym (none sent.0) ∙ sent.3 in
+    absurd (cc lost))
+    (λ flit is.
+    let alone = Alone-from_sole (fabric.port l) (map held (fabric.incoming r)) flit is in
+    let at = mapped_at held (fabric.incoming r) alone.place (Some alone.flit) alone.names.at in
+    let lost : None ≡ Some alone.flit = sym (none at.0) ∙ at.2 in
+    absurd (cc lost))

@@ -1,0 +1,11 @@
+use Rattle.std.proofs.Common.{◌≡◌, suc, ◌+◌, arith, subst}
+use Rattle.aeth_refinement.specs.Tables.{AreEntries}
+use Rattle.aeth_refinement.proofs.Tables.{passed-once}
+use Rattle.aeth_refinement.proofs.laws.tables_lose_nothing.Goals as goal
+
+-- A flit that is held goes on by the wire of its session's path.
+pub returns : goal.returns
+returns c fabric ok some t held exact from entries =
+    let next : t + 1 ≡ suc t = omega arith in
+    passed-once fabric ok some t held exact from
+    (subst (λ n. AreEntries fabric n from) next entries)
