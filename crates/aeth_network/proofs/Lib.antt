@@ -6,12 +6,16 @@ mod FewGoings
 mod FirstComponents
 mod FirstGoings
 mod FirstNetwork
+mod Firsts
 mod FitLemmas
 mod Followed
 mod Lanes
+mod NextBusy
 mod Passed
 pub mod Playing
+mod PullLemmas
 mod Replaced
+mod RestingLanes
 mod RowLemmas
 mod RunWires
 mod Stepping

@@ -81,7 +81,7 @@ first-count inputs accepted network is =
     omega (arith, some, size, parts)
 
 -- A network of accepted inputs has their number of cycles.
-cycles-of : (inputs : Inputs) (all : NetworkState) → IsNetworkOf inputs all
+pub cycles-of : (inputs : Inputs) (all : NetworkState) → IsNetworkOf inputs all
     → all.log.cycles ≡ inputs.cycles
 unfolding first_network
 cycles-of inputs all is =
@@ -112,7 +112,7 @@ still-of inputs old new is early steps =
       is = steps ∙ ap stepped is.is ∙ played-more old.time new.time (first_network inputs) time;
     }
 
-many-of : (inputs : Inputs) (old : NetworkState) (cycles : ℕ) → IsNetworkOf inputs old
+pub many-of : (inputs : Inputs) (old : NetworkState) (cycles : ℕ) → IsNetworkOf inputs old
     → old.time + cycles ≤ inputs.cycles → IsNetworkOf inputs (played cycles old)
 unfolding played
 many-of inputs old zero is few = is

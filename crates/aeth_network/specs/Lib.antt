@@ -5,6 +5,7 @@ pub mod Cursors
 pub mod First
 pub mod Fits
 pub mod Networks
+pub mod Next
 pub mod Records
 pub mod Runs
 pub mod Telling

@@ -1,6 +1,6 @@
 -- Networks of accepted inputs, and what is seen of them.
 --
---   IsNetworkOf      the network of accepted inputs, behind as many cycles as are done
+--   IsNetworkOf, HasInputs      the network of accepted inputs, behind as many cycles as are done
 --   AreWiresOf      wires that carry what the private servers of a run send
 -- This project's own.
 use Rattle.std.specs.Prelude.{◌≡◌, ◌≤◌, ◌<◌, ◌+◌, ℕ, List, Option, None, Some, length}
@@ -23,6 +23,11 @@ pub record IsNetworkOf (inputs : Inputs) (all : NetworkState) : Type 0 where
   pub accepted : AreAccepted inputs
   pub within : all.time ≤ inputs.cycles
   pub is : all ≡ played all.time (first_network inputs)
+
+-- A network is that of accepted inputs.
+pub record HasInputs (all : NetworkState) : Type 0 where
+  pub inputs : Inputs
+  pub of : IsNetworkOf inputs all
 
 -- Once so many cycles are done, the first wire of each link has the one flit that the link carried in
 -- the last cycle, by the private servers of the run, or nothing. Each further wire has what the link

@@ -1,11 +1,15 @@
 // What a run gives a network, and what of it each cycle brings.
 
-ghost use Rattle.std.specs.Prelude.{◌≡◌, ◌+◌, IfOk};
+ghost use Rattle.std.specs.Prelude.{◌≡◌, ◌≤◌, ◌⊎◌, ◌+◌, IfOk};
+ghost use Rattle.aeth_components.specs.First.{IsFirst};
 ghost use Rattle.aeth_events.specs.Events.{events_in};
 ghost use Rattle.aeth_running.specs.Network.{goings_in, offers_in, takes_in};
 ghost use Rattle.aeth_stimuli.specs.Stimuli.{stimuli_of};
+ghost use Rattle.aeth_network.specs.Behind.{passed};
 ghost use Rattle.aeth_network.specs.Cursors.{AreCursors, AreInOrder, stimuli_with};
+ghost use Rattle.aeth_network.specs.Next.{HasOffer, HasWindow};
 
+use crate::next::{next_offer, next_window};
 use crate::places::behind;
 use crate::rows::{Offered, Taking, offers_of, takes_of};
 use aeth_accepted::RunInputs;
@@ -53,6 +57,19 @@ impl Given {
             offers: offers_of(alloc, inputs.words().rows(), cycles)?,
             takes: takes_of(alloc, inputs.receivers().rows(), cycles)?,
         })
+    }
+
+    // The first cycle from one on, and below a limit, in which a word is offered or a switch does
+    // something. The words from this place on are those that are not before it.
+    pub(crate) fn next(&self, offer: usize, time: u32, to: u32) -> u32
+        requires order { AreInOrder (stimuli_with self.now) }
+        requires offer { offer ≡ passed (λ one. one.cycle) time (stimuli_with self.now).offers }
+        requires to { time ≤ to }
+        ensures { IsFirst (λ t. HasOffer (stimuli_with self.now).offers t
+            ⊎ HasWindow (stimuli_with self.now).schedule.windows t) time to result }
+    {
+        let next = next_offer(&self.offers, offer, time, to);
+        next_window(self.schedule.windows(), time, next)
     }
 
     // What a cycle brings, from these places on.

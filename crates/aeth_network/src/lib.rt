@@ -5,6 +5,7 @@ mod given;
 mod giving;
 mod logging;
 mod network;
+mod next;
 mod places;
 mod rows;
 mod state;

@@ -6,6 +6,7 @@ ghost use Rattle.aeth_components.specs.Turns.{flits_on};
 ghost use Rattle.aeth_accepted.specs.Inputs.{Inputs, run_of};
 ghost use Rattle.aeth_stimuli.specs.Stimuli.{stimuli_of};
 ghost use Rattle.aeth_running.specs.Network.{first_network, played, stepped};
+ghost use Rattle.aeth_running.specs.Quiet.{IsNextBusy};
 ghost use Rattle.aeth_running.specs.Told.{told};
 ghost use Rattle.aeth_network.specs.Cursors.{stimuli_with};
 ghost use Rattle.aeth_network.specs.First.{IsFirstState};
@@ -13,6 +14,7 @@ ghost use Rattle.aeth_network.specs.Runs.{AreWiresOf, IsNetworkOf};
 
 use crate::given::{Cursors, Given};
 use crate::logging::first_log;
+use crate::next::next_taking;
 use crate::state::{State, run};
 use crate::telling::tell;
 use aeth_accepted::RunInputs;
@@ -40,6 +42,7 @@ impl Model for RoutedNetwork {
     ghost use Rattle.aeth_running.specs.Network.{NetworkState};
     ghost use Rattle.aeth_network.specs.Cursors.{AreCursors, stimuli_with};
     ghost use Rattle.aeth_network.specs.Networks.{IsNetwork, network_of};
+    ghost use Rattle.aeth_network.specs.Runs.{HasInputs};
 
     ghost Value = { NetworkState };
 
@@ -48,7 +51,8 @@ impl Model for RoutedNetwork {
 
     ghost invariant = { λ all. IsNetwork (vec_capacity all.state.replaced)
         (network_of (stimuli_with all.given) all.state all.log all.time)
-        × AreCursors all.cursors all.time (stimuli_with all.given) };
+        × AreCursors all.cursors all.time (stimuli_with all.given)
+        × HasInputs (network_of (stimuli_with all.given) all.state all.log all.time) };
 }
 
 impl RoutedNetwork {
@@ -142,6 +146,26 @@ impl RoutedNetwork {
     {
         let mut steps = Steps::<L>::open(blank);
         self.cycle_counted(order, &mut steps);
+    }
+
+    /// The next cycle in which something happens: a flit is on a wire or is sent, a word is offered or
+    /// taken, or a switch does something. All cycles before it leave the network as it is. Where there
+    /// is none it is the number of cycles of the run.
+    ///
+    /// It costs no time in the cycles that are passed over.
+    pub fn next_busy(&self) -> u32
+        ensures { IsNextBusy self.now result }
+    {
+        aeth_running::laws::quiet_cycles_are_still();
+        let time = self.time();
+        if self.state.components.are_wires_empty() {
+            let next = self.given.next(self.cursors.offer, time, self.cycles());
+            let lanes = self.state.components.lanes();
+            let next = next_taking(lanes, &self.given.takes, self.cursors.take, time, next);
+            self.state.components.next_sending(time, next)
+        } else {
+            time
+        }
     }
 
     /// The log of the cycles that are done. Of a network of accepted inputs that has done all their

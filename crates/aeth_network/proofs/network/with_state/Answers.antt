@@ -7,6 +7,7 @@ use Rattle.aeth_network.specs.Cursors.{stimuli_with}
 use Rattle.aeth_network.specs.Networks.{IsNetwork, network_of}
 use Rattle.aeth_network.proofs.FirstGoings.{fresh-goings}
 use Rattle.aeth_network.proofs.FirstNetwork.{AreCursors-first, IsNetwork-first, first-from}
+use Rattle.aeth_network.proofs.Playing.{first-of}
 use Rattle.aeth_network.proofs.network.with_state.Goals as goal
 
 -- The words of sessions are there.
@@ -45,6 +46,7 @@ invariant_of-result c =
       subst (IsNetwork capacity) (sym (same c)) (IsNetwork-first inputs accepted
           (c.stimuli_are_stimuli.ensures inputs accepted) capacity c.requires.state.capacity),
       AreCursors-first _ _ refl refl refl refl,
+      record { inputs = inputs; of = first-of inputs accepted _ (same c) },
     )
 
 -- It is the first.

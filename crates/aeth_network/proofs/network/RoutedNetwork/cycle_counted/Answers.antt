@@ -3,6 +3,7 @@ use Rattle.aeth_components.specs.Components.{ComponentsState}
 use Rattle.aeth_components.specs.Turns.{flits_on}
 use Rattle.aeth_running.specs.Network.{NetworkState, stepped}
 use Rattle.aeth_network.specs.Cursors.{stimuli_with}
+use Rattle.aeth_network.specs.Networks.{network_of}
 use Rattle.aeth_network.proofs.Cycling.{can-bring, events-doable, in-order, network-behind}
 use Rattle.aeth_network.proofs.Cycling.{stepped-behind}
 use Rattle.aeth_network.proofs.Playing.{still-of}
@@ -51,11 +52,24 @@ run-requires-clause-events g c =
 pub invariant_of-self : goal.invariant_of-self
 invariant_of-self g c =
     let inside = c.self.inside in
+    let has = c.self.invariant.2 in
+    let early = c.requires.time in
+    let time = ap (λ (all : NetworkState). all.time) c.self.view_is in
+    let cycles = ap (λ (all : NetworkState). all.log.cycles) c.self.view_is in
     let rows = c.rows-rows.ensures in (
       network-behind (stimuli_with inside.given) inside.state inside.log inside.time c.self.invariant.0
           c.rows-rows.result rows.goings rows.offers rows.takes c.bring.new.self c.bring.ensures
           rows.events c.run.new.components c.run.ensures.cycle,
       rows.behind,
+      record {
+        inputs = has.inputs;
+        of = still-of has.inputs
+            (network_of (stimuli_with inside.given) inside.state inside.log inside.time) _ has.of
+            (omega (arith, early, time, cycles))
+            (stepped-behind (stimuli_with inside.given) inside.state inside.log inside.time
+            c.self.invariant.0 c.rows-rows.result rows.goings rows.offers rows.takes c.bring.new.self
+            c.bring.ensures rows.events c.run.new.components c.run.ensures.cycle);
+      },
     )
 
 -- The network is behind one more cycle.

@@ -1,0 +1,301 @@
+-- The next cycle in which something happens, out of what is given and how the network stands.
+use Rattle.std.proofs.Common.{◌≡◌, ◌≤◌, ◌<◌, ◌⊎◌, ◌↔◌, ◌+◌, ◌-◌, ◌*◌, ◌∙◌, ℕ, zero, suc, All, List, []}
+use Rattle.std.proofs.Common.{None, Some, ap, arith, drop, false, fold, inl, inr, length}
+use Rattle.std.proofs.Common.{refl, slice_get, subst, sym, true}
+use Rattle.std.specs.Prelude.{replicate}
+use Rattle.std.proofs.lemmas.Bool.{cases_Bool, cases_lt}
+use Rattle.std.proofs.lemmas.List.{get_or-replicate, length-replicate}
+use Rattle.std.proofs.lemmas.List.Elements.{All-weaker}
+use Rattle.std.proofs.lemmas.Option.{get_or_from_slice_get, slice_get_within}
+use Rattle.aeth_base.proofs.Members.{All-slice_get}
+use Rattle.aeth_clocked.specs.Wires.{flit_on}
+use Rattle.aeth_router.specs.declared.part.Part.{Part}
+use Rattle.aeth_tables.proofs.ListLaws.{all_from_places}
+use Rattle.aeth_components.specs.First.{HasSender, IsFirst}
+use Rattle.aeth_components.specs.Lanes.{is_open}
+use Rattle.aeth_components.specs.Phases.{asked_of}
+use Rattle.aeth_components.specs.Turns.{sends_own}
+use Rattle.aeth_components.specs.declared.lane.Lane.{Lane}
+use Rattle.aeth_accepted.specs.Inputs.{Inputs}
+use Rattle.aeth_schedule.specs.Windows.{IsWithin}
+use Rattle.aeth_schedule.specs.declared.going.Going.{Going}
+use Rattle.aeth_schedule.specs.declared.windows.Window.{Window}
+use Rattle.aeth_stimuli.specs.Loaded.{no_lane}
+use Rattle.aeth_stimuli.specs.Stimuli.{Offer, Stimuli, Take}
+use Rattle.aeth_running.proofs.Played.{played-stimuli as first-stimuli}
+use Rattle.aeth_running.proofs.StillGoings.{no-goings}
+use Rattle.aeth_running.proofs.StillRows.{no-switches}
+use Rattle.aeth_running.specs.Network.{NetworkState, accepted_with, first_network, gone_with}
+use Rattle.aeth_running.specs.Network.{goings_in, offers_in, played, stepped, untils_in}
+use Rattle.aeth_running.specs.Quiet.{AreStill, IsNextBusy, IsQuiet, ready_lanes}
+use Rattle.aeth_running.specs.Still.{IsStill}
+use Rattle.aeth_network.specs.Behind.{passed}
+use Rattle.aeth_network.specs.Networks.{IsNetwork}
+use Rattle.aeth_network.specs.Next.{HasAsker, HasOffer, HasWindow}
+use Rattle.aeth_network.specs.Runs.{IsNetworkOf}
+use Rattle.aeth_network.proofs.Firsts.{not-empty}
+use Rattle.aeth_network.proofs.Playing.{cycles-of}
+use Rattle.aeth_network.proofs.RestingLanes.{asks-first, asks-seen, begun, gone-landed, seen-asks}
+use Rattle.aeth_network.proofs.Stepping.{ways-are}
+use Rattle.aeth_network.proofs.FitLemmas.{HasWay}
+
+-- So many cycles behind so many.
+pub played-sum : (j t : ℕ) (all : NetworkState) → played j (played t all) ≡ played (t + j) all
+unfolding played
+played-sum zero t all = let same : t ≡ t + zero = omega arith in ap (λ n. played n all) same
+played-sum (suc j) t all =
+    let next : suc (t + j) ≡ t + suc j = omega arith in
+    ap stepped (played-sum j t all) ∙ ap (λ n. played n all) next
+
+-- A component that isn't seen to send sends nothing.
+mute-unless : (cycle : ℕ) (part : Part) → (sends_own cycle part ≡ true → ⊥)
+    → sends_own cycle part ≡ false
+mute-unless cycle part never = elim (cases_Bool (sends_own cycle part)) [
+  | inl sends ↦ absurd (never sends)
+  | inr mute ↦ mute
+]
+
+-- Of no channel of the first network has anything landed.
+first-landed : (inputs : Inputs) (number : ℕ) (lane : Lane)
+    → slice_get (first_network inputs).components.lanes number ≡ Some lane → lane.landed ≡ 0
+unfolding first_network
+first-landed inputs number lane at =
+    let count = 2 * length inputs.app.connections in
+    let within = slice_get_within (replicate count no_lane) number lane at in
+    let size = length-replicate count no_lane in
+    let same : lane ≡ no_lane =
+    sym (get_or_from_slice_get (replicate count no_lane) number lane no_lane at)
+    ∙ get_or-replicate count number no_lane no_lane (omega arith) in
+    ap (λ (one : Lane). one.landed) same
+
+-- The network of inputs before their first cycle.
+begins : (inputs : Inputs) (all : NetworkState) → IsNetworkOf inputs all → all.time ≡ 0
+    → all ≡ first_network inputs
+unfolding played
+begins inputs all of start = of.is ∙ ap (λ n. played n (first_network inputs)) start
+
+-- No cycle leaves a network as it is.
+played-zero : (all : NetworkState) → played 0 all ≡ all
+unfolding played
+played-zero all = refl
+
+module _ (inputs : Inputs) (quiet : (t k : ℕ) → t + k < inputs.cycles
+    → ((l : ℕ) → flit_on (played t (first_network inputs)).components.wires l ≡ None)
+    → ((j : ℕ) → j < k → IsStill (played (t + j) (first_network inputs)))
+    → IsStill (played (t + k) (first_network inputs))
+    ↔ IsQuiet (played t (first_network inputs)) k) where
+  -- A cycle leaves a network where it is quiet.
+  quiet-at : (t k : ℕ) (one : NetworkState) → one ≡ played t (first_network inputs)
+      → t + k < inputs.cycles → ((l : ℕ) → flit_on one.components.wires l ≡ None)
+      → AreStill k one → IsStill (played k one) ↔ IsQuiet one k
+  quiet-at t k one is early =
+      let first = first_network inputs in
+      subst (λ (net : NetworkState). ((l : ℕ) → flit_on net.components.wires l ≡ None)
+      → AreStill k net → IsStill (played k net) ↔ IsQuiet net k) (sym is)
+      (λ empty still.
+      subst (λ (net : NetworkState). IsStill net ↔ IsQuiet (played t first) k)
+      (sym (played-sum k t first))
+      (quiet t k early empty (λ j less. subst IsStill (played-sum j t first) (still j less))))
+
+  module _ (all : NetworkState) (of : IsNetworkOf inputs all) (capacity : ℕ)
+      (is : IsNetwork capacity all) (empty : (l : ℕ) → flit_on all.components.wires l ≡ None) where
+    abbrev key : Take → ℕ
+    key one = one.cycle
+
+    abbrev asks-at : ℕ → Type 0
+    asks-at t = HasAsker all.components.lanes all.stimuli.takes
+        (passed key all.time all.stimuli.takes) t
+
+    iff : (k : ℕ) → all.time + k < inputs.cycles → AreStill k all
+        → IsStill (played k all) ↔ IsQuiet all k
+    iff k early still = quiet-at all.time k all of.is early empty still
+
+    stimuli-are : all.stimuli ≡ (played all.time (first_network inputs)).stimuli
+    stimuli-are = ap (λ (one : NetworkState). one.stimuli) of.is
+
+    -- Where no word is offered and no switch does anything, no session goes but in cycle 0.
+    ungone : all.time < inputs.cycles
+        → All (λ window. IsWithin window all.time → ⊥) all.stimuli.schedule.windows
+        → 0 < all.time → goings_in all.stimuli all.time ≡ []
+    ungone early none late =
+        let same = stimuli-are ∙ first-stimuli inputs all.time in
+        ap (λ (s : Stimuli). goings_in s all.time) same
+        ∙ no-goings inputs all.time (no-switches inputs all.time early
+        (subst (λ (s : Stimuli). All (λ window. IsWithin window all.time → ⊥) s.schedule.windows) same
+        none)) late
+
+    begun-later : goings_in all.stimuli all.time ≡ [] → offers_in all.stimuli all.time ≡ []
+        → begun all is.stimuli.take_order ≡ all.components.lanes
+    begun-later none unoffered =
+        let untils = untils_in all.stimuli all.time all.untils in
+        λ i. fold (accepted_with all.time untils) (fold gone_with all.components.lanes (none i))
+        (unoffered i)
+
+    begun-landed : all.time ≡ 0 → offers_in all.stimuli all.time ≡ []
+        → (number : ℕ) (lane : Lane)
+        → slice_get (begun all is.stimuli.take_order) number ≡ Some lane → lane.landed ≡ 0
+    begun-landed start unoffered number lane at =
+        let untils = untils_in all.stimuli all.time all.untils in
+        let goings = goings_in all.stimuli all.time in
+        let gone = fold gone_with all.components.lanes goings in
+        let words = length all.components.words in
+        let parts = length all.components.parts in
+        let W = HasWay words parts
+        (drop (passed (λ one. one.cycle) all.time all.stimuli.offers) all.stimuli.offers) in
+        gone-landed goings all.components.lanes
+        (All-weaker W (λ (one : Going). one.lane.landed ≡ 0) (λ one way.
+        let none = way.none in
+        let landed = way.sound.landed in
+        let handed = way.sound.handed in
+        omega arith) goings (ways-are capacity all is))
+        (λ k one there. first-landed inputs k one
+        (ap (λ (net : NetworkState). slice_get net.components.lanes k) (sym (begins inputs all of start))
+        ∙ there)) number lane
+        (ap (λ (offers : List Offer). slice_get (fold (accepted_with all.time untils) gone offers) number)
+        (sym unoffered) ∙ at)
+
+    -- A channel asks for nothing in a cycle where it isn't seen to.
+    unasked-of : (k : ℕ) → all.time < inputs.cycles
+        → All (λ window. IsWithin window all.time → ⊥) all.stimuli.schedule.windows
+        → offers_in all.stimuli all.time ≡ [] → (asks-at (all.time + k) → ⊥)
+        → (number : ℕ) (lane : Lane) → slice_get (ready_lanes k all) number ≡ Some lane
+        → is_open lane (all.time + k) ≡ true → asked_of lane ≡ 0
+    unasked-of k early none unoffered unseen = elim (cases_lt 0 all.time) [
+      | inl late ↦ asks-seen all is.stimuli.take_order k
+          (begun-later (ungone early none late) unoffered) unseen
+      | inr begin ↦ λ number lane at opened.
+          asks-first all is.stimuli.take_order (begun-landed (omega arith) unoffered) k number lane at
+    ]
+
+    -- And where it is seen to, it asks.
+    asks-of : (k : ℕ) → all.time < inputs.cycles
+        → All (λ window. IsWithin window all.time → ⊥) all.stimuli.schedule.windows
+        → offers_in all.stimuli all.time ≡ []
+        → ((number : ℕ) (lane : Lane) → slice_get (ready_lanes k all) number ≡ Some lane
+        → is_open lane (all.time + k) ≡ true → asked_of lane ≡ 0)
+        → asks-at (all.time + k) → ⊥
+    asks-of k early none unoffered unasked has = elim (cases_lt 0 all.time) [
+      | inl late ↦ seen-asks all is.stimuli.take_order k
+          (begun-later (ungone early none late) unoffered) unasked has
+      | inr begin ↦
+          let start : all.time ≡ 0 = omega arith in
+          let landed = first-landed inputs has.number has.lane
+          (ap (λ (net : NetworkState). slice_get net.components.lanes has.number)
+          (sym (begins inputs all of start)) ∙ has.at) in
+          let waits = has.asks.waits in
+          absurd (omega arith)
+    ]
+
+    module _ (b c d : ℕ) (row : IsFirst (λ t. HasOffer all.stimuli.offers t
+        ⊎ HasWindow all.stimuli.schedule.windows t) all.time all.log.cycles b)
+        (ask : IsFirst (λ t. asks-at t) all.time b c)
+        (send : IsFirst (HasSender all.components.parts) all.time c d) where
+      ordered : (d ≤ c) × (c ≤ b) × (b ≤ all.log.cycles)
+      ordered = (send.most, ask.most, row.most)
+
+      no-offer : (t : ℕ) → all.time ≤ t → t < b → offers_in all.stimuli t ≡ []
+      no-offer t since less =
+          not-empty (offers_in all.stimuli t) (λ has. row.before t since less (inl has))
+
+      no-window : (t : ℕ) → all.time ≤ t → t < b
+          → All (λ window. IsWithin window t → ⊥) all.stimuli.schedule.windows
+      no-window t since less =
+          all_from_places (λ (one : Window). IsWithin one t → ⊥) all.stimuli.schedule.windows
+          (λ number one at within. row.before t since less
+          (inr (record { number = number; window = one; at = at; within = within })))
+
+      -- Before the first of these cycles each is quiet.
+      quiet-before : (k : ℕ) → all.time + k < d → IsQuiet all k
+      quiet-before k less =
+          let (one, two, three) = ordered in
+          let cycles = cycles-of inputs all of in
+          record {
+            unoffered = no-offer (all.time + k) (omega arith) (omega arith);
+            unswitched = no-window (all.time + k) (omega arith) (omega arith);
+            mute = λ number part at. mute-unless (all.time + k) part (λ sends.
+                send.before (all.time + k) (omega arith) less
+                (record { number = number; part = part; at = at; sends = sends }));
+            unasked = unasked-of k (omega arith)
+                (no-window all.time (omega arith) (omega arith))
+                (no-offer all.time (omega arith) (omega arith))
+                (ask.before (all.time + k) (omega arith) (omega arith));
+          }
+
+      still-before : (k : ℕ) → all.time + k ≤ d → AreStill k all
+      still-before zero within j less = absurd (omega arith)
+      still-before (suc k) within j less =
+          let (one, two, three) = ordered in
+          let cycles = cycles-of inputs all of in
+          let before = still-before k (omega arith) in
+          elim (cases_lt j k) [
+            | inl earlier ↦ before j earlier
+            | inr last ↦
+                let same : k ≡ j = omega arith in
+                subst (λ n. IsStill (played n all)) same
+                ((iff k (omega arith) before).1 (quiet-before k (omega arith)))
+          ]
+
+      -- And it is not.
+      busy-then : d < all.log.cycles → IsQuiet all (d - all.time) → ⊥
+      busy-then early quiet =
+          let (one, two, three) = ordered in
+          let since = send.least in
+          let cycles = cycles-of inputs all of in
+          let k = d - all.time in
+          let now : all.time + k ≡ d = omega arith in
+          elim (cases_lt d c) [
+            | inl sooner ↦
+                let has = send.holds sooner in
+                let mute = quiet.mute has.number has.part has.at in
+                let sends = ap (λ t. sends_own t has.part) now ∙ has.sends in
+                cc (sym sends ∙ mute)
+            | inr same_c ↦ elim (cases_lt c b) [
+              | inl asks ↦
+                  let same : c ≡ all.time + k = omega arith in
+                  asks-of k (omega arith)
+                  (no-window all.time (omega arith) (omega arith))
+                  (no-offer all.time (omega arith) (omega arith))
+                  quiet.unasked (subst asks-at same (ask.holds asks))
+              | inr same_b ↦
+                  let same : b ≡ all.time + k = omega arith in
+                  elim (row.holds (omega arith)) [
+                    | inl offered ↦ offered (ap (offers_in all.stimuli) same ∙ quiet.unoffered)
+                    | inr has ↦
+                        All-slice_get (λ (one : Window). IsWithin one (all.time + k) → ⊥)
+                        all.stimuli.schedule.windows has.number has.window quiet.unswitched has.at
+                        (subst (IsWithin has.window) same has.within)
+                  ]
+            ]
+          ]
+
+      -- So that is the next busy cycle.
+      pub next-busy-is : IsNextBusy all d
+      next-busy-is =
+          let (one, two, three) = ordered in
+          let since = send.least in
+          let cycles = cycles-of inputs all of in
+          let k = d - all.time in
+          let still = still-before k (omega arith) in
+          record {
+            from = since;
+            to = omega arith;
+            still = still;
+            busy = λ early is_still.
+                busy-then early ((iff k (omega arith) still).0 is_still);
+          }
+
+  -- Where a wire has a flit it is the cycle that comes.
+  module _ (all : NetworkState) (of : IsNetworkOf inputs all)
+      (some : ((l : ℕ) → flit_on all.components.wires l ≡ None) → ⊥) where
+    pub now-busy : IsNextBusy all all.time
+    now-busy =
+        let cycles = cycles-of inputs all of in
+        let within = of.within in
+        let none : all.time - all.time ≡ 0 = omega arith in
+        record {
+          from = omega arith;
+          to = omega arith;
+          still = λ k less. absurd (omega arith);
+          busy = λ early still. some
+              (subst IsStill (ap (λ n. played n all) none ∙ played-zero all) still).empty;
+        }

@@ -1,0 +1,44 @@
+-- The cycles in which a network does something, by what it is given and by how its channels stand.
+--
+--   HasOffer, HasWindow      a word is offered in a cycle, and a switch does something
+--   pull_behind      how many words a receiver takes in a cycle at most, behind rows
+--   AsksIn, HasAsker      a channel has a word that its receiver takes
+-- This project's own.
+use Rattle.std.specs.Prelude.{◌≡◌, ◌<◌, ◌+◌, ◌==◌, ℕ, [], List, Some, filter, fold, if◌then◌else◌}
+use Rattle.std.specs.Prelude.{slice_get, slice_range, true}
+use Rattle.aeth_components.specs.Lanes.{is_open}
+use Rattle.aeth_components.specs.declared.lane.Lane.{Lane}
+use Rattle.aeth_schedule.specs.Windows.{IsWithin}
+use Rattle.aeth_schedule.specs.declared.windows.Window.{Window}
+use Rattle.aeth_stimuli.specs.Stimuli.{Offer, Take}
+use Rattle.aeth_network.specs.Behind.{passed}
+
+-- A word is offered in a cycle.
+abbrev pub HasOffer : List Offer → ℕ → Type 0
+HasOffer offers t = filter (λ one. one.cycle == t) offers ≡ [] → ⊥
+
+-- A switch does something in it.
+pub record HasWindow (windows : List Window) (t : ℕ) : Type 0 where
+  pub number : ℕ
+  pub window : Window
+  pub at : slice_get windows number ≡ Some window
+  pub within : IsWithin window t
+
+-- How many words the receiver of a channel takes in a cycle at most, who took so many before these rows.
+abbrev pub pull_behind : ℕ → ℕ → List Take → ℕ
+pull_behind number pull rows =
+    fold (λ now row. if row.number == number then row.pull else now) pull rows
+
+-- The channel of a number has a word in a cycle that its receiver takes, by the rows from a place on.
+pub record AsksIn (lane : Lane) (number : ℕ) (takes : List Take) (place t : ℕ) : Type 0 where
+  pub waits : lane.taken < lane.landed
+  pub opened : is_open lane t ≡ true
+  pub pulls : 0 < pull_behind number lane.pull
+      (slice_range takes place (passed (λ one. one.cycle) (t + 1) takes))
+
+-- Some channel has.
+pub record HasAsker (lanes : List Lane) (takes : List Take) (place t : ℕ) : Type 0 where
+  pub number : ℕ
+  pub lane : Lane
+  pub at : slice_get lanes number ≡ Some lane
+  pub asks : AsksIn lane number takes place t

@@ -1,0 +1,151 @@
+// When a network next does something, by what it is given and by how its channels stand.
+
+ghost use Rattle.std.specs.Prelude.{◌≡◌, ◌<◌, ◌≤◌, ◌+◌, ◌^◌, ◌↔◌, IsTrue, min, length};
+ghost use Rattle.std.specs.List.Sorted.{IsNonDecreasingBy};
+ghost use Rattle.aeth_components.specs.First.{IsFirst};
+ghost use Rattle.aeth_schedule.specs.Windows.{IsWithin};
+ghost use Rattle.aeth_network.specs.Behind.{passed};
+ghost use Rattle.aeth_network.specs.Next.{AsksIn, HasAsker, HasOffer, HasWindow};
+
+use crate::rows::{Offered, Taking};
+use aeth_components::Lane;
+use aeth_schedule::Window;
+
+// The cycle of the first word that is offered from a place on, which lies behind the words before a
+// cycle, where that is below a limit; else the limit.
+pub(crate) fn next_offer(offers: &[Offered], place: usize, time: u32, to: u32) -> u32
+    requires order { IsNonDecreasingBy (λ one. one.cycle) offers.now }
+    requires place { place ≡ passed (λ one. one.cycle) time offers.now }
+    requires to { time ≤ to }
+    ensures { IsFirst (HasOffer offers.now) time to result }
+{
+    if place < offers.len() {
+        let row = offers[place];
+        if row.cycle < to {
+            return row.cycle;
+        }
+    }
+    to
+}
+
+// The first cycle from one on, and below a limit, in which a switch does something.
+pub(crate) fn next_window(windows: &[Window], time: u32, to: u32) -> u32
+    requires { time ≤ to }
+    ensures { IsFirst (HasWindow windows.now) time to result }
+{
+    let mut next = to;
+    for number in 0..windows.len() {
+        let window = &windows[number];
+        next = next_within(window, time, next);
+    }
+    next
+}
+
+// The first of a window.
+fn next_within(window: &Window, time: u32, to: u32) -> u32
+    requires { time ≤ to }
+    ensures { IsFirst (IsWithin window.now) time to result }
+{
+    let next = sooner(window.until, time, to);
+    let next = sooner(window.stop, time, next);
+    let writes = window.fin.max(u64::from(time));
+    if writes <= window.go {
+        sooner(writes, time, next)
+    } else {
+        next
+    }
+}
+
+// A cycle, where it is not before another one and below a limit; else the limit.
+fn sooner(cycle: u64, time: u32, to: u32) -> u32
+    requires { time ≤ to }
+    ensures { IsFirst (λ t. cycle ≡ t) time to result }
+{
+    if u64::from(time) <= cycle && cycle < u64::from(to) {
+        cycle as u32
+    } else {
+        to
+    }
+}
+
+// The first cycle from one on, and below a limit, in which a receiver takes a word, where nothing else
+// happens up to then. The rows from a place on are those that are not before the cycle.
+pub(crate) fn next_taking(lanes: &[Lane], takes: &[Taking], place: usize, time: u32, to: u32) -> u32
+    requires order { IsNonDecreasingBy (λ one. one.cycle) takes.now }
+    requires place { place ≡ passed (λ one. one.cycle) time takes.now }
+    requires few { length lanes.now < 2 ^ 32 }
+    requires to { time ≤ to }
+    ensures { IsFirst (HasAsker lanes.now takes.now place) time to result }
+{
+    let mut next = to;
+    for number in 0..lanes.len() {
+        let lane = &lanes[number];
+        next = next_asking(lane, number as u32, takes, place, time, next);
+    }
+    next
+}
+
+// The first of the channel of a number.
+fn next_asking(lane: &Lane, number: u32, takes: &[Taking], place: usize, time: u32, to: u32) -> u32
+    requires order { IsNonDecreasingBy (λ one. one.cycle) takes.now }
+    requires place { place ≡ passed (λ one. one.cycle) time takes.now }
+    requires to { time ≤ to }
+    ensures { IsFirst (AsksIn lane.now number takes.now place) time to result }
+{
+    if lane.taken < lane.landed {
+        next_pull(lane, number, takes, place, time, to)
+    } else {
+        to
+    }
+}
+
+// The first where it has words that wait. From row to row it is known how many its receiver takes, and
+// since when.
+fn next_pull(lane: &Lane, number: u32, takes: &[Taking], place: usize, time: u32, to: u32) -> u32
+    requires waits { lane.now.taken < lane.now.landed }
+    requires order { IsNonDecreasingBy (λ one. one.cycle) takes.now }
+    requires place { place ≡ passed (λ one. one.cycle) time takes.now }
+    requires to { time ≤ to }
+    ensures { IsFirst (AsksIn lane.now number takes.now place) time to result }
+{
+    let end = to.min(lane.fin);
+    let mut pull = lane.pull;
+    let mut since = time.max(lane.go);
+    let mut at = place;
+    'rows: while is_before(takes, at, limit_of(pull, since, end)) {
+        let row = takes[at];
+        if row.number == number {
+            pull = row.pull;
+            since = since.max(row.cycle);
+        }
+        at += 1;
+    }
+    if pull > 0 && since < end { since } else { to }
+}
+
+// Up to which cycle rows count, where a receiver takes so many words since a cycle: where it takes some,
+// those of that cycle and before, and else all below the end.
+fn limit_of(pull: u32, since: u32, end: u32) -> u32
+    ensures none { pull ≡ 0 → result ≡ end }
+    ensures some { 0 < pull → result ≡ min end (since + 1) }
+{
+    if pull == 0 {
+        end
+    } else {
+        end.min(since.saturating_add(1))
+    }
+}
+
+// Whether the row at a place is there and of a cycle below a limit.
+fn is_before(takes: &[Taking], place: usize, limit: u32) -> bool
+    requires { IsNonDecreasingBy (λ one. one.cycle) takes.now }
+    ensures exact { IsTrue result ↔ (place < passed (λ one. one.cycle) limit takes.now) }
+    ensures fits { IsTrue result → place + 1 < 2 ^ 64 }
+{
+    if place < takes.len() {
+        let row = takes[place];
+        row.cycle < limit
+    } else {
+        false
+    }
+}
