@@ -6,6 +6,7 @@ ghost use Rattle.aeth_components.specs.Turns.{flits_on};
 ghost use Rattle.aeth_report.specs.RunLog.{log_of};
 ghost use Rattle.aeth_accepted.specs.Inputs.{AreAccepted, Inputs, run_of};
 ghost use Rattle.aeth_running.specs.Network.{first_network, played, stepped};
+ghost use Rattle.aeth_running.specs.Quiet.{IsNextBusy};
 ghost use Rattle.aeth_running.specs.Told.{told};
 ghost use Rattle.aeth_network.specs.Runs.{AreWiresOf, IsNetworkOf};
 
@@ -146,6 +147,15 @@ impl Network {
             + 2 * flits_on self.new.components.wires }
     {
         self.routed.cycle_counted(order, steps);
+    }
+
+    /// The next cycle in which something happens: a flit is on a wire or is sent, a word is offered or
+    /// taken, or a switch does something. All cycles before it leave the network as it is. Where there
+    /// is none it is the number of cycles of the run.
+    pub fn next_busy(&self) -> u32
+        ensures { IsNextBusy self.now result }
+    {
+        self.routed.next_busy()
     }
 
     /// The log of the cycles that are done. Of a network of accepted inputs that has done all their
