@@ -83,9 +83,10 @@ run short check_128 105 45785356 check chip128 app_hops plan128
 run short tables 105 45753233 tables chip app_hops plan u0
 run short route_tables 120 46551404 route-tables chip app_hops plan u0
 if is_chosen audit short; then
-    python3 "$home/bench/model.py" links chip app_hops plan words_20k receivers switches_1024 10000 >log
+    "$program" links chip app_hops plan words_20k receivers switches_1024 10000 >log
 fi
-run short audit - 211330979 audit chip app_hops plan switches_1024 log 10000
+run short links 150 142990588 links chip app_hops plan words_20k receivers switches_1024 10000
+run short audit 150 211330979 audit chip app_hops plan switches_1024 log 10000
 run short explain 133 900000000 explain chip app_stress
 if is_chosen confirm short; then "$program" explain chip app_stress >cert; fi
 run short confirm 130 918000000 explain chip app_stress cert

@@ -1,11 +1,11 @@
 #!/bin/sh
-# Prints the seconds, the peak memory and the instructions of `aeth audit` for a log of 73,293 flits over 10,000 cycles of
-# the large design, through 1,024 rows of switches, and of a run on the header of this log alone: so what the rows take
-# is seen. It prints the ratio of the instructions to those of a peer: the same audit in plain optimised Rust, on one
-# thread, and without any proof; and the bytes of memory that a row takes beside the file's own. The files are those of
-# `inputs.py`, whose head says what each is, the plan that `aeth allocate` prints for these, and the log that `model.py`
-# says the links carry. It needs valgrind, GNU time and Python 3.11. The instructions are about the same at each run on
-# one machine.
+# Prints the seconds, the peak memory and the instructions of `aeth links` for 10,000 cycles of the large design, with words
+# on its channels and through 1,024 rows of switches, and of `aeth audit` for the log that it prints, of 73,293 flits; then of
+# `aeth audit` on the header of this log alone: so what the rows take is seen. It prints the ratios of the instructions to
+# those of a peer: the same in plain optimised Rust, on one thread, and without any proof; and the bytes of memory that a row
+# takes beside the file's own. The files are those of `inputs.py`, whose head says what each is, and the plan that
+# `aeth allocate` prints for these. The log must be the one that `model.py` says the links carry, and clean. It needs valgrind,
+# GNU time and Python 3.11. The instructions are about the same at each run on one machine.
 set -eu
 
 home=$(dirname -- "$(dirname -- "$(readlink -f -- "$0")")")
@@ -15,7 +15,10 @@ home=$(dirname -- "$(dirname -- "$(readlink -f -- "$0")")")
 python3 "$home/bench/inputs.py" "$folder"
 cd "$folder"
 "$program" allocate chip app_hops >plan
-python3 "$home/bench/model.py" links chip app_hops plan words_20k receivers switches_1024 10000 >log
+"$program" links chip app_hops plan words_20k receivers switches_1024 10000 >log
+python3 "$home/bench/model.py" links chip app_hops plan words_20k receivers switches_1024 10000 >model_log
+cmp log model_log
+[ "$("$program" audit chip app_hops plan switches_1024 log 10000)" = clean ]
 head -n 1 log >header
 rows=$(($(wc -l <log) - 1))
 
@@ -23,11 +26,17 @@ measure_log() {
     measure "$1" audit chip app_hops plan switches_1024 "$1" 10000
 }
 
+# The ratio of what was measured last to a peer's instructions.
+tell_ratio() {
+    printf 'of the peer: %d.%02d\n' $((all / $1)) $((100 * (all % $1) / $1))
+}
+
 head_line
+measure links links chip app_hops plan words_20k receivers switches_1024 10000
+tell_ratio 142990588
 measure_log header
 begun=$all least=$peak
 measure_log log
-peer=211330979
-printf 'of the peer: %d.%02d\n' $((all / peer)) $((100 * (all % peer) / peer))
+tell_ratio 211330979
 printf 'rows: %d, each %d instructions and %d bytes\n' "$rows" $(((all - begun) / rows)) \
     $((((peak - least) * 1024 - $(wc -c <log)) / rows))

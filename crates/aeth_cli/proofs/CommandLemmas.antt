@@ -13,7 +13,7 @@ use Rattle.aeth_answers.proofs.Reading.{number_within-bounds}
 use Rattle.aeth_cli.specs.declared.commands.Command.{Command}
 use Rattle.aeth_cli.specs.declared.commands.Command.TheVariants as command
 use Rattle.aeth_files.specs.declared.runs.RunFiles.{RunFiles}
-use Rattle.aeth_cli.specs.Limits.{max_gap}
+use Rattle.aeth_cli.specs.Limits.{max_gap, max_logged_cycles}
 use Rattle.aeth_cli.specs.Commands.{command_of}
 use Rattle.aeth_cli.specs.Commands.Allocate.{allocate_command}
 use Rattle.aeth_cli.specs.Commands.App.{app_command}
@@ -23,6 +23,7 @@ use Rattle.aeth_cli.specs.Commands.Check.{check_command}
 use Rattle.aeth_cli.specs.Commands.Chip.{chip_command}
 use Rattle.aeth_cli.specs.Commands.Demo.{demo_command}
 use Rattle.aeth_cli.specs.Commands.Explain.{explain_command}
+use Rattle.aeth_cli.specs.Commands.Links.{links_command}
 use Rattle.aeth_cli.specs.Commands.RouteTables.{route_tables_command}
 use Rattle.aeth_cli.specs.Commands.Server.{server_command}
 use Rattle.aeth_cli.specs.Commands.Simulate.{simulate_command, turn_of}
@@ -153,6 +154,18 @@ demo_short (number ∷ []) =
     tt {0})
 demo_short words = tt
 
+links_short : (words : List (List ℕ)) → IsShort (links_command words)
+links_short (chip ∷ app ∷ plan ∷ words ∷ receivers ∷ switches ∷ cycles ∷ []) =
+    short_then (file_name_of chip) _ (λ _ _.
+    short_then (file_name_of app) _ (λ _ _.
+    short_then (file_name_of plan) _ (λ _ _.
+    short_then (file_name_of words) _ (λ _ _.
+    short_then (file_name_of receivers) _ (λ _ _.
+    short_then (file_name_of switches) _ (λ _ _.
+    short_then (number_within 1 max_logged_cycles cycles) _ (λ _ _.
+    tt {0})))))))
+links_short words = tt
+
 simulate_short : (words : List (List ℕ)) → IsShort (simulate_command words)
 simulate_short (chip ∷ app ∷ plan ∷ words ∷ receivers ∷ switches ∷ cycles ∷ rest) =
     short_then (file_name_of chip) _ (λ _ _.
@@ -180,9 +193,10 @@ command_short (name ∷ words) =
     short_if (bytes_eq name (codes "tables")) _ _ (tables_short words) (
     short_if (bytes_eq name (codes "route-tables")) _ _ (route_tables_short words) (
     short_if (bytes_eq name (codes "simulate")) _ _ (simulate_short words) (
+    short_if (bytes_eq name (codes "links")) _ _ (links_short words) (
     short_if (bytes_eq name (codes "audit")) _ _ (audit_short words) (
     short_if (bytes_eq name (codes "chain")) _ _ (chain_short words) (
-    short_if (bytes_eq name (codes "demo")) _ _ (demo_short words) (tt {0})))))))))))))
+    short_if (bytes_eq name (codes "demo")) _ _ (demo_short words) (tt {0}))))))))))))))
 
 pub simulate-cycles : (words : List (List ℕ)) (files : RunFiles) (cycles turn : ℕ)
     → command_of words ≡ Some (command.Simulate files cycles turn) → cycles ≤ max_cycles

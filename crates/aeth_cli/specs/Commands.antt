@@ -8,6 +8,7 @@ pub mod Check
 pub mod Chip
 pub mod Demo
 pub mod Explain
+pub mod Links
 pub mod RouteTables
 pub mod Server
 pub mod Simulate
@@ -22,6 +23,7 @@ use Rattle.aeth_chain_items.specs.ItemNames.{AreItemNames}
 use Rattle.aeth_demo.specs.Limits.{max_demo_number}
 use Rattle.aeth_io.specs.Causes.{IsFaultless}
 use Rattle.aeth_report.specs.Log.{LogData}
+use Rattle.aeth_cli.specs.Limits.{max_logged_cycles}
 use Rattle.aeth_cli.specs.declared.commands.Command.{Command}
 use Rattle.aeth_cli.specs.declared.commands.Command.TheVariants as command
 use Rattle.aeth_cli.specs.Commands.Allocate.{allocate_command, allocate_task}
@@ -32,6 +34,7 @@ use Rattle.aeth_cli.specs.Commands.Check.{check_command, check_task}
 use Rattle.aeth_cli.specs.Commands.Chip.{chip_command, chip_task}
 use Rattle.aeth_cli.specs.Commands.Demo.{demo_command, demo_task}
 use Rattle.aeth_cli.specs.Commands.Explain.{confirm_task, explain_command, explain_task}
+use Rattle.aeth_cli.specs.Commands.Links.{links_command, links_task}
 use Rattle.aeth_cli.specs.Commands.RouteTables.{route_tables_command, route_tables_task}
 use Rattle.aeth_cli.specs.Commands.Server.{latency_job, server_command}
 use Rattle.aeth_cli.specs.Commands.Simulate.{simulate_command, simulate_task}
@@ -47,6 +50,7 @@ use Rattle.aeth_answers.specs.Task.{ComesTo, IsAnswer, Task, ends, job_with}
 abbrev pub run_command_of : List ℕ → List (List ℕ) → Option Command
 run_command_of name words =
     if bytes_eq name (codes "simulate") then simulate_command words
+    else if bytes_eq name (codes "links") then links_command words
     else if bytes_eq name (codes "audit") then audit_command words
     else if bytes_eq name (codes "chain") then chain_command words
     else if bytes_eq name (codes "demo") then demo_command words
@@ -81,6 +85,7 @@ HasRanges (command.Confirm chip app cert) = ⊤
 HasRanges (command.Tables chip app plan name) = ⊤
 HasRanges (command.RouteTables chip app plan name) = ⊤
 HasRanges (command.Simulate files cycles turn) = (1 ≤ cycles) × (cycles ≤ max_cycles)
+HasRanges (command.Links files cycles) = (1 ≤ cycles) × (cycles ≤ max_logged_cycles)
 HasRanges (command.Audit files cycles) = (1 ≤ cycles) × (cycles ≤ max_cycles)
 HasRanges (command.Chain files name items cycles) =
     AreItemNames items × (1 ≤ cycles) × (cycles ≤ max_cycles)
@@ -100,6 +105,7 @@ module _ (outcome : Inputs → LogData) where
   task_of (command.Tables chip app plan name) = tables_task chip app plan name
   task_of (command.RouteTables chip app plan name) = route_tables_task chip app plan name
   task_of (command.Simulate files cycles turn) = simulate_task outcome files cycles
+  task_of (command.Links files cycles) = links_task files cycles
   task_of (command.Audit files cycles) = audit_task files cycles
   task_of (command.Chain files name items cycles) = chain_task files name items cycles
   task_of (command.Demo number) = demo_task outcome number

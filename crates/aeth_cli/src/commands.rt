@@ -13,6 +13,7 @@ mod check;
 mod chip;
 mod demo;
 mod explain;
+mod links;
 mod route_tables;
 mod server;
 mod simulate;
@@ -101,6 +102,12 @@ pub enum Command<'a> {
         cycles: u32,
         turn: u32,
     },
+    /// `links CHIP APP PLAN WORDS RECEIVERS SWITCHES CYCLES`: what the links carry in a run of so many
+    /// cycles, as a log of links.
+    Links {
+        files: RunFiles<'a>,
+        cycles: u32,
+    },
     /// `audit CHIP APP PLAN SWITCHES LOG CYCLES`: whether each flit of a log of links, in so many
     /// cycles, is one that the network of the plan may carry there.
     Audit {
@@ -148,6 +155,7 @@ fn run_command_of<'a>(name: &str, words: &'a [String]) -> Option<Command<'a>>
 {
     match name {
         "simulate" => simulate::command(words),
+        "links" => links::command(words),
         "audit" => audit::command(words),
         "chain" => chain::command(words),
         "demo" => demo::command(words),
@@ -215,6 +223,7 @@ fn command_answer<M: Machine, H: Shelf>(
             cycles,
             turn,
         } => simulate::answer::<M, H>(alloc, &files, cycles, turn, shelf),
+        Command::Links { files, cycles } => links::answer(alloc, &files, cycles, shelf),
         Command::Audit { files, cycles } => audit::answer(alloc, &files, cycles, shelf),
         Command::Chain {
             files,
