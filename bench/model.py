@@ -18,6 +18,7 @@ channel. It judges no file but a text of certificates, and is slow.
 import sys
 
 from model_certificates import text_of, tries_of, verdict
+from model_logs import Audit
 from model_plans import SIDES, Allocation, App, Chip
 
 NEVER = 10**12
@@ -184,6 +185,15 @@ class Run:
         links = [f"link {link} {flits}" for link, flits in enumerate(self.link_flits())]
         return "\n".join([f"sim 1 {self.cycles}", *self.lines, *links, "end", ""])
 
+    def servers(self):
+        """The private server of each session of each channel, before the first cycle."""
+        return [
+            Server(self, (connection, side), session)
+            for connection, sessions in self.sessions.items()
+            for session in sessions
+            for side in SIDES
+        ]
+
     def summary(self):
         """What `demo` tells of it."""
         rows = [line.split() for line in self.lines]
@@ -195,64 +205,6 @@ class Run:
             f"granted {len(self.grants)} offered {sum(int(row[5]) for row in chans)} "
             f"outside {outside} landed {len(landings)} late {late} flits {sum(self.link_flits())}"
         )
-
-
-class Audit:
-    """The audit of a log of links by a run, of which it knows no words."""
-
-    def __init__(self, run, rows):
-        self.cycles = run.cycles
-        self.servers = [
-            Server(run, (connection, side), session)
-            for connection, sessions in run.sessions.items()
-            for session in sessions
-            for side in SIDES
-        ]
-        self.rows = [row for row in rows if row[0] < run.cycles]
-        self.seen = {(cycle, link): flit for cycle, link, *flit in self.rows}
-
-    def goes_on(self, earlier, later):
-        """Whether the flit on one link goes on as that on another, a hop further."""
-        if earlier not in self.seen or later not in self.seen:
-            return False
-        (header, *words), flit = self.seen[earlier], self.seen[later]
-        route = header % 2**21
-        return flit == [header - route + route // 8, *words]
-
-    def rule(self, cycle, link, header, *words):
-        """The least rule that a row breaks; 0 where it breaks none."""
-        places = [
-            (server, place, server.offsets)
-            for server in self.servers
-            for place, at in enumerate(server.path)
-            if at == link
-            and server.go <= cycle - server.offsets[place] < server.stop
-            and (cycle - server.offsets[place]) % server.slots in server.starts
-        ]
-        if not places:
-            return 1
-        ((server, place, offsets),) = places
-        count, credits = header >> 30, header >> 26 & 15
-        if header % 2**26 != server.headers[place] or count == 3 or count + credits == 0:
-            return 2
-        if any(words[count:]):
-            return 2
-        here, path = (cycle, link), server.path
-        if place:
-            before = cycle - offsets[place] + offsets[place - 1], path[place - 1]
-            if not self.goes_on(before, here):
-                return 3
-        if place + 1 < len(path):
-            after = cycle - offsets[place] + offsets[place + 1], path[place + 1]
-            if after[0] < self.cycles and not self.goes_on(here, after):
-                return 3
-        return 0
-
-    def text(self):
-        for number, row in enumerate(self.rows):
-            if rule := self.rule(*row):
-                return f"fault {rule} {number + 1}\n"
-        return "clean\n"
 
 
 def rows_of(text):
@@ -413,7 +365,7 @@ def main(command, *words):
     elif command == "audit":
         run = run_of(chip, app, texts[2], "", "", texts[3], int(words[5]))
         rows = [[int(it) for it in row] for row in rows_of(texts[4])]
-        sys.stdout.write(Audit(run, rows).text())
+        sys.stdout.write(Audit(run.servers(), run.cycles, rows).text())
     else:
         run = run_of(chip, app, *texts[2:], int(words[6]))
         sys.stdout.write(run.log() if command == "links" else run.text())
