@@ -30,12 +30,15 @@ use Rattle.aeth_paths.specs.Trials.{TrialData}
 use Rattle.aeth_paths.proofs.JoinLemmas.{leaving-begins, onward-from-walk, passes-push}
 use Rattle.aeth_paths.proofs.JoinLemmas.{walk-from-route, walks-first, walks-more, walks-one}
 use Rattle.aeth_paths.proofs.UniqueLemmas.{one-end, one-start}
+use Rattle.aeth_explain.specs.Cuts.{begins_with}
 use Rattle.aeth_explain.specs.Fronts.{IsFront, over}
+use Rattle.aeth_explain.specs.Places.{AreWithin}
 use Rattle.aeth_explain.specs.Senders.{IsReach, most_to}
 use Rattle.aeth_explain.specs.TryPaths.{MayTake}
 use Rattle.aeth_explain.specs.Verdict.{is_covered}
 use Rattle.aeth_explain.specs.declared.open_paths.Front.{Front}
 use Rattle.aeth_explain.specs.declared.open_paths.Listed.{Listed}
+use Rattle.aeth_explain.specs.declared.places.Places.{Places}
 use Rattle.aeth_explain.proofs.SenderLemmas.{may-most, most-may}
 
 nothing-more : {X P : Type 0} (front : List X) (x : X) (rest : List X) → front ++ x ∷ rest ≡ [] → P
@@ -254,9 +257,11 @@ module _ (listed : Listed) (a : NiId) (front : Front) (is : IsFront listed a fro
     (comes : to_of listed.chip.now.links link ≡ Router r)
     (new : passes (to_of listed.chip.now.links) front.path (Router r) ≡ false)
     (known : r.0 < length listed.chip.now.routers)
-    (bare : is_covered listed.cuts.now (front.path ++ link ∷ []) ≡ false) where
+    (bare : is_covered listed.cuts.now (front.path ++ link ∷ []) ≡ false)
+    (places : Places) (inside : places.to ≤ length listed.cuts.now)
+    (within : AreWithin (begins_with (front.path ++ link ∷ [])) listed.cuts.now places) where
   abbrev longer : Front
-  longer = record { path = front.path ++ link ∷ []; router = r }
+  longer = record { path = front.path ++ link ∷ []; router = r; places = places }
 
   -- The longer list is one that leads over new routers.
   pub longer-front : IsFront listed a longer
@@ -275,6 +280,8 @@ module _ (listed : Listed) (a : NiId) (front : Front) (is : IsFront listed a fro
         known = known;
         here = passes-here listed a front is link r comes;
         bare = bare;
+        inside = inside;
+        within = within;
         leads = λ b rest walks.
             let f = over listed.chip.now listed.trial.now b in
             let on : Walks f (to link) (front.path ++ link ∷ []) rest =
@@ -301,9 +308,11 @@ module _ (listed : Listed) (a : NiId) (link : LinkId) (r : RouterId)
     (leaves : Contains (links_from listed.chip.now.links (Ni a)) link)
     (comes : to_of listed.chip.now.links link ≡ Router r)
     (known : r.0 < length listed.chip.now.routers)
-    (bare : is_covered listed.cuts.now (link ∷ []) ≡ false) where
+    (bare : is_covered listed.cuts.now (link ∷ []) ≡ false)
+    (places : Places) (inside : places.to ≤ length listed.cuts.now)
+    (within : AreWithin (begins_with (link ∷ [])) listed.cuts.now places) where
   -- One that leads to a router is a list from the sender.
-  pub first-front : IsFront listed a (record { path = link ∷ []; router = r })
+  pub first-front : IsFront listed a (record { path = link ∷ []; router = r; places = places })
   first-front =
       let links = listed.chip.now.links in
       let to : LinkId → Node = to_of links in
@@ -318,6 +327,8 @@ module _ (listed : Listed) (a : NiId) (link : LinkId) (r : RouterId)
         here = passes-push to [] link (Router r)
             ∙ ap (λ n. same_node n (Router r)) comes ∙ same_node-refl (Router r);
         bare = bare;
+        inside = inside;
+        within = within;
         leads = λ b rest walks.
             let f = over listed.chip.now listed.trial.now b in
             let on : Walks f (to link) (link ∷ []) rest =

@@ -11,6 +11,7 @@ mod FirstLemmas
 mod FrontLemmas
 mod OpenLemmas
 mod OverLemmas
+mod PlaceLemmas
 mod WalkLemmas
 mod BelowLemmas
 pub mod ReadLemmas

@@ -22,6 +22,8 @@ use Rattle.aeth_chip.specs.declared.node.Node.TheVariants.{Ni, Router}
 use Rattle.aeth_paths.specs.Search.{Field, Walks, passes}
 use Rattle.aeth_paths.specs.Task.{field}
 use Rattle.aeth_paths.specs.Trials.{IsTrialOf, TrialData}
+use Rattle.aeth_explain.specs.Cuts.{begins_with}
+use Rattle.aeth_explain.specs.Places.{AreWithin}
 use Rattle.aeth_explain.specs.TryPaths.{leaves_one, onward_lists}
 use Rattle.aeth_explain.specs.Verdict.{is_covered, is_open}
 use Rattle.aeth_explain.specs.declared.open_paths.Front.{Front}
@@ -54,7 +56,8 @@ pub record IsListed (listed : Listed) : Type 0 where
   pub is_trial : IsTrialOf listed.chip.now listed.trial.now
 
 -- A list from a sender that has come to a router: what walks on from it over new routers walks from
--- the sender. It begins with none of the certificate's lists.
+-- the sender. It begins with none of the certificate's lists, and all that begin with it are between its
+-- places.
 pub record IsFront (listed : Listed) (a : NiId) (front : Front) : Type 0 where
   pub some : 1 ≤ length front.path
   pub joined : IsJoined (BeginsAt listed.chip.now.links) (to_of listed.chip.now.links) (Ni a) front.path
@@ -63,6 +66,8 @@ pub record IsFront (listed : Listed) (a : NiId) (front : Front) : Type 0 where
   pub known : front.router.0 < length listed.chip.now.routers
   pub here : passes (to_of listed.chip.now.links) front.path (Router front.router) ≡ true
   pub bare : is_covered listed.cuts.now front.path ≡ false
+  pub inside : front.places.to ≤ length listed.cuts.now
+  pub within : AreWithin (begins_with front.path) listed.cuts.now front.places
   pub leads : (b : NiId) (rest : List LinkId)
       → Walks (over listed.chip.now listed.trial.now b) (Router front.router) front.path rest
       → Walks (over listed.chip.now listed.trial.now b) (Ni a) [] (front.path ++ rest)

@@ -5,6 +5,7 @@ pub mod Certificate
 pub mod Verdict
 pub mod Masks
 pub mod Senders
+pub mod Places
 pub mod Fronts
 pub mod Walks
 pub mod Texts

@@ -3,14 +3,14 @@ ghost use Rattle.std.specs.Prelude.{◌≡◌, ◌≤◌, ◌<◌, ◌+◌, ◌-
 ghost use Rattle.aeth_base.specs.Limits.{max_path_links};
 ghost use Rattle.aeth_chip.specs.Paths.{to_of};
 ghost use Rattle.aeth_chip.specs.declared.node.Node.TheVariants.{Ni, Router};
-ghost use Rattle.aeth_explain.specs.Cuts.{begins_with};
 ghost use Rattle.aeth_explain.specs.Fronts.{IsFront, IsListed, IsOver, first_open, lists_below};
 ghost use Rattle.aeth_explain.specs.Senders.{IsReach};
-ghost use Rattle.aeth_explain.specs.Verdict.{is_covered, open_paths};
+ghost use Rattle.aeth_explain.specs.Verdict.{open_paths};
 ghost use Rattle.aeth_paths.specs.Search.{passes};
 ghost use Rattle.aeth_paths.specs.Task.{links_from};
 
 use crate::cuts::Cuts;
+use crate::places::{Places, all_places, is_covered, narrowed};
 use crate::senders::{Sender, is_among};
 use aeth_base::{LinkId, MAX_PATH_LINKS, NiId, NoMemory, Path, RouterId};
 use aeth_chip::{Chip, Distances, MAX_PORTS, Node};
@@ -26,11 +26,13 @@ pub(crate) struct Listed<'a> {
     pub cuts: &'a Cuts,
 }
 
-/// A list of links from a sender that has come to a router.
+/// A list of links from a sender that has come to a router, and between which places the certificate's
+/// lists are that begin with it.
 #[derive(Clone, Copy)]
 pub(crate) struct Front {
     pub path: Path,
     pub router: RouterId,
+    pub places: Places,
 }
 
 /// What comes of one more link: an open path, a list to go on from, or neither.
@@ -39,34 +41,6 @@ pub(crate) enum Over {
     Away,
     Open { path: Path },
     Onward { front: Front },
-}
-
-/// Whether a path begins with a list.
-fn begins_with(front: &Path, path: &Path) -> bool
-    ensures { result ≡ begins_with front.now path.now }
-{
-    if front.len() > path.len() {
-        return false;
-    }
-    for i in 0..front.len() {
-        if front.link(i).0 != path.link(i).0 {
-            return false;
-        }
-    }
-    true
-}
-
-/// Whether a path begins with one of the lists.
-fn is_covered(cuts: &Cuts, path: &Path) -> bool
-    ensures { result ≡ is_covered cuts.now path.now }
-{
-    let list = cuts.list();
-    for i in 0..list.len() {
-        if begins_with(&list[i], path) {
-            return true;
-        }
-    }
-    false
 }
 
 /// Whether a link of a path ends at a router.
@@ -110,7 +84,7 @@ pub(crate) fn over_link(
     ensures { IsOver listed.now sender.now.ni front.now link left result }
 {
     let path = with_link(&front.path, link);
-    if is_covered(listed.cuts, &path) {
+    if is_covered(listed.cuts, front.places, &path) {
         return Over::Away;
     }
     match listed.chip.link(link).to {
@@ -125,8 +99,13 @@ pub(crate) fn over_link(
             if passes(listed.chip, &front.path, router) || path.len() > sender.links_at(router) {
                 return Over::Away;
             }
+            let places = narrowed(listed.cuts, front.places, &path);
             Over::Onward {
-                front: Front { path, router },
+                front: Front {
+                    path,
+                    router,
+                    places,
+                },
             }
         }
     }
@@ -177,14 +156,20 @@ fn first_from(
         (to_of listed.now.chip.now.links link) (link ∷ []))) }
 {
     let path = with_link(&Path::empty(), link);
-    if is_covered(listed.cuts, &path) {
+    let all = all_places(listed.cuts);
+    if is_covered(listed.cuts, all, &path) {
         return Ok(None);
     }
     match listed.chip.link(link).to {
         Node::Ni(_) => Ok(None),
         Node::Router(router) => {
             let sender = Sender::new(alloc, listed.chip, listed.far, listed.trial, ni)?;
-            let front = Front { path, router };
+            let places = narrowed(listed.cuts, all, &path);
+            let front = Front {
+                path,
+                router,
+                places,
+            };
             Ok(open_below(listed, &sender, &front, MAX_PATH_LINKS - 1))
         }
     }

@@ -14,6 +14,7 @@ ghost use Rattle.aeth_paths.specs.Task.{links_from};
 
 use crate::cuts::Cuts;
 use crate::open_paths::{Front, Listed, Over, open_below, over_link, with_link};
+use crate::places::all_places;
 use crate::senders::{Sender, is_among};
 use crate::try_judge::TryJudge;
 use aeth_base::{LinkId, MAX_PATH_LINKS, NiId, NoMemory, Path};
@@ -137,7 +138,11 @@ fn walk_from(
         Node::Router(router) => {
             let sender = Sender::new(alloc, listed.chip, listed.far, listed.trial, ni)?;
             let path = with_link(&Path::empty(), link);
-            let front = Front { path, router };
+            let front = Front {
+                path,
+                router,
+                places: all_places(listed.cuts),
+            };
             walk(judge, listed, &sender, &front, MAX_PATH_LINKS - 1, cuts)
         }
     }

@@ -1,14 +1,34 @@
-use Rattle.std.proofs.Common.{◌∙◌, Some, ap, arith, length, subst, sym}
+use Rattle.std.proofs.Common.{◌∙◌, ◌∷◌, [], Some, ap, arith, length, subst, sym}
 use Rattle.aeth_chip.specs.Chip.{IsNode}
 use Rattle.aeth_chip.specs.Paths.{to_in}
 use Rattle.aeth_chip.specs.declared.node.Node.TheVariants.{Router}
+use Rattle.aeth_explain.specs.Cuts.{begins_with}
 use Rattle.aeth_explain.specs.Fronts.{IsFront}
+use Rattle.aeth_explain.specs.Places.{AreWithin}
 use Rattle.aeth_explain.specs.Verdict.{is_covered}
 use Rattle.aeth_explain.proofs.FrontLemmas.{link-low, longer-front}
 use Rattle.aeth_explain.proofs.OverLemmas.{over-again, over-covered, over-far, over-long, over-there}
+use Rattle.aeth_explain.proofs.PlaceLemmas.{covers-within, longer-within}
 use Rattle.aeth_explain.proofs.open_paths.over_link.Goals as goal
 use Rattle.aeth_explain.proofs.open_paths.over_link.Goals.{then-passes-via-then-passes}
 use Rattle.aeth_explain.proofs.open_paths.over_link.Goals.{then-passes-via-else-passes+then-len-links_at}
+
+-- The lists with which the longer one begins are between the places.
+pub is_covered-requires-clause-within : goal.is_covered-requires-clause-within
+is_covered-requires-clause-within c =
+    let cuts = c.args.listed.now.cuts.now in
+    let front = c.args.front.now in
+    subst (λ p. AreWithin (λ cut. begins_with cut p) cuts front.places) (sym c.with_link-path.ensures)
+    (covers-within cuts front.path front.places c.requires.front.within (c.args.link ∷ [])
+    c.requires.front.bare)
+
+-- So are those that begin with it.
+pub narrowed-places-requires-clause-within : goal.narrowed-places-requires-clause-within
+narrowed-places-requires-clause-within c =
+    let cuts = c.args.listed.now.cuts.now in
+    let front = c.args.front.now in
+    subst (λ p. AreWithin (begins_with p) cuts front.places) (sym c.with_link-path.ensures)
+    (longer-within cuts front.path front.places c.requires.front.within (c.args.link ∷ []))
 
 -- The longer list is covered.
 pub returns-then-is_covered : goal.returns-then-is_covered
@@ -99,13 +119,16 @@ returns-else-len-links_at c =
     let comes = ap to_in c.link.ensures.link ∙ c.in-Router.is in
     let known = subst (IsNode listed.chip.now.routers listed.chip.now.nis) c.in-Router.is
     c.link.ensures.to in
+    let places = c.narrowed-places.result in
     record {
       path = c.with_link-path.ensures;
       ends = comes;
-      is_front = subst (λ p. IsFront listed a (record { path = p; router = r }))
+      is_front = subst (λ p. IsFront listed a (record { path = p; router = r; places = places }))
           (sym c.with_link-path.ensures)
           (longer-front listed a c.args.front.now c.requires.front c.args.link r c.requires.link
           comes (sym c.passes.ensures ∙ c.if-passes.false) known
           (sym (ap (is_covered listed.cuts.now) c.with_link-path.ensures)
-          ∙ sym c.is_covered.ensures ∙ c.if-is_covered.false));
+          ∙ sym c.is_covered.ensures ∙ c.if-is_covered.false) places c.narrowed-places.ensures.known
+          (subst (λ p. AreWithin (begins_with p) listed.cuts.now places) c.with_link-path.ensures
+          c.narrowed-places.ensures.within));
     }

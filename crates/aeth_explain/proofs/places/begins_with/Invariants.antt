@@ -1,6 +1,6 @@
 use Rattle.std.proofs.Common.{◌≡◌, drop}
 use Rattle.aeth_explain.specs.Cuts.{begins_with}
-use Rattle.aeth_explain.proofs.open_paths.begins_with.Given as goal
+use Rattle.aeth_explain.proofs.places.begins_with.Given as goal
 
 -- Whether the path begins with the list is decided by the links that are left.
 abbrev pub invariant-loop-i : goal.invariant-loop-i
