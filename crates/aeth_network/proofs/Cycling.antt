@@ -22,6 +22,7 @@ use Rattle.aeth_schedule.specs.declared.going.Going.{Going}
 use Rattle.aeth_events.specs.Events.{events_in}
 use Rattle.aeth_running.specs.Network.{NetworkState, gone_with, goings_in, offers_in, ready_in}
 use Rattle.aeth_running.specs.Network.{stepped, takes_in, untils_in}
+use Rattle.aeth_running.specs.Quiet.{brought_over}
 use Rattle.aeth_stimuli.specs.Stimuli.{Offer, Stimuli, Take}
 use Rattle.aeth_network.specs.Behind.{IsBehind, passed}
 use Rattle.aeth_network.specs.Brought.{CanBring, IsBrought}
@@ -231,6 +232,10 @@ module _ (stimuli : Stimuli) (state : State) (log : LogData) (time : ℕ)
         stimuli.schedule.cycles all is.stimuli.event_cycles is.stimuli.event_order)
         (All-take (IsDoable frames) (to - from) (drop from all)
         (All-drop (IsDoable frames) from all is.stimuli.events)))
+
+    -- The network that has brought a cycle, and leaves out the components' own.
+    pub over : network_of stimuli brought log (time + 1) ≡ brought_over old
+    over = rw (has.components, has.outside, has.untils, has.replaced, goings, offers, takes) refl
 
     module _ (new : ComponentsState) (did : Cycle rows.events.now time brought.components new) where
       done : Cycle (events_in stimuli time) time (ready_in old) new

@@ -18,5 +18,6 @@ mod Replaced
 mod RestingLanes
 mod RowLemmas
 mod RunWires
+mod Skipping
 mod Stepping
 mod TellingLemmas

@@ -6,15 +6,17 @@ ghost use Rattle.aeth_components.specs.Turns.{flits_on};
 ghost use Rattle.aeth_accepted.specs.Inputs.{Inputs, run_of};
 ghost use Rattle.aeth_stimuli.specs.Stimuli.{stimuli_of};
 ghost use Rattle.aeth_running.specs.Network.{first_network, played, stepped};
-ghost use Rattle.aeth_running.specs.Quiet.{IsNextBusy};
+ghost use Rattle.aeth_running.specs.Quiet.{AreStill, IsNextBusy};
+ghost use Rattle.aeth_running.specs.Still.{IsStill};
 ghost use Rattle.aeth_running.specs.Told.{told};
 ghost use Rattle.aeth_network.specs.Cursors.{stimuli_with};
 ghost use Rattle.aeth_network.specs.First.{IsFirstState};
 ghost use Rattle.aeth_network.specs.Runs.{AreWiresOf, IsNetworkOf};
 
 use crate::given::{Cursors, Given};
+use crate::giving::take;
 use crate::logging::first_log;
-use crate::next::next_taking;
+use crate::next::{next_taking, place_before};
 use crate::state::{State, run};
 use crate::telling::tell;
 use aeth_accepted::RunInputs;
@@ -166,6 +168,55 @@ impl RoutedNetwork {
         } else {
             time
         }
+    }
+
+    /// Passes over cycles that leave the network as it is, up to this one: only the rows of receivers
+    /// count, and the sessions that go in cycle 0.
+    pub fn skip(&mut self, to: u32)
+        requires from { self.old.time ≤ to }
+        requires to { to ≤ self.old.log.cycles }
+        requires still { AreStill (to - self.old.time) self.old }
+        ensures played { self.new ≡ played (to - self.old.time) self.old }
+        ensures parts { length self.new.components.parts ≡ length self.old.components.parts }
+        ensures run { (inputs : Inputs) → IsNetworkOf inputs self.old
+            → IsNetworkOf inputs self.new }
+    {
+        if self.time == 0 && to > 0 {
+            self.begin();
+        }
+        self.rest(to);
+    }
+
+    // Passes over cycle 0, in which sessions go.
+    fn begin(&mut self)
+        requires time { self.old.time ≡ 0 }
+        requires some { 0 < self.old.log.cycles }
+        requires still { IsStill self.old }
+        ensures steps { self.new ≡ stepped self.old }
+        ensures parts { length self.new.components.parts ≡ length self.old.components.parts }
+    {
+        aeth_running::laws::networks_rest();
+        let rows = self.given.rows(self.cursors, self.time);
+        self.state.bring(&rows, self.time);
+        self.cursors = rows.behind;
+        self.time += 1;
+    }
+
+    // Passes over later cycles, up to this one.
+    fn rest(&mut self, to: u32)
+        requires from { self.old.time ≤ to }
+        requires to { to ≤ self.old.log.cycles }
+        requires late { 0 < to → 0 < self.old.time }
+        requires still { AreStill (to - self.old.time) self.old }
+        ensures played { self.new ≡ played (to - self.old.time) self.old }
+        ensures parts { length self.new.components.parts ≡ length self.old.components.parts }
+    {
+        aeth_running::laws::networks_rest();
+        let first = self.cursors.take;
+        let last = place_before(&self.given.takes, first, to);
+        take(&mut self.state.components, &self.given.takes[first..last]);
+        self.cursors.take = last;
+        self.time = to;
     }
 
     /// The log of the cycles that are done. Of a network of accepted inputs that has done all their

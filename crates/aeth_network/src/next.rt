@@ -149,3 +149,18 @@ fn is_before(takes: &[Taking], place: usize, limit: u32) -> bool
         false
     }
 }
+
+// The place behind the rows before a cycle, from one on that is not behind it.
+pub(crate) fn place_before(takes: &[Taking], from: usize, to: u32) -> usize
+    requires order { IsNonDecreasingBy (λ one. one.cycle) takes.now }
+    requires from { from ≤ passed (λ one. one.cycle) to takes.now }
+    ensures place { result ≡ passed (λ one. one.cycle) to takes.now }
+    ensures after { from ≤ result }
+    ensures within { result ≤ length takes.now }
+{
+    let mut place = from;
+    'rows: while is_before(takes, place, to) {
+        place += 1;
+    }
+    place
+}

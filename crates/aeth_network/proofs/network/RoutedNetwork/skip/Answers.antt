@@ -1,0 +1,84 @@
+use Rattle.std.proofs.Common.{◌≡◌, ◌≤◌, ◌<◌, ◌-◌, ◌∙◌, ap, arith, length}
+use Rattle.aeth_running.specs.Network.{NetworkState}
+use Rattle.aeth_network.proofs.Skipping.{IsBegun, begun-first, begun-later, skipped-of}
+use Rattle.aeth_network.proofs.Skipping.{still-nothing}
+use Rattle.aeth_network.proofs.network.RoutedNetwork.skip.Goals.{else-self-eq0}
+use Rattle.aeth_network.proofs.network.RoutedNetwork.skip.Goals.{then-self-eq0+then-to-gt0}
+use Rattle.aeth_network.proofs.network.RoutedNetwork.skip.Goals.{else-self-eq0-via-else-self-eq0}
+use Rattle.aeth_network.proofs.network.RoutedNetwork.skip.Goals.{else-self-eq0-via-then-self-eq0+else-to-gt0}
+use Rattle.aeth_network.proofs.network.RoutedNetwork.skip.Goals as goal
+
+-- Cycle 0 is to be passed over.
+pub begin-requires-clause-time : goal.begin-requires-clause-time
+begin-requires-clause-time c =
+    let time = ap (λ (all : NetworkState). all.time) c.self.view_is in
+    let start = c.if-self-eq0.true in
+    omega arith
+
+pub begin-requires-clause-some : goal.begin-requires-clause-some
+begin-requires-clause-some c =
+    let some = c.if-to-gt0.true in
+    let within = c.requires.to in
+    omega arith
+
+pub begin-requires-clause-still : goal.begin-requires-clause-still
+begin-requires-clause-still c =
+    let time = ap (λ (all : NetworkState). all.time) c.self.view_is in
+    let start = c.if-self-eq0.true in
+    let some = c.if-to-gt0.true in
+    still-nothing c.args.self.now (c.requires.still 0 (omega arith))
+
+-- It is passed over, if it was to be.
+begun : (c : goal.After-rest-arg-1) → IsBegun c.args.self.now c.if-self-eq0.self c.args.to
+begun c =
+    let time = ap (λ (all : NetworkState). all.time) c.self.view_is in
+    let from = c.requires.from in
+    elim c.if-self-eq0.branch [
+      | then-self-eq0+then-to-gt0 w ↦
+          let start = w.if-self-eq0.true in
+          begun-first c.args.self.now c.if-self-eq0.self c.args.to (w.self-is ∙ w.begin.ensures.steps)
+          (omega arith) w.if-to-gt0.true c.requires.to c.requires.still
+      | else-self-eq0 w ↦
+          begun-later c.args.self.now c.if-self-eq0.self c.args.to w.self-is
+          (λ some. elim w.else-self-eq0.branch [
+            | else-self-eq0-via-then-self-eq0+else-to-gt0 v ↦
+                let none = v.if-to-gt0.false in
+                omega arith
+            | else-self-eq0-via-else-self-eq0 v ↦
+                let other = v.if-self-eq0.false in
+                omega arith
+          ]) c.requires.from c.requires.to c.requires.still
+    ]
+
+-- So later ones are left.
+pub rest-requires-clause-from : goal.rest-requires-clause-from
+rest-requires-clause-from c = (begun c).from
+
+pub rest-requires-clause-to : goal.rest-requires-clause-to
+rest-requires-clause-to c = (begun c).within
+
+pub rest-requires-clause-late : goal.rest-requires-clause-late
+rest-requires-clause-late c = (begun c).late
+
+pub rest-requires-clause-still : goal.rest-requires-clause-still
+rest-requires-clause-still c = (begun c).still
+
+-- All of them are played.
+pub returns-clause-played : goal.returns-clause-played
+returns-clause-played c = c.rest.ensures.played ∙ (begun c.before).played_is
+
+-- No component comes or goes.
+pub returns-clause-parts : goal.returns-clause-parts
+returns-clause-parts c = elim c.if-self-eq0.branch [
+  | then-self-eq0+then-to-gt0 w ↦
+      c.rest.ensures.parts ∙ ap (λ (all : NetworkState). length all.components.parts) w.self-is
+      ∙ w.begin.ensures.parts
+  | else-self-eq0 w ↦
+      c.rest.ensures.parts ∙ ap (λ (all : NetworkState). length all.components.parts) w.self-is
+]
+
+-- A network of accepted inputs stays theirs.
+pub returns-clause-run : goal.returns-clause-run
+returns-clause-run c = λ inputs of.
+    skipped-of inputs c.args.self.now _ c.args.to c.requires.from c.requires.to
+    (returns-clause-played c) of
