@@ -30,8 +30,8 @@ use Rattle.aeth_network.proofs.Firsts.{fold-slices}
 use Rattle.aeth_network.proofs.Passed.{passed-few, passed-more, passed-range}
 use Rattle.aeth_network.specs.Runs.{IsNetworkOf}
 use Rattle.aeth_network.proofs.NextBusy.{played-sum}
-use Rattle.aeth_network.proofs.Playing.{cycles-of, many-of, played-more, played-none, played-time}
-use Rattle.aeth_network.proofs.Playing.{still-of}
+use Rattle.aeth_network.proofs.Playing.{cycles-of, many-of, played-log, played-more, played-none}
+use Rattle.aeth_network.proofs.Playing.{played-time, still-of}
 use Rattle.aeth_network.proofs.RestingLanes.{passed-rises}
 use Rattle.aeth_network.proofs.Stepping.{IsNetwork-behind, behind-is, length-in}
 
@@ -382,3 +382,33 @@ pub skipped-of : (inputs : Inputs) (old now : NetworkState) (to : ℕ) → old.t
 skipped-of inputs old now to from within is of =
     let cycles = cycles-of inputs old of in
     subst (IsNetworkOf inputs) (sym is) (many-of inputs old (to - old.time) of (omega arith))
+
+-- So many cycles later so many are done, of as many.
+pub skipped-time : (old now : NetworkState) (to : ℕ) → old.time ≤ to
+    → now ≡ played (to - old.time) old → now.time ≡ to
+skipped-time old now to from is =
+    let time = ap (λ (all : NetworkState). all.time) is ∙ played-time (to - old.time) old in
+    omega arith
+
+pub skipped-cycles : (old now : NetworkState) (k : ℕ) → now ≡ played k old
+    → now.log.cycles ≡ old.log.cycles
+skipped-cycles old now k is =
+    ap (λ (all : NetworkState). all.log.cycles) is
+    ∙ ap (λ (log : LogData). log.cycles) (played-log k old)
+
+-- One cycle behind those that were passed over.
+pub played-behind : (old now new : NetworkState) (to : ℕ) → old.time ≤ to
+    → now ≡ played (to - old.time) old → new ≡ stepped now → new ≡ played (to + 1 - old.time) old
+played-behind old now new to from is steps =
+    steps ∙ ap stepped is
+    ∙ played-more (to - old.time) (to + 1 - old.time) old (omega arith)
+
+-- Cycles behind those that were played.
+pub played-further : (first old new : NetworkState) (to : ℕ) → first.time ≤ old.time → old.time ≤ to
+    → old ≡ played (old.time - first.time) first → new ≡ played (to - old.time) old
+    → new ≡ played (to - first.time) first
+played-further first old new to least from before is =
+    let whole : (old.time - first.time) + (to - old.time) ≡ to - first.time = omega arith in
+    is ∙ ap (played (to - old.time)) before
+    ∙ played-sum (to - old.time) (old.time - first.time) first
+    ∙ ap (λ n. played n first) whole

@@ -239,7 +239,7 @@ impl RoutedNetwork {
     }
 }
 
-/// Plays all cycles of the run that are left.
+/// Plays all cycles of the run that are left. Those that leave the network as it is are passed over.
 pub fn simulate(network: &mut RoutedNetwork, order: &Order)
     requires { length order.now ≡ length network.old.components.parts }
     ensures played { network.new
@@ -249,9 +249,27 @@ pub fn simulate(network: &mut RoutedNetwork, order: &Order)
     ensures run { (inputs : Inputs) → IsNetworkOf inputs network.old
         → IsNetworkOf inputs network.new × (network.new.time ≡ inputs.cycles) }
 {
-    'cycles: while network.time() < network.cycles() {
-        network.cycle(order);
+    let mut next = network.next_busy();
+    'cycles: while next < network.cycles() {
+        next = advance(network, order, next);
     }
+    network.skip(next);
+}
+
+// Passes over the cycles before the next busy one, does it, and tells the one that comes next.
+fn advance(network: &mut RoutedNetwork, order: &Order, next: u32) -> u32
+    requires order { length order.now ≡ length network.old.components.parts }
+    requires next { IsNextBusy network.old next }
+    requires within { next < network.old.log.cycles }
+    ensures next { IsNextBusy network.new result }
+    ensures time { network.new.time ≡ next + 1 }
+    ensures played { network.new ≡ played (next + 1 - network.old.time) network.old }
+    ensures parts { length network.new.components.parts
+        ≡ length network.old.components.parts }
+{
+    network.skip(next);
+    network.cycle(order);
+    network.next_busy()
 }
 
 // The network of accepted inputs that is given this.

@@ -1,8 +1,7 @@
-use Rattle.std.proofs.Common.{◌≡◌, ◌∙◌, ◌<◌, ◌+◌, ◌-◌, ap, arith, refl, sym}
-use Rattle.aeth_report.specs.Log.{LogData}
-use Rattle.aeth_running.specs.Network.{NetworkState, played, stepped}
-use Rattle.aeth_running.proofs.Played.{stepped-log, stepped-time}
-use Rattle.aeth_network.proofs.Playing.{done-of, played-more, played-none}
+use Rattle.std.proofs.Common.{◌≡◌, ◌≤◌, ◌∙◌, ◌<◌, ◌+◌, ◌-◌, ap, arith, refl, sym}
+use Rattle.aeth_running.specs.Network.{played}
+use Rattle.aeth_network.proofs.Playing.{done-of, played-none}
+use Rattle.aeth_network.proofs.Skipping.{played-further, skipped-cycles}
 use Rattle.aeth_network.proofs.network.simulate.Goals as goal
 
 -- None is played yet.
@@ -13,65 +12,73 @@ cycles-init c =
     record {
       is = sym none;
       least = omega arith;
-      most = omega arith;
       cycles = refl;
       parts = refl;
+      next = c.next_busy-next.ensures;
     }
 
--- One cycle more is played.
+-- The cycles up to the next busy one, and it, are played.
 pub cycles-preserved : goal.cycles-preserved
 cycles-preserved c =
     let first = c.args.network.now in
     let old = c.cycles.network in
-    let new = c.cycle.new.self in
-    let steps = c.cycle.ensures.steps in
-    let time : new.time ≡ old.time + 1 =
-    ap (λ (all : NetworkState). all.time) steps ∙ stepped-time old in
-    let cycles : new.log.cycles ≡ old.log.cycles =
-    ap (λ (all : NetworkState). all.log.cycles) steps
-    ∙ ap (λ (log : LogData). log.cycles) (stepped-log old) in
-    let same = c.cycles.invariant.cycles in
+    let new = c.advance-next.new.network in
+    let did = c.advance-next.ensures in
+    let time = did.time in
     let least = c.cycles.invariant.least in
-    let now = c.time.ensures in
-    let end = c.cycles-in-cycles.ensures in
-    let early = c.cycles-test.true in
-    let next : new.time - first.time ≡ (old.time - first.time) + 1 = omega arith in
+    let from = c.cycles.invariant.next.from in
+    let end : c.cycles.next + 1 ≡ new.time = sym time in
     record {
-      is = steps ∙ ap stepped c.cycles.invariant.is
-          ∙ played-more (old.time - first.time) (new.time - first.time) first next;
+      is = played-further first old new (c.cycles.next + 1) least (omega arith)
+          c.cycles.invariant.is did.played
+          ∙ ap (λ n. played (n - first.time) first) end;
       least = omega arith;
-      most = omega arith;
-      cycles = cycles ∙ same;
-      parts = c.cycle.ensures.parts ∙ c.cycles.invariant.parts;
+      cycles = skipped-cycles old new _ did.played ∙ c.cycles.invariant.cycles;
+      parts = did.parts ∙ c.cycles.invariant.parts;
+      next = did.next;
     }
 
--- One cycle less is left.
+-- Fewer cycles are left.
 pub cycles-smaller : goal.cycles-smaller
 cycles-smaller c =
     let old = c.cycles.network in
-    let new = c.cycle.new.self in
-    let steps = c.cycle.ensures.steps in
-    let time : new.time ≡ old.time + 1 =
-    ap (λ (all : NetworkState). all.time) steps ∙ stepped-time old in
-    let cycles : new.log.cycles ≡ old.log.cycles =
-    ap (λ (all : NetworkState). all.log.cycles) steps
-    ∙ ap (λ (log : LogData). log.cycles) (stepped-log old) in
-    let now = c.time.ensures in
+    let new = c.advance-next.new.network in
+    let did = c.advance-next.ensures in
+    let time = did.time in
+    let cycles = skipped-cycles old new _ did.played in
+    let from = c.cycles.invariant.next.from in
     let end = c.cycles-in-cycles.ensures in
     let early = c.cycles-test.true in
     let less : new.log.cycles - new.time < old.log.cycles - old.time = omega arith in
     less
 
+-- Then none before the end is busy.
+pub skip-requires-clause-from : goal.skip-requires-clause-from
+skip-requires-clause-from c = c.cycles.invariant.next.from
+
+pub skip-requires-clause-to : goal.skip-requires-clause-to
+skip-requires-clause-to c = c.cycles.invariant.next.to
+
+pub skip-requires-clause-still : goal.skip-requires-clause-still
+skip-requires-clause-still c = c.cycles.invariant.next.still
+
+-- All are played.
+pub returns-clause-played : goal.returns-clause-played
+returns-clause-played c =
+    let first = c.args.network.now in
+    let same = c.cycles.invariant.cycles in
+    let most = c.cycles.invariant.next.to in
+    let late = c.cycles-test.false in
+    let now = c.cycles-in-cycles.ensures in
+    let end : c.cycles.next ≡ first.log.cycles = omega arith in
+    played-further first c.cycles.network c.skip.new.self c.cycles.next c.cycles.invariant.least
+    c.cycles.invariant.next.from c.cycles.invariant.is c.skip.ensures.played
+    ∙ ap (λ n. played (n - first.time) first) end
+
+pub returns-clause-parts : goal.returns-clause-parts
+returns-clause-parts c = c.skip.ensures.parts ∙ c.cycles.invariant.parts
+
 -- A network of accepted inputs stays theirs, and all their cycles are done.
 pub returns-clause-run : goal.returns-clause-run
 returns-clause-run c = λ inputs is.
-    let first = c.args.network.now in
-    let now = c.time.ensures in
-    let end = c.cycles-in-cycles.ensures in
-    let late = c.cycles-test.false in
-    let least = c.cycles.invariant.least in
-    let most = c.cycles.invariant.most in
-    let same = c.cycles.invariant.cycles in
-    let left : c.cycles.network.time - first.time ≡ first.log.cycles - first.time = omega arith in
-    done-of inputs first c.cycles.network
-    (c.cycles.invariant.is ∙ ap (λ n. played n first) left) is
+    done-of inputs c.args.network.now c.skip.new.self (returns-clause-played c) is
