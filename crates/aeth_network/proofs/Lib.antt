@@ -1,5 +1,6 @@
 mod Adding
 mod ByNumberLemmas
+mod CarriedLemmas
 mod CycleLemmas
 mod Cycling
 mod FewGoings
@@ -18,6 +19,7 @@ mod Replaced
 mod RestingLanes
 mod RowLemmas
 mod RunWires
+mod Skipped
 mod Skipping
 mod Stepping
 mod TellingLemmas

@@ -1,6 +1,7 @@
 pub mod Behind
 pub mod Brought
 pub mod ByNumber
+pub mod Carried
 pub mod Cursors
 pub mod First
 pub mod Fits

@@ -11,4 +11,4 @@ mod rows;
 mod state;
 mod telling;
 
-pub use network::{RoutedNetwork, simulate};
+pub use network::{RoutedNetwork, simulate, simulate_counted};

@@ -9,6 +9,7 @@ ghost use Rattle.aeth_running.specs.Network.{first_network, played, stepped};
 ghost use Rattle.aeth_running.specs.Quiet.{AreStill, IsNextBusy};
 ghost use Rattle.aeth_running.specs.Still.{IsStill};
 ghost use Rattle.aeth_running.specs.Told.{told};
+ghost use Rattle.aeth_network.specs.Carried.{carried_in};
 ghost use Rattle.aeth_network.specs.Cursors.{stimuli_with};
 ghost use Rattle.aeth_network.specs.First.{IsFirstState};
 ghost use Rattle.aeth_network.specs.Runs.{AreWiresOf, IsNetworkOf};
@@ -178,6 +179,7 @@ impl RoutedNetwork {
         requires still { AreStill (to - self.old.time) self.old }
         ensures played { self.new ≡ played (to - self.old.time) self.old }
         ensures parts { length self.new.components.parts ≡ length self.old.components.parts }
+        ensures wires { self.new.components.wires ≡ self.old.components.wires }
         ensures run { (inputs : Inputs) → IsNetworkOf inputs self.old
             → IsNetworkOf inputs self.new }
     {
@@ -194,6 +196,7 @@ impl RoutedNetwork {
         requires still { IsStill self.old }
         ensures steps { self.new ≡ stepped self.old }
         ensures parts { length self.new.components.parts ≡ length self.old.components.parts }
+        ensures wires { self.new.components.wires ≡ self.old.components.wires }
     {
         aeth_running::laws::networks_rest();
         let rows = self.given.rows(self.cursors, self.time);
@@ -210,6 +213,7 @@ impl RoutedNetwork {
         requires still { AreStill (to - self.old.time) self.old }
         ensures played { self.new ≡ played (to - self.old.time) self.old }
         ensures parts { length self.new.components.parts ≡ length self.old.components.parts }
+        ensures wires { self.new.components.wires ≡ self.old.components.wires }
     {
         aeth_running::laws::networks_rest();
         let first = self.cursors.take;
@@ -249,15 +253,58 @@ pub fn simulate(network: &mut RoutedNetwork, order: &Order)
     ensures run { (inputs : Inputs) → IsNetworkOf inputs network.old
         → IsNetworkOf inputs network.new × (network.new.time ≡ inputs.cycles) }
 {
+    simulate_from::<Brand>(network, order, Blank::new(1));
+}
+
+/// The same, which counts the steps of components. They are at most four for each flit on a wire behind
+/// each of these cycles, and two for each flit on a wire before them.
+pub fn simulate_counted<L: Ledger>(
+    network: &mut RoutedNetwork,
+    order: &Order,
+    steps: &mut Steps<L>,
+)
+    requires { length order.now ≡ length network.old.components.parts }
+    ensures played { network.new
+        ≡ played (network.old.log.cycles - network.old.time) network.old }
+    ensures parts { length network.new.components.parts
+        ≡ length network.old.components.parts }
+    ensures run { (inputs : Inputs) → IsNetworkOf inputs network.old
+        → IsNetworkOf inputs network.new × (network.new.time ≡ inputs.cycles) }
+    ensures counted { steps.new ≤ steps.old
+        + 4 * carried_in (network.old.log.cycles - network.old.time) network.old
+        + 2 * flits_on network.old.components.wires }
+{
     let mut next = network.next_busy();
     'cycles: while next < network.cycles() {
-        next = advance(network, order, next);
+        next = advance(network, order, steps, next);
     }
     network.skip(next);
 }
 
+// Plays them with a counter of its own.
+fn simulate_from<L: Ledger>(network: &mut RoutedNetwork, order: &Order, blank: Blank)
+    requires name { blank.name ≡ L.name }
+    requires ledger { blank.parts ≡ L.parts }
+    requires one { L.parts ≡ 1 }
+    requires order { length order.now ≡ length network.old.components.parts }
+    ensures played { network.new
+        ≡ played (network.old.log.cycles - network.old.time) network.old }
+    ensures parts { length network.new.components.parts
+        ≡ length network.old.components.parts }
+    ensures run { (inputs : Inputs) → IsNetworkOf inputs network.old
+        → IsNetworkOf inputs network.new × (network.new.time ≡ inputs.cycles) }
+{
+    let mut steps = Steps::<L>::open(blank);
+    simulate_counted(network, order, &mut steps);
+}
+
 // Passes over the cycles before the next busy one, does it, and tells the one that comes next.
-fn advance(network: &mut RoutedNetwork, order: &Order, next: u32) -> u32
+fn advance<L: Ledger>(
+    network: &mut RoutedNetwork,
+    order: &Order,
+    steps: &mut Steps<L>,
+    next: u32,
+) -> u32
     requires order { length order.now ≡ length network.old.components.parts }
     requires next { IsNextBusy network.old next }
     requires within { next < network.old.log.cycles }
@@ -266,9 +313,12 @@ fn advance(network: &mut RoutedNetwork, order: &Order, next: u32) -> u32
     ensures played { network.new ≡ played (next + 1 - network.old.time) network.old }
     ensures parts { length network.new.components.parts
         ≡ length network.old.components.parts }
+    ensures counted { steps.new + 2 * flits_on network.new.components.wires
+        ≤ steps.old + 2 * flits_on network.old.components.wires
+        + 4 * carried_in (next + 1 - network.old.time) network.old }
 {
     network.skip(next);
-    network.cycle(order);
+    network.cycle_counted(order, steps);
     network.next_busy()
 }
 

@@ -4,7 +4,7 @@ use Rattle.aeth_running.specs.Network.{NetworkState, stepped}
 use Rattle.aeth_running.specs.Still.{IsStill}
 use Rattle.aeth_network.specs.Cursors.{stimuli_with}
 use Rattle.aeth_network.proofs.Cycling.{can-bring, in-order}
-use Rattle.aeth_network.proofs.Skipping.{brought-is, brought-network, brought-of}
+use Rattle.aeth_network.proofs.Skipped.{brought-is, brought-network, brought-of}
 use Rattle.aeth_network.proofs.network.RoutedNetwork.begin.Goals as goal
 
 -- What is given comes in order.
@@ -43,6 +43,12 @@ pub returns-clause-parts : goal.returns-clause-parts
 returns-clause-parts c =
     ap (λ (all : ComponentsState). length all.parts) c.bring.ensures.components
     ∙ ap (λ (all : NetworkState). length all.components.parts) c.self.view_is
+
+-- No wire changes.
+pub returns-clause-wires : goal.returns-clause-wires
+returns-clause-wires c =
+    ap (λ (all : ComponentsState). all.wires) c.bring.ensures.components
+    ∙ ap (λ (all : NetworkState). all.components.wires) c.self.view_is
 
 -- What holds of networks holds behind it.
 pub invariant_of-self : goal.invariant_of-self

@@ -11,8 +11,8 @@ use Rattle.aeth_network.specs.Cursors.{stimuli_with}
 use Rattle.aeth_network.specs.Networks.{IsNetwork, network_of}
 use Rattle.aeth_network.specs.Runs.{IsNetworkOf}
 use Rattle.aeth_network.proofs.Cycling.{in-order}
-use Rattle.aeth_network.proofs.Skipping.{place-rises, rests-behind, rests-cursors, rests-network}
-use Rattle.aeth_network.proofs.Skipping.{rests-of}
+use Rattle.aeth_network.proofs.Skipped.{place-rises, rests-behind, rests-cursors, rests-network}
+use Rattle.aeth_network.proofs.Skipped.{rests-of}
 use Rattle.aeth_network.proofs.network.RoutedNetwork.rest.Goals as goal
 
 -- The rows come in order, and those before this cycle lie before the other one.
@@ -78,6 +78,12 @@ pub returns-clause-parts : goal.returns-clause-parts
 returns-clause-parts c =
     ap (λ (all : ComponentsState). length all.parts) c.take.ensures
     ∙ ap (λ (all : NetworkState). length all.components.parts) c.self.view_is
+
+-- No wire changes.
+pub returns-clause-wires : goal.returns-clause-wires
+returns-clause-wires c =
+    ap (λ (all : ComponentsState). all.wires) c.take.ensures
+    ∙ ap (λ (all : NetworkState). all.components.wires) c.self.view_is
 
 -- What holds of networks holds of it.
 pub invariant_of-self : goal.invariant_of-self

@@ -1,7 +1,7 @@
 use Rattle.std.proofs.Common.{◌≡◌, ◌≤◌, ◌<◌, ◌-◌, ◌∙◌, ap, arith, length}
 use Rattle.aeth_running.specs.Network.{NetworkState}
-use Rattle.aeth_network.proofs.Skipping.{IsBegun, begun-first, begun-later, skipped-of}
-use Rattle.aeth_network.proofs.Skipping.{still-nothing}
+use Rattle.aeth_network.proofs.Skipped.{IsBegun, begun-first, begun-later, skipped-of}
+use Rattle.aeth_network.proofs.Skipped.{still-nothing}
 use Rattle.aeth_network.proofs.network.RoutedNetwork.skip.Goals.{else-self-eq0}
 use Rattle.aeth_network.proofs.network.RoutedNetwork.skip.Goals.{then-self-eq0+then-to-gt0}
 use Rattle.aeth_network.proofs.network.RoutedNetwork.skip.Goals.{else-self-eq0-via-else-self-eq0}
@@ -75,6 +75,16 @@ returns-clause-parts c = elim c.if-self-eq0.branch [
       ∙ w.begin.ensures.parts
   | else-self-eq0 w ↦
       c.rest.ensures.parts ∙ ap (λ (all : NetworkState). length all.components.parts) w.self-is
+]
+
+-- No wire changes.
+pub returns-clause-wires : goal.returns-clause-wires
+returns-clause-wires c = elim c.if-self-eq0.branch [
+  | then-self-eq0+then-to-gt0 w ↦
+      c.rest.ensures.wires ∙ ap (λ (all : NetworkState). all.components.wires) w.self-is
+      ∙ w.begin.ensures.wires
+  | else-self-eq0 w ↦
+      c.rest.ensures.wires ∙ ap (λ (all : NetworkState). all.components.wires) w.self-is
 ]
 
 -- A network of accepted inputs stays theirs.

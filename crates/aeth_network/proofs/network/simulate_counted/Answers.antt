@@ -1,12 +1,15 @@
-use Rattle.std.proofs.Common.{◌≡◌, ◌≤◌, ◌∙◌, ◌<◌, ◌+◌, ◌-◌, ap, arith, refl, sym}
+use Rattle.std.proofs.Common.{◌≡◌, ◌≤◌, ◌∙◌, ◌<◌, ◌+◌, ◌-◌, ◌*◌, ap, arith, refl, subst, sym}
+use Rattle.aeth_components.specs.Turns.{flits_on}
 use Rattle.aeth_running.specs.Network.{played}
+use Rattle.aeth_network.specs.Carried.{carried_in}
 use Rattle.aeth_network.proofs.Playing.{done-of, played-none}
-use Rattle.aeth_network.proofs.Skipping.{played-further, skipped-cycles}
-use Rattle.aeth_network.proofs.network.simulate.Goals as goal
+use Rattle.aeth_network.proofs.CarriedLemmas.{counts-end, counts-further}
+use Rattle.aeth_network.proofs.Skipped.{played-further, skipped-cycles}
+use Rattle.aeth_network.proofs.network.simulate_counted.Goals as goal
 
 -- None is played yet.
 pub cycles-init : goal.cycles-init
-cycles-init c =
+cycles-init g c =
     let none = played-none (c.args.network.now.time - c.args.network.now.time) c.args.network.now
     (omega arith) in
     record {
@@ -15,11 +18,12 @@ cycles-init c =
       cycles = refl;
       parts = refl;
       next = c.next_busy-next.ensures;
+      counted = omega arith;
     }
 
 -- The cycles up to the next busy one, and it, are played.
 pub cycles-preserved : goal.cycles-preserved
-cycles-preserved c =
+cycles-preserved g c =
     let first = c.args.network.now in
     let old = c.cycles.network in
     let new = c.advance-next.new.network in
@@ -36,11 +40,17 @@ cycles-preserved c =
       cycles = skipped-cycles old new _ did.played ∙ c.cycles.invariant.cycles;
       parts = did.parts ∙ c.cycles.invariant.parts;
       next = did.next;
+      counted = subst (λ n. c.advance-next.new.steps + 2 * flits_on new.components.wires
+          ≤ c.args.steps.now + 2 * flits_on first.components.wires
+          + 4 * carried_in (n - first.time) first) end
+          (counts-further first old (c.cycles.next + 1) c.args.steps.now
+          (flits_on new.components.wires) c.cycles.steps c.advance-next.new.steps least
+          (omega arith) c.cycles.invariant.is c.cycles.invariant.counted did.counted);
     }
 
 -- Fewer cycles are left.
 pub cycles-smaller : goal.cycles-smaller
-cycles-smaller c =
+cycles-smaller g c =
     let old = c.cycles.network in
     let new = c.advance-next.new.network in
     let did = c.advance-next.ensures in
@@ -54,17 +64,17 @@ cycles-smaller c =
 
 -- Then none before the end is busy.
 pub skip-requires-clause-from : goal.skip-requires-clause-from
-skip-requires-clause-from c = c.cycles.invariant.next.from
+skip-requires-clause-from g c = c.cycles.invariant.next.from
 
 pub skip-requires-clause-to : goal.skip-requires-clause-to
-skip-requires-clause-to c = c.cycles.invariant.next.to
+skip-requires-clause-to g c = c.cycles.invariant.next.to
 
 pub skip-requires-clause-still : goal.skip-requires-clause-still
-skip-requires-clause-still c = c.cycles.invariant.next.still
+skip-requires-clause-still g c = c.cycles.invariant.next.still
 
 -- All are played.
 pub returns-clause-played : goal.returns-clause-played
-returns-clause-played c =
+returns-clause-played g c =
     let first = c.args.network.now in
     let same = c.cycles.invariant.cycles in
     let most = c.cycles.invariant.next.to in
@@ -76,9 +86,22 @@ returns-clause-played c =
     ∙ ap (λ n. played (n - first.time) first) end
 
 pub returns-clause-parts : goal.returns-clause-parts
-returns-clause-parts c = c.skip.ensures.parts ∙ c.cycles.invariant.parts
+returns-clause-parts g c = c.skip.ensures.parts ∙ c.cycles.invariant.parts
 
 -- A network of accepted inputs stays theirs, and all their cycles are done.
 pub returns-clause-run : goal.returns-clause-run
-returns-clause-run c = λ inputs is.
-    done-of inputs c.args.network.now c.skip.new.self (returns-clause-played c) is
+returns-clause-run g c = λ inputs is.
+    done-of inputs c.args.network.now c.skip.new.self (returns-clause-played g c) is
+
+-- So many steps.
+pub returns-clause-counted : goal.returns-clause-counted
+returns-clause-counted g c =
+    let first = c.args.network.now in
+    let same = c.cycles.invariant.cycles in
+    let most = c.cycles.invariant.next.to in
+    let from = c.cycles.invariant.next.from in
+    let late = c.cycles-test.false in
+    let now = c.cycles-in-cycles.ensures in
+    let end : c.cycles.next ≡ first.log.cycles = omega arith in
+    counts-end first c.cycles.network first.log.cycles c.args.steps.now c.cycles.steps
+    c.cycles.invariant.least (omega arith) c.cycles.invariant.counted

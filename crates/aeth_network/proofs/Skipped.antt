@@ -1,0 +1,223 @@
+-- Networks behind cycles that were passed over.
+use Rattle.std.proofs.Common.{◌≡◌, ◌≤◌, ◌<◌, ◌+◌, ◌-◌, ◌∙◌, ℕ, List, ap, arith}
+use Rattle.std.proofs.Common.{fold, refl, subst, sym, take}
+use Rattle.std.specs.Prelude.{slice_range, vec_capacity}
+use Rattle.aeth_components.specs.Components.{ComponentsState}
+use Rattle.aeth_stimuli.specs.Stimuli.{Stimuli, Take}
+use Rattle.aeth_events.specs.Events.{events_in}
+use Rattle.aeth_running.specs.Network.{NetworkState, goings_in, offers_in, played}
+use Rattle.aeth_running.specs.Network.{stepped, takes_in, taking_with}
+use Rattle.aeth_accepted.specs.Inputs.{Inputs}
+use Rattle.aeth_running.proofs.Played.{stepped-log, stepped-time}
+use Rattle.aeth_running.specs.Network.{first_network}
+use Rattle.aeth_running.specs.Quiet.{AreStill, brought_over, rested}
+use Rattle.aeth_running.specs.Still.{IsStill}
+use Rattle.aeth_network.specs.Behind.{passed}
+use Rattle.aeth_network.specs.Cursors.{AreCursors}
+use Rattle.aeth_network.specs.Brought.{IsBrought}
+use Rattle.aeth_network.specs.Networks.{IsNetwork, network_of}
+use Rattle.aeth_network.specs.declared.given.CycleRows.{CycleRows}
+use Rattle.aeth_network.specs.declared.given.Cursors.{Cursors}
+use Rattle.aeth_network.specs.declared.state.State.{State}
+use Rattle.aeth_report.specs.Log.{LogData}
+use Rattle.aeth_network.proofs.Cycling.{IsNetwork-more, in-order, over}
+use Rattle.aeth_network.specs.Runs.{IsNetworkOf}
+use Rattle.aeth_network.proofs.NextBusy.{played-sum}
+use Rattle.aeth_network.proofs.Playing.{cycles-of, many-of, played-log, played-more, played-none}
+use Rattle.aeth_network.proofs.Playing.{played-time, still-of}
+use Rattle.aeth_network.proofs.RestingLanes.{passed-rises}
+use Rattle.aeth_network.proofs.Skipping.{IsNetwork-stepped, IsNetwork-played, rested-is}
+use Rattle.aeth_network.proofs.Skipping.{cursors-behind, over-stepped, rests-as}
+
+-- What the laws of resting say of the network of inputs.
+abbrev RestsOnce : Inputs → Type 0
+RestsOnce inputs = (t : ℕ) → t < inputs.cycles → IsStill (played t (first_network inputs))
+    → played (t + 1) (first_network inputs) ≡ brought_over (played t (first_network inputs))
+
+abbrev RestsLater : Inputs → Type 0
+RestsLater inputs = (t k : ℕ) → t + k ≤ inputs.cycles → 0 < t
+    → ((j : ℕ) → j < k → IsStill (played (t + j) (first_network inputs)))
+    → played (t + k) (first_network inputs) ≡ rested k (played t (first_network inputs))
+
+-- A cycle that leaves a network, once it is brought.
+module _ (inputs : Inputs) (stimuli : Stimuli) (state : State) (log : LogData) (time : ℕ)
+    (is : IsNetwork (vec_capacity state.replaced) (network_of stimuli state log time))
+    (of : IsNetworkOf inputs (network_of stimuli state log time)) (one : RestsOnce inputs)
+    (still : IsStill (network_of stimuli state log time)) (early : time < log.cycles)
+    (rows : CycleRows) (goings : rows.goings.now ≡ goings_in stimuli time)
+    (offers : rows.offers.now ≡ offers_in stimuli time)
+    (takes : rows.takes.now ≡ takes_in stimuli time) (brought : State)
+    (has : IsBrought rows time state brought) (events : rows.events.now ≡ events_in stimuli time)
+  where
+    abbrev unplayed : NetworkState
+    unplayed = network_of stimuli state log time
+
+    abbrev brought_now : NetworkState
+    brought_now = network_of stimuli brought log (time + 1)
+
+    pub brought-is : brought_now ≡ stepped unplayed
+    brought-is =
+        over stimuli state log time is rows goings offers takes brought has events
+        ∙ sym (over-stepped inputs unplayed of one still early)
+
+    pub brought-network : IsNetwork (vec_capacity brought.replaced) brought_now
+    brought-network =
+        subst (IsNetwork (vec_capacity brought.replaced)) (sym brought-is)
+        (IsNetwork-more (vec_capacity state.replaced) (vec_capacity brought.replaced)
+        (stepped unplayed) has.capacity
+        (IsNetwork-stepped (vec_capacity state.replaced) unplayed is))
+
+    pub brought-of : IsNetworkOf inputs brought_now
+    brought-of = still-of inputs unplayed brought_now of early brought-is
+
+-- As many rows lie before a cycle, or more.
+pub place-rises : (takes rows : List Take) → rows ≡ takes → (place time to : ℕ)
+    → place ≡ passed (λ one. one.cycle) time takes → time ≤ to
+    → place ≤ passed (λ one. one.cycle) to rows
+place-rises takes rows are place time to is le =
+    let key = λ (one : Take). one.cycle in
+    let more = passed-rises key time (to - time) takes in
+    let end : time + (to - time) ≡ to = omega arith in
+    let later = ap (λ n. passed key n takes) end in
+    let same = ap (passed key to) are in
+    omega (arith, more, later, same, is)
+
+-- A network behind later cycles that left it, up to one.
+module _ (inputs : Inputs) (capacity : ℕ) (old : NetworkState) (is : IsNetwork capacity old)
+    (of : IsNetworkOf inputs old) (later : RestsLater inputs) (to : ℕ) (from : old.time ≤ to)
+    (within : to ≤ old.log.cycles) (late : 0 < to → 0 < old.time)
+    (still : AreStill (to - old.time) old) where
+  end-is : old.time + (to - old.time) ≡ to
+  end-is = omega arith
+
+  some-late : 0 < to - old.time → 0 < old.time
+  some-late some = late (omega arith)
+
+  rests-is : played (to - old.time) old ≡ record old {
+    components = record old.components {
+      lanes = fold taking_with old.components.lanes (slice_range old.stimuli.takes
+          (passed (λ one. one.cycle) old.time old.stimuli.takes)
+          (passed (λ one. one.cycle) to old.stimuli.takes));
+    };
+    time = to;
+  }
+  rests-is =
+      rests-as inputs old of later (to - old.time) still some-late (omega (arith, end-is, within))
+      ∙ rested-is old is.stimuli.take_order (to - old.time)
+      ∙ ap (λ n.
+      let one : NetworkState = record old {
+        components = record old.components {
+          lanes = fold taking_with old.components.lanes (slice_range old.stimuli.takes
+              (passed (λ one. one.cycle) old.time old.stimuli.takes)
+              (passed (λ one. one.cycle) n old.stimuli.takes));
+        };
+        time = n;
+      } in
+      one) end-is
+
+  pub rests-behind : (components : ComponentsState) (rows : List Take) (first last : ℕ)
+      → rows ≡ old.stimuli.takes → first ≡ passed (λ one. one.cycle) old.time old.stimuli.takes
+      → last ≡ passed (λ one. one.cycle) to old.stimuli.takes
+      → components ≡ record old.components {
+        lanes = fold taking_with old.components.lanes (slice_range rows first last);
+      }
+      → record old { components = components; time = to } ≡ played (to - old.time) old
+  rests-behind components rows first last rows_are first_is last_is are =
+      rw (are, rows_are, first_is, last_is) (sym rests-is)
+
+  pub rests-network : IsNetwork capacity (played (to - old.time) old)
+  rests-network = IsNetwork-played capacity (to - old.time) old is
+
+  pub rests-of : IsNetworkOf inputs (played (to - old.time) old)
+  rests-of =
+      let cycles = cycles-of inputs old of in
+      many-of inputs old (to - old.time) of (omega (arith, cycles, end-is, within))
+
+  pub rests-cursors : (cursors : Cursors) (last : ℕ) → AreCursors cursors old.time old.stimuli
+      → last ≡ passed (λ one. one.cycle) to old.stimuli.takes
+      → AreCursors (record cursors { take = last }) to old.stimuli
+  rests-cursors cursors last at last_is =
+      subst (λ n. AreCursors (record cursors { take = last }) n old.stimuli) end-is
+      (cursors-behind old (in-order capacity old is) (to - old.time) still some-late cursors last at
+      (last_is ∙ ap (λ n. passed (λ (one : Take). one.cycle) n old.stimuli.takes) (sym end-is)))
+
+-- A network that has passed over cycle 0, if it was there.
+pub record IsBegun (old now : NetworkState) (to : ℕ) : Type 0 where
+  pub from : now.time ≤ to
+  pub within : to ≤ now.log.cycles
+  pub late : 0 < to → 0 < now.time
+  pub still : AreStill (to - now.time) now
+  pub played_is : played (to - now.time) now ≡ played (to - old.time) old
+
+pub begun-later : (old now : NetworkState) (to : ℕ) → now ≡ old → (0 < to → 0 < old.time)
+    → old.time ≤ to → to ≤ old.log.cycles → AreStill (to - old.time) old → IsBegun old now to
+begun-later old now to is late from within still =
+    subst (λ (one : NetworkState). IsBegun old one to) (sym is) (record {
+      from = from;
+      within = within;
+      late = late;
+      still = still;
+      played_is = refl;
+    })
+
+pub begun-first : (old now : NetworkState) (to : ℕ) → now ≡ stepped old → old.time ≡ 0 → 0 < to
+    → to ≤ old.log.cycles → AreStill (to - old.time) old → IsBegun old now to
+begun-first old now to is start some within still =
+    let one : now ≡ played 1 old =
+    is ∙ ap stepped (sym (played-none 0 old refl)) ∙ played-more 0 1 old (omega arith) in
+    let time : now.time ≡ old.time + 1 =
+    ap (λ (all : NetworkState). all.time) is ∙ stepped-time old in
+    let cycles : now.log.cycles ≡ old.log.cycles =
+    ap (λ (all : NetworkState). all.log.cycles) is
+    ∙ ap (λ (log : LogData). log.cycles) (stepped-log old) in
+    let left : 1 + (to - now.time) ≡ to - old.time = omega arith in
+    record {
+      from = omega arith;
+      within = omega arith;
+      late = λ any. omega arith;
+      still = λ j less. subst IsStill (sym (ap (played j) one ∙ played-sum j 1 old))
+          (still (1 + j) (omega arith));
+      played_is = ap (played (to - now.time)) one ∙ played-sum (to - now.time) 1 old
+          ∙ ap (λ n. played n old) left;
+    }
+
+-- What a network is before any cycle, and whose it is behind so many.
+pub still-nothing : (old : NetworkState) → IsStill (played 0 old) → IsStill old
+still-nothing old still = subst IsStill (played-none 0 old refl) still
+
+pub skipped-of : (inputs : Inputs) (old now : NetworkState) (to : ℕ) → old.time ≤ to
+    → to ≤ old.log.cycles → now ≡ played (to - old.time) old → IsNetworkOf inputs old
+    → IsNetworkOf inputs now
+skipped-of inputs old now to from within is of =
+    let cycles = cycles-of inputs old of in
+    subst (IsNetworkOf inputs) (sym is) (many-of inputs old (to - old.time) of (omega arith))
+
+-- So many cycles later so many are done, of as many.
+pub skipped-time : (old now : NetworkState) (to : ℕ) → old.time ≤ to
+    → now ≡ played (to - old.time) old → now.time ≡ to
+skipped-time old now to from is =
+    let time = ap (λ (all : NetworkState). all.time) is ∙ played-time (to - old.time) old in
+    omega arith
+
+pub skipped-cycles : (old now : NetworkState) (k : ℕ) → now ≡ played k old
+    → now.log.cycles ≡ old.log.cycles
+skipped-cycles old now k is =
+    ap (λ (all : NetworkState). all.log.cycles) is
+    ∙ ap (λ (log : LogData). log.cycles) (played-log k old)
+
+-- One cycle behind those that were passed over.
+pub played-behind : (old now new : NetworkState) (to : ℕ) → old.time ≤ to
+    → now ≡ played (to - old.time) old → new ≡ stepped now → new ≡ played (to + 1 - old.time) old
+played-behind old now new to from is steps =
+    steps ∙ ap stepped is
+    ∙ played-more (to - old.time) (to + 1 - old.time) old (omega arith)
+
+-- Cycles behind those that were played.
+pub played-further : (first old new : NetworkState) (to : ℕ) → first.time ≤ old.time → old.time ≤ to
+    → old ≡ played (old.time - first.time) first → new ≡ played (to - old.time) old
+    → new ≡ played (to - first.time) first
+played-further first old new to least from before is =
+    let whole : (old.time - first.time) + (to - old.time) ≡ to - first.time = omega arith in
+    is ∙ ap (played (to - old.time)) before
+    ∙ played-sum (to - old.time) (old.time - first.time) first
+    ∙ ap (λ n. played n first) whole
