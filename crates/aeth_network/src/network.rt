@@ -258,11 +258,7 @@ pub fn simulate(network: &mut RoutedNetwork, order: &Order)
 
 /// The same, which counts the steps of components. They are at most four for each flit on a wire behind
 /// each of these cycles, and two for each flit on a wire before them.
-pub fn simulate_counted<L: Ledger>(
-    network: &mut RoutedNetwork,
-    order: &Order,
-    steps: &mut Steps<L>,
-)
+pub fn simulate_counted<L: Ledger>(network: &mut RoutedNetwork, order: &Order, steps: &mut Steps<L>)
     requires { length order.now ≡ length network.old.components.parts }
     ensures played { network.new
         ≡ played (network.old.log.cycles - network.old.time) network.old }
