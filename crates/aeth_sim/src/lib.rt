@@ -4,4 +4,4 @@
 mod machine;
 mod network;
 
-pub use network::{Network, simulate};
+pub use network::{Network, simulate, simulate_counted};

@@ -6,8 +6,9 @@ ghost use Rattle.aeth_components.specs.Turns.{flits_on};
 ghost use Rattle.aeth_report.specs.RunLog.{log_of};
 ghost use Rattle.aeth_accepted.specs.Inputs.{AreAccepted, Inputs, run_of};
 ghost use Rattle.aeth_running.specs.Network.{first_network, played, stepped};
-ghost use Rattle.aeth_running.specs.Quiet.{IsNextBusy};
+ghost use Rattle.aeth_running.specs.Quiet.{AreStill, IsNextBusy};
 ghost use Rattle.aeth_running.specs.Told.{told};
+ghost use Rattle.aeth_network.specs.Carried.{carried_in};
 ghost use Rattle.aeth_network.specs.Runs.{AreWiresOf, IsNetworkOf};
 
 use aeth_accepted::RunInputs;
@@ -158,6 +159,20 @@ impl Network {
         self.routed.next_busy()
     }
 
+    /// Passes over cycles that leave the network as it is, up to this one: only the rows of receivers
+    /// count, and the sessions that go in cycle 0.
+    pub fn skip(&mut self, to: u32)
+        requires from { self.old.time ≤ to }
+        requires to { to ≤ self.old.log.cycles }
+        requires still { AreStill (to - self.old.time) self.old }
+        ensures played { self.new ≡ played (to - self.old.time) self.old }
+        ensures parts { length self.new.components.parts ≡ length self.old.components.parts }
+        ensures run { (inputs : Inputs) → IsNetworkOf inputs self.old
+            → IsNetworkOf inputs self.new }
+    {
+        self.routed.skip(to);
+    }
+
     /// The log of the cycles that are done. Of a network of accepted inputs that has done all their
     /// cycles it is the log of their run.
     pub fn log(self) -> SimLog
@@ -180,4 +195,21 @@ pub fn simulate(network: &mut Network, order: &Order)
         → IsNetworkOf inputs network.new × (network.new.time ≡ inputs.cycles) }
 {
     aeth_network::simulate(&mut network.routed, order);
+}
+
+/// The same, which counts the steps of components. They are at most four for each flit on a wire behind
+/// each of these cycles, and two for each flit on a wire before them.
+pub fn simulate_counted<L: Ledger>(network: &mut Network, order: &Order, steps: &mut Steps<L>)
+    requires { length order.now ≡ length network.old.components.parts }
+    ensures played { network.new
+        ≡ played (network.old.log.cycles - network.old.time) network.old }
+    ensures parts { length network.new.components.parts
+        ≡ length network.old.components.parts }
+    ensures run { (inputs : Inputs) → IsNetworkOf inputs network.old
+        → IsNetworkOf inputs network.new × (network.new.time ≡ inputs.cycles) }
+    ensures counted { steps.new ≤ steps.old
+        + 4 * carried_in (network.old.log.cycles - network.old.time) network.old
+        + 2 * flits_on network.old.components.wires }
+{
+    aeth_network::simulate_counted(&mut network.routed, order, steps);
 }
