@@ -46,25 +46,31 @@ def kind_of(process):
     return name[1], "tests" if "\0--test\0" in words + "\0" else "own"
 
 
-def seconds_of(process):
-    """The processor seconds that a process took, and when it began, which tells it from a later one of its number."""
-    fields = text_of(process / "stat").rpartition(")")[2].split()
-    return (int(fields[11]) + int(fields[12])) / TICKS, fields[19]
-
-
-def sample(taken, kinds):
+def processes():
+    """For each process by its number the fields of its state, from the number of its parent on."""
+    found = {}
     for process in pathlib.Path("/proc").iterdir():
-        if not process.name.isdigit():
-            continue
-        try:
-            seconds, began = seconds_of(process)
-        except (IndexError, ValueError):
-            continue
-        key = process.name, began
+        fields = text_of(process / "stat").rpartition(")")[2].split() if process.name.isdigit() else []
+        if len(fields) > 19:
+            found[process.name] = fields[1:]
+    return found
+
+
+def is_below(number, top, found):
+    while number in found and number != top:
+        number = found[number][0]
+    return number == top
+
+
+def sample(top, taken, kinds):
+    """Notes the processor seconds of each prover below a process. When it began tells it from a later one of its number."""
+    found = processes()
+    for number, fields in found.items():
+        key = number, fields[18]
         if key not in kinds:
-            kinds[key] = kind_of(process)
+            kinds[key] = kind_of(pathlib.Path("/proc") / number) if is_below(number, top, found) else None
         if kinds[key]:
-            taken[key] = seconds
+            taken[key] = (int(fields[10]) + int(fields[11])) / TICKS
 
 
 def table_of(taken, kinds):
@@ -91,7 +97,7 @@ def main(words):
     taken, kinds, began = {}, {}, time.monotonic()
     run = subprocess.Popen(words or ["rt", "ci"], stdin=subprocess.DEVNULL, stdout=sys.stderr)
     while run.poll() is None:
-        sample(taken, kinds)
+        sample(str(run.pid), taken, kinds)
         time.sleep(0.5)
     used = resource.getrusage(resource.RUSAGE_CHILDREN)
     show(table_of(taken, kinds), used.ru_utime + used.ru_stime, time.monotonic() - began)
