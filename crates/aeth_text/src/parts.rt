@@ -2,8 +2,6 @@
 ghost use Rattle.std.specs.Prelude.{◌≡◌, ◌<◌, ◌∷◌, [], length, IfSome, IfNone, MatchOption};
 ghost use Rattle.aeth_text.specs.Grammar.{lines_of, parts, rest_of, words_left};
 
-use memchr::memchr;
-
 /// The first part, and the text behind its separator. `None` where no separator is left.
 fn cut(text: &[u8], separator: u8) -> Option<(&[u8], &[u8])>
     ensures some { IfSome result (λ p. parts separator text.now
@@ -11,10 +9,12 @@ fn cut(text: &[u8], separator: u8) -> Option<(&[u8], &[u8])>
     ensures shorter { IfSome result (λ p. length p.1.now < length text.now) }
     ensures none { IfNone result (parts separator text.now ≡ text.now ∷ []) }
 {
-    match memchr(separator, text) {
-        Some(place) => Some((&text[..place], &text[place + 1..])),
-        None => None,
+    for place in 0..text.len() {
+        if text[place] == separator {
+            return Some((&text[..place], &text[place + 1..]));
+        }
     }
+    None
 }
 
 /// The first of the words that are left, and what is left after it.
