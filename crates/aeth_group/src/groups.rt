@@ -129,7 +129,7 @@ impl Groups {
         ensures { result ≡ has_unit self.now unit u.0 }
     {
         match self.uses.get(u.0 as usize) {
-            Some(one) => one.has(unit.conn) && one.group == unit.group.0,
+            Some(one) => one.group == unit.group.0 && one.has(unit.conn),
             None => false,
         }
     }
