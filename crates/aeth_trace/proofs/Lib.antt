@@ -1,5 +1,6 @@
 mod Steps
 mod Lefts
+mod FoundLemmas
 pub mod RowLemmas
 pub mod ToldLemmas
 pub mod FileLemmas

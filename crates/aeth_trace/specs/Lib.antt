@@ -3,6 +3,7 @@ pub mod Fault
 pub mod Left
 pub mod Records
 pub mod Fields
+pub mod Found
 pub mod Rules
 pub mod Channels
 pub mod Words

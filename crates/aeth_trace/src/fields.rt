@@ -3,9 +3,11 @@ ghost use Rattle.std.specs.Prelude.{◌≡◌, ◌≤◌, codes, length, map, op
 ghost use Rattle.csv.specs.Records.{fields_of};
 ghost use Rattle.aeth_trace.specs.Fields.{all_four, channel_in, four_of, heads_channels, named};
 ghost use Rattle.aeth_trace.specs.Fields.{number_to, three_of, three_with};
+ghost use Rattle.aeth_trace.specs.Found.{AreFound};
 ghost use Rattle.aeth_trace.specs.Switches.{use_names};
 ghost use Rattle.aeth_trace.specs.Words.{connection_names};
 
+use crate::found::{Found, connection_named};
 use aeth_app::App;
 use aeth_base::{Channel, ConnId, MAX_CYCLES, Name, read_number};
 use aeth_text::side_in;
@@ -82,19 +84,6 @@ pub fn number_to(most: u32, text: &[u8]) -> Option<u32>
     }
 }
 
-// The number of the connection of this name; the number of connections, where none has it.
-pub(crate) fn connection_named(app: &App, text: &[u8]) -> u32
-    ensures { result ≡ named (connection_names app.now) text.now }
-{
-    match Name::new(text) {
-        None => app.connections(),
-        Some(name) => match app.find_connection(&name) {
-            None => app.connections(),
-            Some(connection) => connection.0,
-        },
-    }
-}
-
 // The number of the use case of this name; the number of use cases, where none has it.
 pub(crate) fn use_named(app: &App, text: &[u8]) -> u32
     ensures { result ≡ named (use_names app.now) text.now }
@@ -124,13 +113,21 @@ pub(crate) fn heads_channels(fields: &ByteRecord, last: &[u8]) -> bool
 }
 
 // The channel, the cycle and the number, at most so great, of a row of four fields.
-pub(crate) fn channel_in(app: &App, fields: &ByteRecord, most: u32) -> Option<(Channel, u32, u32)>
-    ensures { result ≡ channel_in (connection_names app.now) most (four_of (fields_of fields.now)) }
+pub(crate) fn channel_in(
+    app: &App,
+    found: &mut [Option<Found>],
+    fields: &ByteRecord,
+    most: u32,
+) -> Option<(Channel, u32, u32)>
+    requires { AreFound (connection_names app.now) found.old }
+    ensures channel { result
+        ≡ channel_in (connection_names app.now) most (four_of (fields_of fields.now)) }
+    ensures found { AreFound (connection_names app.now) found.new }
 {
     match four_of(fields) {
         None => None,
         Some((connection, side, cycle, number)) => {
-            let conn = ConnId(connection_named(app, connection));
+            let conn = ConnId(connection_named(app, found, connection));
             match (
                 side_in(side),
                 number_to(MAX_CYCLES, cycle),

@@ -4,6 +4,7 @@
 mod by_channel;
 mod fault;
 mod fields;
+mod found;
 mod judging;
 pub mod laws;
 mod receivers;

@@ -8,6 +8,7 @@ ghost use Rattle.aeth_trace.specs.Receivers.{pull_of, pulls_on, pulls_until, rec
 use crate::by_channel::ByChannel;
 use crate::fault::TraceFault;
 use crate::fields::{channel_in, heads_channels};
+use crate::found::Found;
 use crate::judging::{judge_count, judge_known, judge_order};
 use crate::row::{OnChannel, Row};
 use crate::table::read_table;
@@ -48,8 +49,8 @@ impl Row for PullRow {
         heads_channels(fields, b"pull")
     }
 
-    fn tell(app: &App, fields: &ByteRecord) -> Option<PullRow> {
-        match channel_in(app, fields, MAX_PULL) {
+    fn tell(app: &App, found: &mut [Option<Found>], fields: &ByteRecord) -> Option<PullRow> {
+        match channel_in(app, found, fields, MAX_PULL) {
             None => None,
             Some((channel, cycle, pull)) => Some(PullRow {
                 channel,

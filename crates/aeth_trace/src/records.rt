@@ -7,6 +7,9 @@ ghost use Rattle.aeth_trace.specs.Records.{records_of};
 use csv::{ByteRecord, ErrorKind, Reader, ReaderBuilder};
 use std::alloc::{AllocError, Global};
 
+// How many bytes a short row has.
+const SHORT_ROW: usize = 10;
+
 /// A reader of all records of a file's bytes, the header among them. It takes records of any number
 /// of fields: whether a row has as many as there are columns is for the row to say.
 pub fn open(alloc: Global, bytes: &[u8]) -> Reader<&[u8]>
@@ -38,12 +41,11 @@ pub fn next_row(reader: &mut Reader<&[u8]>, row: &mut ByteRecord) -> Result<bool
     }
 }
 
-/// How many rows a list begins with room for: one for each line of the file, and no more than these
-/// and one. So the list needn't grow where each row has a line of its own.
+/// How many rows a list begins with room for: one for ten bytes of the file, which is about the
+/// shortest row, and at most these and one. So the list seldom grows, and no byte is looked at.
 pub fn room_for(bytes: &[u8], most: u32) -> usize
     ensures { result ≤ most + 1 }
 {
-    let lines = bytes.iter().filter(|byte| **byte == b'\n').count();
     let all = most as usize + 1;
-    if lines < all { lines } else { all }
+    (bytes.len() / SHORT_ROW).min(all)
 }

@@ -3,7 +3,10 @@ ghost use Rattle.std.specs.Prelude.{◌≡◌, ℕ, Bool, List, Option};
 ghost use Rattle.csv.specs.Records.{fields_of};
 ghost use Rattle.aeth_app.specs.App.{AppData};
 ghost use Rattle.aeth_base.specs.declared.ids.Channel.{Channel};
+ghost use Rattle.aeth_trace.specs.Found.{AreFound};
+ghost use Rattle.aeth_trace.specs.Words.{connection_names};
 
+use crate::found::Found;
 use aeth_app::App;
 use aeth_base::Channel;
 use csv::ByteRecord;
@@ -26,9 +29,11 @@ pub(crate) trait Row: Copy {
     fn is_header(fields: &ByteRecord) -> bool
         ensures { result ≡ heads (fields_of fields.now) };
 
-    // The row that a record tells.
-    fn tell(app: &App, fields: &ByteRecord) -> Option<Self>
-        ensures { result ≡ told app.now (fields_of fields.now) };
+    // The row that a record tells. Connections that are found by their names are kept.
+    fn tell(app: &App, found: &mut [Option<Found>], fields: &ByteRecord) -> Option<Self>
+        requires { AreFound (connection_names app.now) found.old }
+        ensures row { result ≡ told app.now (fields_of fields.now) }
+        ensures found { AreFound (connection_names app.now) found.new };
 
     // The number of the connection or use case that the row names.
     fn named(&self) -> u32

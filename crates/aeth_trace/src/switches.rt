@@ -9,6 +9,7 @@ ghost use Rattle.aeth_trace.specs.Switches.{is_first_at_zero, switches_of};
 
 use crate::fault::TraceFault;
 use crate::fields::{number_to, three_of, use_named};
+use crate::found::Found;
 use crate::judging::{judge_count, judge_known, judge_order, next_row_number};
 use crate::row::Row;
 use crate::spans::Spans;
@@ -53,7 +54,7 @@ impl Row for SwitchRow {
         }
     }
 
-    fn tell(app: &App, fields: &ByteRecord) -> Option<SwitchRow> {
+    fn tell(app: &App, _found: &mut [Option<Found>], fields: &ByteRecord) -> Option<SwitchRow> {
         match three_of(fields) {
             None => None,
             Some((cycle, one, drain)) => {

@@ -2,12 +2,15 @@
 ghost use Rattle.std.specs.Prelude.{IfErr};
 ghost use Rattle.aeth_base.specs.Faults.{Reads};
 ghost use Rattle.aeth_trace.specs.Fault.{rule_of};
+ghost use Rattle.aeth_trace.specs.Found.{AreFound};
 ghost use Rattle.aeth_trace.specs.Left.{IsReading, left};
 ghost use Rattle.aeth_trace.specs.Records.{records_of};
 ghost use Rattle.aeth_trace.specs.Rules.{rows_from, table_of};
 ghost use Rattle.aeth_trace.specs.SwitchFaults.{IsPlain};
+ghost use Rattle.aeth_trace.specs.Words.{connection_names};
 
 use crate::fault::TraceFault;
+use crate::found::{Found, none_found};
 use crate::records::{next_row, open, room_for};
 use crate::row::Row;
 use crate::words::MAX_ROWS;
@@ -15,15 +18,18 @@ use aeth_app::App;
 use csv::{ByteRecord, Reader};
 use std::alloc::Global;
 
-// The rows under the header, in a list that begins with so much room.
+// The rows under the header, in a list that begins with so much room. Connections that are found by
+// their names are kept.
 fn rows_of<R: Row>(
     alloc: Global,
     app: &App,
     room: usize,
     reader: &mut Reader<&[u8]>,
     fields: &mut ByteRecord,
+    found: &mut [Option<Found>],
 ) -> Result<Vec<R>, TraceFault>
-    requires { IsReading reader.old }
+    requires reading { IsReading reader.old }
+    requires found { AreFound (connection_names app.now) found.old }
     ensures reads { Reads rule_of (λ rows. rows.items) result
         (rows_from (R.told app.now) 1 (left reader.old)) }
     ensures plain { IfErr result IsPlain }
@@ -33,7 +39,7 @@ fn rows_of<R: Row>(
         if !next_row(reader, fields)? {
             return Ok(rows);
         }
-        match R::tell(app, fields) {
+        match R::tell(app, found, fields) {
             Some(told) => rows.push(told)?,
             None => return Err(TraceFault::BadRow { row }),
         }
@@ -60,7 +66,8 @@ fn table_in<R: Row>(
     if !R::is_header(&fields) {
         return Err(TraceFault::BadRow { row: 0 });
     }
-    rows_of(alloc, app, room, reader, &mut fields)
+    let mut found = none_found(alloc, app)?;
+    rows_of(alloc, app, room, reader, &mut fields, &mut found)
 }
 
 // The rows of a file, where it has its header and each row has the fields of its columns.

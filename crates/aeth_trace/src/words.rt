@@ -9,6 +9,7 @@ ghost use Rattle.aeth_trace.specs.Words.{AreWordsOf, words_of, words_on, words_u
 use crate::by_channel::ByChannel;
 use crate::fault::TraceFault;
 use crate::fields::{channel_in, heads_channels};
+use crate::found::Found;
 use crate::judging::{judge_count, judge_known, judge_order};
 use crate::row::{OnChannel, Row};
 use crate::table::read_table;
@@ -47,8 +48,8 @@ impl Row for WordRow {
         heads_channels(fields, b"value")
     }
 
-    fn tell(app: &App, fields: &ByteRecord) -> Option<WordRow> {
-        match channel_in(app, fields, MAX_VALUE) {
+    fn tell(app: &App, found: &mut [Option<Found>], fields: &ByteRecord) -> Option<WordRow> {
+        match channel_in(app, found, fields, MAX_VALUE) {
             None => None,
             Some((channel, cycle, value)) => Some(WordRow {
                 channel,

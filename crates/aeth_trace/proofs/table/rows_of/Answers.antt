@@ -8,8 +8,9 @@ loop-row-preserved g c =
     let found = c.if-not-branch.false in
     let taken = rw found at c.in_ok-next_row.ensures.row in
     let step = rows_from-step (g.R.Row.told c.args.app.now) c.loop-row.row c.loop-row.rows.items _
-    _ _ c.in-Some.told taken c.in-Some.ensures in
+    _ _ c.in-Some.told taken c.in-Some.ensures.row in
     record {
       reading = c.in_ok-next_row.ensures.reading found;
+      found = c.in-Some.ensures.found;
       walk = rw c.in_ok-push-in-Some.ensures.items (sym step) ∙ c.loop-row.invariant.walk;
     }
