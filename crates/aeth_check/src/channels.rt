@@ -105,23 +105,40 @@ fn has_side(grants: &[Grant], unit: Unit, side: Side) -> bool
     low < grants.len() && is_for(unit, side, &grants[low])
 }
 
-/// The first side of a unit without a grant.
-fn lacking_side(grants: &[Grant], unit: Unit) -> Option<Side>
+/// Whether some grant is for a side of a unit. The grant at a place is looked at first.
+fn has_side_near(grants: &[Grant], place: usize, unit: Unit, side: Side) -> bool
+    requires { Rises grant_before grants.now }
+    ensures { result ≡ has_side grants.now unit side }
+{
+    if place < grants.len() && is_for(unit, side, &grants[place]) {
+        return true;
+    }
+    has_side(grants, unit, side)
+}
+
+/// The first side of a unit without a grant. The grants from a place on are looked at first.
+fn lacking_side(grants: &[Grant], place: usize, unit: Unit) -> Option<Side>
     requires { Rises grant_before grants.now }
     ensures { result ≡ lacking_side grants.now unit }
 {
-    if !has_side(grants, unit, Side::Fwd) {
+    if !has_side_near(grants, place, unit, Side::Fwd) {
         return Some(Side::Fwd);
     }
-    if !has_side(grants, unit, Side::Back) {
+    if !has_side_near(grants, place.saturating_add(1), unit, Side::Back) {
         return Some(Side::Back);
     }
     None
 }
 
-/// The first side without a grant of the units of a connection.
+/// The first side without a grant of the units of a connection. The grants of the units stand one
+/// behind the other, so they are looked for from a place on, which goes on by two with each unit.
 #[tactic(auto, using(aeth_base::proofs::Ranges::range_more))]
-fn lacking_with(grants: &[Grant], groups: &Groups, conn: ConnId) -> Option<(Unit, Side)>
+fn lacking_with(
+    grants: &[Grant],
+    place: &mut usize,
+    groups: &Groups,
+    conn: ConnId,
+) -> Option<(Unit, Side)>
     requires { Rises grant_before grants.now }
     ensures { result ≡ first_lacking grants.now (units_with groups.now conn.0) }
 {
@@ -129,9 +146,10 @@ fn lacking_with(grants: &[Grant], groups: &Groups, conn: ConnId) -> Option<(Unit
         let group = GroupId(g);
         if groups.member(group, conn) {
             let unit = Unit { conn, group };
-            if let Some(side) = lacking_side(grants, unit) {
+            if let Some(side) = lacking_side(grants, *place, unit) {
                 return Some((unit, side));
             }
+            *place = place.saturating_add(2);
         }
     }
     None
@@ -144,8 +162,9 @@ fn first_lacking(grants: &[Grant], groups: &Groups, connections: u32) -> Option<
     requires connections { groups.now.connections ≡ connections }
     ensures { result ≡ first_lacking grants.now (units_of groups.now) }
 {
+    let mut place = 0;
     for c in 0..connections {
-        if let Some(found) = lacking_with(grants, groups, ConnId(c)) {
+        if let Some(found) = lacking_with(grants, &mut place, groups, ConnId(c)) {
             return Some(found);
         }
     }

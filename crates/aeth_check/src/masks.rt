@@ -24,12 +24,8 @@ pub(crate) fn no_masks(
     ensures empty { IfOk result (λ masks.
         All (λ mask. mask ≡ record { size = chip.now.slots; slots = [] }) masks.items) }
 {
-    let size = chip.slots();
     let count = groups.uses() * chip.links();
-    let mut masks = Vec::new(alloc);
-    for _i in 0..count {
-        masks.push(SlotSet::empty(size))?;
-    }
+    let masks = vec![in alloc; SlotSet::empty(chip.slots()); count as usize]?;
     Ok(masks)
 }
 
