@@ -8,7 +8,7 @@
 use Rattle.std.specs.Prelude.{ℕ, zero, suc, List, [], ◌∷◌, fold, slice_get}
 use Rattle.std.specs.Option.{option_map_or}
 use Rattle.aeth_router.specs.declared.part.Part.{Part}
-use Rattle.aeth_router.specs.declared.part.Part.TheVariants.{Interface, Router, Stage}
+use Rattle.aeth_router.specs.declared.part.Part.TheVariants.{Interface, Router, Stage, TableRouter}
 use Rattle.aeth_components.specs.declared.event.Event.{Event}
 use Rattle.aeth_components.specs.declared.event.Event.TheVariants.{Halt, Finish, Change}
 use Rattle.aeth_components.specs.declared.lane.ChannelEnd.{ChannelEnd}
@@ -27,6 +27,7 @@ with_part (suc number) change (part ∷ parts) = part ∷ with_part number chang
 abbrev pub on_interface : (InterfaceState → InterfaceState) → Part → Part
 on_interface change (Interface ni) = Interface (change ni)
 on_interface change (Router router) = Router router
+on_interface change (TableRouter router) = TableRouter router
 on_interface change (Stage stage) = Stage stage
 
 -- One queue of one interface has changed.
@@ -37,6 +38,7 @@ at_end end change parts = with_part end.ni.0 (on_interface (changed end.queue ch
 abbrev pub told_by : ℕ → (QueueState → ℕ) → Part → ℕ
 told_by queue tells (Interface ni) = tells (queue_at ni.queues queue)
 told_by queue tells (Router router) = 0
+told_by queue tells (TableRouter router) = 0
 told_by queue tells (Stage stage) = 0
 
 abbrev pub told_at : ChannelEnd → (QueueState → ℕ) → List Part → ℕ

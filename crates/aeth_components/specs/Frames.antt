@@ -7,7 +7,7 @@ use Rattle.aeth_clocked.specs.Driven.{AreDisjoint}
 use Rattle.aeth_clocked.specs.Wires.{AreLinks}
 use Rattle.aeth_router.specs.Router.{is_among}
 use Rattle.aeth_router.specs.declared.part.Part.{Part}
-use Rattle.aeth_router.specs.declared.part.Part.TheVariants.{Interface, Router, Stage}
+use Rattle.aeth_router.specs.declared.part.Part.TheVariants.{Interface, Router, Stage, TableRouter}
 
 -- What never changes of a component: of an interface its number, its wires and its numbers of
 -- slots and of queues, of a router and of a stage the wires.
@@ -20,6 +20,7 @@ abbrev pub frame_of : Part → Frame
 frame_of (Interface ni) =
     InterfaceFrame ni.number ni.leaving ni.entering (length ni.entries) (length ni.queues)
 frame_of (Router router) = RouterFrame router.incoming router.outgoing
+frame_of (TableRouter router) = RouterFrame router.incoming router.outgoing
 frame_of (Stage stage) = StageFrame stage.input stage.output
 
 -- Whether a component with this frame sends on a wire.

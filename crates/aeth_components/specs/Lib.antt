@@ -5,6 +5,7 @@ pub mod Channels
 pub mod Components
 pub mod Counting
 pub mod Ends
+pub mod Entering
 pub mod Events
 pub mod First
 pub mod Frames

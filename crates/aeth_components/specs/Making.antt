@@ -11,8 +11,11 @@ use Rattle.aeth_chip.specs.declared.node.Node.{Node}
 use Rattle.aeth_chip.specs.declared.node.Node.TheVariants.{Ni}
 use Rattle.aeth_router.specs.Router.{last_wire, new_router}
 use Rattle.aeth_router.specs.Stage.{new_stage}
+use Rattle.aeth_router.specs.TableRouter.{new_table_router}
 use Rattle.aeth_router.specs.declared.part.Part.{Part}
-use Rattle.aeth_router.specs.declared.part.Part.TheVariants.{Interface, Router, Stage}
+use Rattle.aeth_router.specs.declared.part.Part.TheVariants.{Interface, Router, Stage, TableRouter}
+use Rattle.aeth_components.specs.declared.making.RouterKind.{RouterKind}
+use Rattle.aeth_components.specs.declared.making.RouterKind.TheVariants.{ByHeader, ByTable}
 use Rattle.aeth_ni.specs.Interface.{new_interface}
 use Rattle.aeth_ni.specs.Limits.{queues_of_interface}
 
@@ -29,9 +32,10 @@ made_interface chip rooms number =
     (slice_range rooms (number * queues_of_interface)
     (number * queues_of_interface + queues_of_interface)))
 
--- A router.
-abbrev pub made_router : ChipData → ℕ → Part
-made_router chip number = Router (new_router (record { 0 = number }) chip.links)
+-- A router of a kind, which holds no flit, and has no entries where it has a table.
+abbrev pub made_router : ChipData → RouterKind → ℕ → Part
+made_router chip ByHeader number = Router (new_router (record { 0 = number }) chip.links)
+made_router chip ByTable number = TableRouter (new_table_router (record { 0 = number }) chip)
 
 -- The stage behind a wire of a link.
 abbrev pub made_stage : List Link → ℕ → ℕ → Part
@@ -50,8 +54,8 @@ made_stages links count = flat_map (link_stages links) (range_with_len 0 count)
 
 -- The interfaces in their order, the routers in theirs, and the stages in the order of the wires
 -- on which they send.
-abbrev pub new_parts : ChipData → List ℕ → List Part
-new_parts chip rooms =
+abbrev pub new_parts : ChipData → RouterKind → List ℕ → List Part
+new_parts chip kind rooms =
     (map (made_interface chip rooms) (range_with_len 0 (length chip.nis))
-    ++ map (made_router chip) (range_with_len 0 (length chip.routers)))
+    ++ map (made_router chip kind) (range_with_len 0 (length chip.routers)))
     ++ made_stages chip.links (length chip.links)

@@ -18,7 +18,7 @@ use Rattle.aeth_clocked.specs.Wires.{flit_on}
 use Rattle.aeth_clocked.specs.declared.flit.Flit.{Flit}
 use Rattle.aeth_ni.specs.Component.{emitted_by, queue_at_cycle}
 use Rattle.aeth_router.specs.declared.part.Part.{Part}
-use Rattle.aeth_router.specs.declared.part.Part.TheVariants.{Interface, Router, Stage}
+use Rattle.aeth_router.specs.declared.part.Part.TheVariants.{Interface, Router, Stage, TableRouter}
 use Rattle.aeth_components.specs.Ends.{AreEnds}
 use Rattle.aeth_components.specs.Frames.{Frame}
 use Rattle.aeth_components.specs.Resting.{HoldNoMore, HoldUnlessMarked, Holding}
@@ -71,6 +71,7 @@ pub record Lists (first count : ℕ) (old new numbers : List ℕ) : Type 0 where
 abbrev pub sends_own : ℕ → Part → Bool
 sends_own cycle (Interface ni) = is_some (emitted_by (queue_at_cycle ni.entries cycle) ni.queues)
 sends_own cycle (Router router) = false
+sends_own cycle (TableRouter router) = false
 sends_own cycle (Stage stage) = false
 
 -- The first so many components that send something of their own are marked, and few others are.

@@ -8,6 +8,7 @@ ghost use Rattle.aeth_clocked.specs.Wires.{flit_on};
 ghost use Rattle.aeth_components.specs.Changes.{switched};
 ghost use Rattle.aeth_components.specs.Components.{Cycle, first_components};
 ghost use Rattle.aeth_components.specs.Components.{Runs, frames_of, part_count};
+ghost use Rattle.aeth_components.specs.Entering.{TakesRows, with_rows};
 ghost use Rattle.aeth_components.specs.Events.{IsDoable};
 ghost use Rattle.aeth_components.specs.First.{HasSender, IsFirst};
 ghost use Rattle.aeth_components.specs.Frames.{IsWired, frame_of};
@@ -21,14 +22,14 @@ use crate::cycle::{drive, latch};
 use crate::ends::are_empty;
 use crate::event::Event;
 use crate::lane::Lane;
-use crate::making::parts_of;
-use crate::parts::next_among;
+use crate::making::{RouterKind, parts_of};
+use crate::parts::{enter_all, next_among};
 use crate::phases::switch;
 use crate::turns::Turns;
 use aeth_base::{NoMemory, Steps};
 use aeth_chip::Chip;
 use aeth_clocked::{Order, Wires};
-use aeth_router::Part;
+use aeth_router::{Part, RouterRow};
 use std::alloc::Global;
 use std::marker::{Brand, Model};
 use std::sync::ledger::{Blank, Ledger};
@@ -69,7 +70,8 @@ impl Model for Components {
 }
 
 impl Components {
-    /// The components of a chip, none of which holds anything, with empty wires. `rooms` has for
+    /// The components of a chip, none of which holds anything, with empty wires. Its routers are of a
+    /// kind, and where they have tables these are empty. `rooms` has for
     /// each of the 32 queues of each interface the words that its receive queue has room for.
     /// `lanes` has for each channel its first session, and `words` the words of all sessions of the
     /// run.
@@ -78,6 +80,7 @@ impl Components {
     pub fn new(
         alloc: Global,
         chip: &Chip,
+        kind: RouterKind,
         rooms: &[u32],
         lanes: Vec<Lane>,
         words: Vec<u32>,
@@ -85,10 +88,10 @@ impl Components {
         requires rooms { length rooms.now ≡ queues_of_interface * length chip.now.nis }
         requires lanes { All (IsLane (length words.items) (part_count chip.now)) lanes.items }
         ensures { IfOk result (λ made. made
-            ≡ first_components chip.now rooms.now lanes.items words.items) }
+            ≡ first_components chip.now kind rooms.now lanes.items words.items) }
     {
         let _ = chip.slots();
-        let parts = parts_of(alloc, chip, rooms)?;
+        let parts = parts_of(alloc, chip, kind, rooms)?;
         let wires = Wires::new(alloc, chip.wires())?;
         let turns = Turns::new(alloc, chip)?;
         let landings = vec![in alloc; 0; words.len()]?;
@@ -188,6 +191,15 @@ impl Components {
         let mut lane = self.channels.lanes()[channel];
         lane.pull = pull;
         self.load(channel, lane);
+    }
+
+    /// These rows are from now on the tables of the routers, and no other entry stays. A router that
+    /// reads headers has no table, and all else is as it was.
+    pub fn enter(&mut self, rows: &[RouterRow])
+        requires { All (TakesRows rows.now) self.old.parts }
+        ensures { self.new ≡ record self.old { parts = with_rows rows.now self.old.parts } }
+    {
+        enter_all(&mut self.parts, rows);
     }
 
     /// Events before the first cycle.

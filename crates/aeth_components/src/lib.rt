@@ -18,3 +18,4 @@ mod turns;
 pub use components::Components;
 pub use event::Event;
 pub use lane::{ChannelEnd, Lane};
+pub use making::RouterKind;

@@ -11,18 +11,32 @@ ghost use Rattle.aeth_components.specs.Making.{made_stages, new_parts};
 use aeth_base::{LinkId, NiId, NoMemory, RouterId};
 use aeth_chip::Chip;
 use aeth_ni::{Ni, QUEUES_OF_INTERFACE};
-use aeth_router::{Part, Router, Stage};
+use aeth_router::{Part, Router, Stage, TableRouter};
 use std::alloc::Global;
 
-// A chip's interfaces in their order, its routers in theirs, and the stages of its links in the
+/// By what the routers of a network send a flit on.
+#[derive(Clone, Copy)]
+pub enum RouterKind {
+    /// By its header.
+    ByHeader,
+    /// By a table that each router has.
+    ByTable,
+}
+
+// A chip's interfaces in their order, its routers of a kind in theirs, and the stages of its links in the
 // order of their wires. `rooms` has for each queue of each interface the words that its receive
 // queue has room for.
-pub(crate) fn parts_of(alloc: Global, chip: &Chip, rooms: &[u32]) -> Result<Vec<Part>, NoMemory>
+pub(crate) fn parts_of(
+    alloc: Global,
+    chip: &Chip,
+    kind: RouterKind,
+    rooms: &[u32],
+) -> Result<Vec<Part>, NoMemory>
     requires { length rooms.now ≡ queues_of_interface * length chip.now.nis }
-    ensures { IfOk result (λ parts. parts.items ≡ new_parts chip.now rooms.now) }
+    ensures { IfOk result (λ parts. parts.items ≡ new_parts chip.now kind rooms.now) }
 {
     let mut parts = interfaces_of(alloc, chip, rooms)?;
-    push_routers(alloc, &mut parts, chip)?;
+    push_routers(alloc, &mut parts, chip, kind)?;
     push_stages(&mut parts, chip)?;
     Ok(parts)
 }
@@ -56,15 +70,30 @@ fn interface_of(alloc: Global, chip: &Chip, rooms: &[u32], number: u32) -> Resul
 }
 
 // Its routers behind these.
-fn push_routers(alloc: Global, parts: &mut Vec<Part>, chip: &Chip) -> Result<(), NoMemory>
+fn push_routers(
+    alloc: Global,
+    parts: &mut Vec<Part>,
+    chip: &Chip,
+    kind: RouterKind,
+) -> Result<(), NoMemory>
     ensures { IfOk result (λ _. parts.new.items ≡ parts.old.items
-        ++ map (made_router chip.now) (range_with_len 0 (length chip.now.routers))) }
+        ++ map (made_router chip.now kind) (range_with_len 0 (length chip.now.routers))) }
 {
     for number in 0..chip.routers() {
-        let router = Router::new(alloc, chip, RouterId(number))?;
-        parts.push(Part::Router(router))?;
+        parts.push(router_of(alloc, chip, kind, number)?)?;
     }
     Ok(())
+}
+
+// A router of a chip, of a kind.
+fn router_of(alloc: Global, chip: &Chip, kind: RouterKind, number: u32) -> Result<Part, NoMemory>
+    ensures { IfOk result (λ part. part ≡ made_router chip.now kind number) }
+{
+    let router = RouterId(number);
+    match kind {
+        RouterKind::ByHeader => Ok(Part::Router(Router::new(alloc, chip, router)?)),
+        RouterKind::ByTable => Ok(Part::TableRouter(TableRouter::new(alloc, chip, router)?)),
+    }
 }
 
 // The stages of all links behind these.

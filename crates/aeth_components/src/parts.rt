@@ -1,9 +1,11 @@
-// What is done at one queue of a component, where this is an interface.
+// What is done at one queue of a component, where this is an interface, or to the table of one that is
+// a router with a table.
 
-ghost use Rattle.std.specs.Prelude.{◌≡◌, ◌<◌, ◌≤◌, ◌^◌, ℕ, length, true};
+ghost use Rattle.std.specs.Prelude.{◌≡◌, ◌<◌, ◌≤◌, ◌^◌, ℕ, All, length, true};
 ghost use Rattle.aeth_ni.specs.Interface.{changed};
 ghost use Rattle.aeth_ni.specs.Limits.{queues_of_interface};
 ghost use Rattle.aeth_components.specs.Changes.{event_done, on_interface, told_by};
+ghost use Rattle.aeth_components.specs.Entering.{TakesRows, entered, with_rows};
 ghost use Rattle.aeth_components.specs.Events.{Suits};
 ghost use Rattle.aeth_components.specs.First.{HasSender, IsFirst};
 ghost use Rattle.aeth_components.specs.Frames.{frame_of};
@@ -12,7 +14,7 @@ ghost use Rattle.aeth_components.specs.Turns.{sends_own};
 
 use crate::event::Event;
 use crate::queues;
-use aeth_router::Part;
+use aeth_router::{Part, RouterRow};
 
 // Does an event; a router or a stage has none to do.
 pub(crate) fn meet(part: &mut Part, event: &Event)
@@ -22,6 +24,27 @@ pub(crate) fn meet(part: &mut Part, event: &Event)
     match part {
         Part::Interface(ni) => queues::meet(ni, event),
         _ => {}
+    }
+}
+
+// Rows enter the table of a component; where it has none it is as it was.
+fn enter(part: &mut Part, rows: &[RouterRow])
+    requires { TakesRows rows.now part.old }
+    ensures { part.new ≡ entered rows.now part.old }
+{
+    match part {
+        Part::TableRouter(router) => router.enter(rows),
+        _ => {}
+    }
+}
+
+// Rows enter the tables of all components.
+pub(crate) fn enter_all(parts: &mut [Part], rows: &[RouterRow])
+    requires { All (TakesRows rows.now) parts.old }
+    ensures { parts.new ≡ with_rows rows.now parts.old }
+{
+    for number in 0..parts.len() {
+        enter(&mut parts[number], rows);
     }
 }
 

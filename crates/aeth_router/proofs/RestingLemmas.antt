@@ -16,7 +16,7 @@ use Rattle.aeth_router.specs.Stage.{stage_inputs, stage_outputs}
 use Rattle.aeth_router.specs.TableRouter.{TableRouterState, table_absorb, table_after, table_emit}
 use Rattle.aeth_router.specs.TableRouter.{table_inputs, table_outputs}
 use Rattle.aeth_router.specs.declared.part.Part.{Part}
-use Rattle.aeth_router.specs.declared.part.Part.TheVariants.{Interface, Router, Stage}
+use Rattle.aeth_router.specs.declared.part.Part.TheVariants.{Interface, Router, Stage, TableRouter}
 use Rattle.aeth_router.proofs.IdleLemmas.{HasNoFlit-map, emitted_on-idle}
 use Rattle.aeth_router.proofs.TableLemmas.{table_emit-idle}
 
@@ -134,14 +134,22 @@ module _ (stage : StageState) (wires : List (Option Flit)) where
 abbrev interface_in : InterfaceState → Part → InterfaceState
 interface_in other (Interface ni) = ni
 interface_in other (Router router) = other
+interface_in other (TableRouter router) = other
 interface_in other (Stage stage) = other
 
 abbrev router_in : RouterState → Part → RouterState
 router_in other (Interface ni) = other
 router_in other (Router router) = router
+router_in other (TableRouter router) = other
 router_in other (Stage stage) = other
 
--- An interface or a router among components of any kind rests just where it does alone.
+abbrev table_router_in : TableRouterState → Part → TableRouterState
+table_router_in other (Interface ni) = other
+table_router_in other (Router router) = other
+table_router_in other (TableRouter router) = router
+table_router_in other (Stage stage) = other
+
+-- An interface or a router of either kind among components of any kind rests just where it does alone.
 module _ (wires : List (Option Flit)) where
   pub drives-interface : (cycle : ℕ) (ni : InterfaceState)
       → RestsDrive interface_outputs interface_emit interface_after cycle wires ni
@@ -171,6 +179,22 @@ module _ (wires : List (Option Flit)) where
     (λ rests. record {
       silent = rests.silent;
       still = ap (router_in router) rests.still;
+      empty = rests.empty;
+    }),
+  )
+
+  pub drives-table-router : (cycle : ℕ) (router : TableRouterState)
+      → RestsDrive table_outputs table_emit table_after cycle wires router
+      ↔ RestsDrive outputs_of emit_of after_of cycle wires (TableRouter router)
+  drives-table-router cycle router = (
+    (λ rests. record {
+      silent = rests.silent;
+      still = ap (λ router. TableRouter router) rests.still;
+      empty = rests.empty;
+    }),
+    (λ rests. record {
+      silent = rests.silent;
+      still = ap (table_router_in router) rests.still;
       empty = rests.empty;
     }),
   )

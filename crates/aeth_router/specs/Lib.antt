@@ -3,6 +3,7 @@ pub mod Part
 pub mod PartAgreement
 pub mod Ports
 pub mod Router
+pub mod Rows
 pub mod Stage
 pub mod TableRouter
 pub mod Traffic

@@ -5,33 +5,37 @@ use Rattle.std.proofs.Common.{ap, refl}
 use Rattle.aeth_clocked.specs.Wires.{AgreeOn}
 use Rattle.aeth_clocked.specs.declared.flit.Flit.{Flit}
 use Rattle.aeth_ni.specs.Agreement.{interface_absorb-agrees}
-use Rattle.aeth_router.specs.Agreement.{router_absorb-agrees, stage_absorb-agrees}
+use Rattle.aeth_router.specs.Agreement.{router_absorb-agrees, stage_absorb-agrees, table_absorb-agrees}
 use Rattle.aeth_router.specs.declared.part.Part.{Part}
-use Rattle.aeth_router.specs.declared.part.Part.TheVariants.{Interface, Router, Stage}
+use Rattle.aeth_router.specs.declared.part.Part.TheVariants.{Interface, Router, Stage, TableRouter}
 use Rattle.aeth_router.specs.Part.{outputs_of, inputs_of, after_of, absorb_of}
 
 pub outputs_of-after : (part : Part) (cycle link : ℕ)
     → outputs_of (after_of part cycle) link ≡ outputs_of part link
 outputs_of-after (Interface ni) cycle link = refl
 outputs_of-after (Router router) cycle link = refl
+outputs_of-after (TableRouter router) cycle link = refl
 outputs_of-after (Stage stage) cycle link = refl
 
 pub inputs_of-after : (part : Part) (cycle link : ℕ)
     → inputs_of (after_of part cycle) link ≡ inputs_of part link
 inputs_of-after (Interface ni) cycle link = refl
 inputs_of-after (Router router) cycle link = refl
+inputs_of-after (TableRouter router) cycle link = refl
 inputs_of-after (Stage stage) cycle link = refl
 
 pub outputs_of-absorb : (part : Part) (wires : List (Option Flit)) (link : ℕ)
     → outputs_of (absorb_of part wires) link ≡ outputs_of part link
 outputs_of-absorb (Interface ni) wires link = refl
 outputs_of-absorb (Router router) wires link = refl
+outputs_of-absorb (TableRouter router) wires link = refl
 outputs_of-absorb (Stage stage) wires link = refl
 
 pub inputs_of-absorb : (part : Part) (wires : List (Option Flit)) (link : ℕ)
     → inputs_of (absorb_of part wires) link ≡ inputs_of part link
 inputs_of-absorb (Interface ni) wires link = refl
 inputs_of-absorb (Router router) wires link = refl
+inputs_of-absorb (TableRouter router) wires link = refl
 inputs_of-absorb (Stage stage) wires link = refl
 
 pub absorb_of-agrees : (part : Part) (some other : List (Option Flit))
@@ -40,5 +44,7 @@ absorb_of-agrees (Interface ni) some other agree =
     ap (λ ni. Interface ni) (interface_absorb-agrees ni some other agree)
 absorb_of-agrees (Router router) some other agree =
     ap (λ router. Router router) (router_absorb-agrees router some other agree)
+absorb_of-agrees (TableRouter router) some other agree =
+    ap (λ router. TableRouter router) (table_absorb-agrees router some other agree)
 absorb_of-agrees (Stage stage) some other agree =
     ap (λ stage. Stage stage) (stage_absorb-agrees stage some other agree)

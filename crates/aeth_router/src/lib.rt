@@ -4,11 +4,13 @@
 
 mod part;
 mod router;
+mod router_row;
 mod stage;
 mod table_router;
 mod traffic;
 
 pub use part::Part;
 pub use router::Router;
+pub use router_row::RouterRow;
 pub use stage::Stage;
 pub use table_router::TableRouter;

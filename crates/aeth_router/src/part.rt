@@ -7,6 +7,7 @@ ghost use Rattle.aeth_router.specs.PartAgreement.{absorb_of-agrees};
 
 use crate::router::Router;
 use crate::stage::Stage;
+use crate::table_router::TableRouter;
 use aeth_clocked::{Clocked, Wires};
 use aeth_ni::Ni;
 
@@ -15,8 +16,10 @@ use aeth_ni::Ni;
 pub enum Part {
     /// A network interface.
     Interface(Ni),
-    /// A router.
+    /// A router that reads headers.
     Router(Router),
+    /// A router that looks a table up.
+    TableRouter(TableRouter),
     /// A stage of a link with a delay.
     Stage(Stage),
 }
@@ -36,6 +39,7 @@ impl Clocked for Part {
         match self {
             Part::Interface(ni) => ni.drive(cycle, wires),
             Part::Router(router) => router.drive(cycle, wires),
+            Part::TableRouter(router) => router.drive(cycle, wires),
             Part::Stage(stage) => stage.drive(cycle, wires),
         }
     }
@@ -44,6 +48,7 @@ impl Clocked for Part {
         match self {
             Part::Interface(ni) => ni.latch(wires),
             Part::Router(router) => router.latch(wires),
+            Part::TableRouter(router) => router.latch(wires),
             Part::Stage(stage) => stage.latch(wires),
         }
     }
@@ -52,6 +57,7 @@ impl Clocked for Part {
         match self {
             Part::Interface(ni) => ni.rests_drive(cycle, wires),
             Part::Router(router) => router.rests_drive(cycle, wires),
+            Part::TableRouter(router) => router.rests_drive(cycle, wires),
             Part::Stage(stage) => stage.rests_drive(cycle, wires),
         }
     }
@@ -60,6 +66,7 @@ impl Clocked for Part {
         match self {
             Part::Interface(ni) => ni.rests_latch(wires),
             Part::Router(router) => router.rests_latch(wires),
+            Part::TableRouter(router) => router.rests_latch(wires),
             Part::Stage(stage) => stage.rests_latch(wires),
         }
     }

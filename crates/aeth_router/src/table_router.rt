@@ -1,7 +1,7 @@
 // A router with a table: flits latched in one cycle, and driven in the next as the table says.
 
 ghost use Rattle.std.specs.Prelude.{◌≡◌, ◌<◌, ◌≤◌, ◌+◌, ◌*◌, ◌==◌, ◌↔◌, IfOk, IfSome, IsTrue, None};
-ghost use Rattle.std.specs.Prelude.{length, position, replicate};
+ghost use Rattle.std.specs.Prelude.{length, position, replicate, true};
 ghost use Rattle.std.specs.List.{list_any, slice_set};
 ghost use Rattle.aeth_base.specs.Limits.{max_slots};
 ghost use Rattle.aeth_chip.specs.Limits.{max_links};
@@ -10,12 +10,14 @@ ghost use Rattle.aeth_chip.specs.declared.node.Node.TheVariants.{Router};
 ghost use Rattle.aeth_clocked.specs.Wires.{AreLinks, Drives};
 ghost use Rattle.aeth_router.specs.Agreement.{table_absorb-agrees};
 ghost use Rattle.aeth_router.specs.Router.{AreDistinctLinks, is_among, numbers_of};
+ghost use Rattle.aeth_router.specs.Rows.{AreRowsFor, IsRowFor, is_for, with_row, with_table};
 ghost use Rattle.aeth_router.specs.TableRouter.{entry_at, new_table_router, place_from, sent_from};
 ghost use Rattle.aeth_router.specs.TableRouter.{sent_on, table_absorb, table_after, table_emit};
 ghost use Rattle.aeth_router.specs.TableRouter.{table_inputs, table_outputs, with_entry};
 ghost use Rattle.std.proofs.Common.{refl};
 
 use crate::router::{are_empty, are_none, empty_places, last_wires, sending, take_in};
+use crate::router_row::RouterRow;
 use crate::traffic::clear;
 use aeth_base::{LinkId, NoMemory, RouterId};
 use aeth_chip::{Chip, Node};
@@ -122,6 +124,28 @@ impl TableRouter {
             slot as usize,
             entry,
         );
+    }
+
+    /// Makes these rows its entries, those of them that are its own, and no other entry stays. Of rows
+    /// for one slot of one port the last counts.
+    pub fn enter(&mut self, rows: &[RouterRow])
+        requires { AreRowsFor rows.now self.old }
+        ensures { self.new ≡ with_table rows.now self.old }
+    {
+        self.entries.fill(None);
+        for row in rows {
+            self.enter_row(row);
+        }
+    }
+
+    // Makes a row an entry, if it is one of the router.
+    fn enter_row(&mut self, row: &RouterRow)
+        requires { is_for self.old.number row.now ≡ true → IsRowFor self.old row.now }
+        ensures { self.new ≡ with_row self.old row.now }
+    {
+        if row.router.0 == self.number.0 {
+            self.set(row.port, row.slot, Some(row.from));
+        }
     }
 
     // Whether no flit is held.

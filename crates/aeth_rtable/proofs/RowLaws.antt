@@ -15,7 +15,7 @@ use Rattle.aeth_rtable.specs.Hops.{entry_at}
 use Rattle.aeth_rtable.specs.Rows.{rows_by, rows_of_port, rows_of_router, rows_with}
 use Rattle.aeth_rtable.specs.RouterTables.{IsBefore}
 use Rattle.aeth_rtable.specs.declared.hops.Hop.{Hop}
-use Rattle.aeth_rtable.specs.declared.rows.RouterRow.{RouterRow}
+use Rattle.aeth_router.specs.declared.router_row.RouterRow.{RouterRow}
 use Rattle.aeth_rtable.proofs.Lists.{Climbs, climbs-flat_map, pairs_rise}
 
 -- The row of an entry is at its place.

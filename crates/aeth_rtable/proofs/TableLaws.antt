@@ -25,7 +25,7 @@ use Rattle.aeth_rtable.specs.Hops.{entry_at, grants_in, hops_in, hops_of}
 use Rattle.aeth_rtable.specs.Rows.{router_rows, rows_by}
 use Rattle.aeth_rtable.specs.RouterTables.{AreTables, IsEntered}
 use Rattle.aeth_rtable.specs.declared.hops.Hop.{Hop}
-use Rattle.aeth_rtable.specs.declared.rows.RouterRow.{RouterRow}
+use Rattle.aeth_router.specs.declared.router_row.RouterRow.{RouterRow}
 use Rattle.aeth_rtable.proofs.HopLaws.{IsUsed, entry-from, has_hop, is_hop, one_from}
 use Rattle.aeth_rtable.proofs.HopLaws.{some_entry}
 use Rattle.aeth_rtable.proofs.RowLaws.{has_row, is_row, link_of, rows_rise}

@@ -10,7 +10,7 @@ use Rattle.aeth_plan.specs.Plan.{name_at}
 use Rattle.aeth_text.specs.Limits.{space}
 use Rattle.aeth_text.specs.Spelling.{text_of_lines}
 use Rattle.aeth_trace.specs.Switches.{use_names}
-use Rattle.aeth_rtable.specs.declared.rows.RouterRow.{RouterRow}
+use Rattle.aeth_router.specs.declared.router_row.RouterRow.{RouterRow}
 
 -- `routes 1 USE`.
 unfoldable pub head_line : List ℕ → List ℕ

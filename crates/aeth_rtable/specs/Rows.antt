@@ -15,7 +15,7 @@ use Rattle.aeth_group.specs.Members.{GroupsData}
 use Rattle.aeth_plan.specs.Plan.{PlanData}
 use Rattle.aeth_rtable.specs.Hops.{entry_at, hops_in}
 use Rattle.aeth_rtable.specs.declared.hops.Hop.{Hop}
-use Rattle.aeth_rtable.specs.declared.rows.RouterRow.{RouterRow}
+use Rattle.aeth_router.specs.declared.router_row.RouterRow.{RouterRow}
 
 -- The row of an entry; none where there is no entry.
 abbrev pub rows_with : RouterId → ℕ → ℕ → Option LinkId → List RouterRow

@@ -7,5 +7,6 @@ mod lines;
 mod printing;
 mod rows;
 
+pub use aeth_router::RouterRow;
 pub use printing::route_text;
-pub use rows::{RouterRow, router_rows};
+pub use rows::router_rows;

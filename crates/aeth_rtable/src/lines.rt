@@ -3,8 +3,8 @@ ghost use Rattle.aeth_rtable.specs.RouteText.{head_line, hop_line, numbers_words
 ghost use Rattle.aeth_text.specs.Spelling.{ended_line};
 ghost use Rattle.std.specs.Prelude.{◌≡◌, ◌++◌, OnOk};
 
-use crate::rows::RouterRow;
 use aeth_base::{NoMemory, push_number};
+use aeth_router::RouterRow;
 
 /// Appends the first line.
 #[tactic(auto, unfolding(crate::specs::RouteText::head_line))]

@@ -6,9 +6,9 @@ ghost use Rattle.aeth_trace.specs.Switches.{use_names};
 ghost use Rattle.std.specs.Prelude.{◌≡◌, ◌<◌, ◌++◌, IfOk, OnOk, length, map};
 
 use crate::lines::{push_head, push_hop};
-use crate::rows::RouterRow;
 use aeth_app::App;
 use aeth_base::{NoMemory, UseId};
+use aeth_router::RouterRow;
 use std::alloc::Global;
 
 /// Appends the first line of the tables of a use case.

@@ -15,19 +15,8 @@ use aeth_base::{LinkId, NoMemory, RouterId, UseId};
 use aeth_chip::Chip;
 use aeth_group::Groups;
 use aeth_plan::Plan;
+use aeth_router::RouterRow;
 use std::alloc::Global;
-
-/// An entry of a router's table: in this slot the router sends through this port the flit that comes
-/// on this link.
-#[derive(Clone, Copy)]
-pub struct RouterRow {
-    pub router: RouterId,
-    /// The place of the outgoing link among those of the router, 0 to 7.
-    pub port: u8,
-    /// 0 to 127, below the chip's table size.
-    pub slot: u32,
-    pub from: LinkId,
-}
 
 /// Appends the row of an entry, if there is one.
 fn push_entry(

@@ -5,7 +5,7 @@ use Rattle.aeth_rtable.specs.Entries.{HasEntries}
 use Rattle.aeth_rtable.specs.Hops.{hops_in}
 use Rattle.aeth_rtable.specs.Rows.{router_rows}
 use Rattle.aeth_rtable.specs.RouterTables.{AreTables}
-use Rattle.aeth_rtable.specs.declared.rows.RouterRow.{RouterRow}
+use Rattle.aeth_router.specs.declared.router_row.RouterRow.{RouterRow}
 use Rattle.aeth_rtable.proofs.TableLaws.{are_placed, are_tables}
 use Rattle.aeth_rtable.proofs.rows.router_rows.Goals as goal
 

@@ -8,6 +8,10 @@ drive-requires c = rw c.in-Interface.is at c.requires
 pub drive-requires-in-Router : goal.drive-requires-in-Router
 drive-requires-in-Router c = rw c.in-Router.is at c.requires
 
+-- So are those of a router with a table.
+pub drive-requires-in-TableRouter : goal.drive-requires-in-TableRouter
+drive-requires-in-TableRouter c = rw c.in-TableRouter.is at c.requires
+
 -- So are those of a stage.
 pub drive-requires-in-Stage : goal.drive-requires-in-Stage
 drive-requires-in-Stage c = rw c.in-Stage.is at c.requires

@@ -1,4 +1,5 @@
 use Rattle.aeth_router.proofs.RestingLemmas.{drives-interface, drives-router}
+use Rattle.aeth_router.proofs.RestingLemmas.{drives-table-router}
 use Rattle.aeth_router.proofs.part.PartClocked.rests_drive.Goals as goal
 
 -- The wires of an interface are wires.
@@ -8,6 +9,10 @@ rests_drive-requires c = rw c.in-Interface.is at c.requires
 -- So are those of a router.
 pub rests_drive-requires-in-Router : goal.rests_drive-requires-in-Router
 rests_drive-requires-in-Router c = rw c.in-Router.is at c.requires
+
+-- So are those of a router with a table.
+pub rests_drive-requires-in-TableRouter : goal.rests_drive-requires-in-TableRouter
+rests_drive-requires-in-TableRouter c = rw c.in-TableRouter.is at c.requires
 
 -- So are those of a stage.
 pub rests_drive-requires-in-Stage : goal.rests_drive-requires-in-Stage
@@ -28,4 +33,12 @@ returns-in-Router c =
     rw c.in-Router.is (
       (λ is. of.0 (c.rests_drive-in-Router.ensures.0 is)),
       (λ rests. c.rests_drive-in-Router.ensures.1 (of.1 rests)),
+    )
+
+pub returns-in-TableRouter : goal.returns-in-TableRouter
+returns-in-TableRouter c =
+    let of = drives-table-router c.args.wires.now c.args.cycle c.in-TableRouter.router in
+    rw c.in-TableRouter.is (
+      (λ is. of.0 (c.rests_drive-in-TableRouter.ensures.0 is)),
+      (λ rests. c.rests_drive-in-TableRouter.ensures.1 (of.1 rests)),
     )
