@@ -76,7 +76,7 @@ pub place_from-some : (links : List LinkId) (from : Option LinkId) (link : LinkI
 place_from-some links from link place is at = rw is (at ∙ position-numbers_of links link)
 
 -- Where all are the same, each is, and so is what stands for those that aren't there.
-get_or-same : {X : Type 0} (x : X) (count place : ℕ) → get_or (replicate count x) place x ≡ x
+pub get_or-same : {X : Type 0} (x : X) (count place : ℕ) → get_or (replicate count x) place x ≡ x
 get_or-same x zero place = refl
 get_or-same x (suc count) zero = refl
 get_or-same x (suc count) (suc place) = get_or-same x count place
