@@ -7,7 +7,7 @@ use Rattle.std.proofs.lemmas.Bool.{cases_eq}
 use Rattle.std.proofs.lemmas.List.{get_or-set_other}
 use Rattle.std.proofs.lemmas.Option.{same_Some}
 use Rattle.aeth_router.specs.declared.part.Part.{Part}
-use Rattle.aeth_router.specs.declared.part.Part.TheVariants.{Interface, Router, Stage}
+use Rattle.aeth_router.specs.declared.part.Part.TheVariants.{Interface, Router, Stage, TableRouter}
 use Rattle.aeth_components.specs.declared.lane.ChannelEnd.{ChannelEnd}
 use Rattle.aeth_components.proofs.QueueLemmas.{queue_at-changed}
 use Rattle.aeth_components.specs.Changes.{at_end, on_interface, told_at, told_by, with_part}
@@ -41,6 +41,7 @@ face_in : (part : Part) (number : _) (leaving entering : _) (slots queues : ℕ)
     → (ni : InterfaceState) × (part ≡ Interface ni) × (length ni.queues ≡ queues)
 face_in (Interface ni) number leaving entering slots queues is = (ni, refl, cc)
 face_in (Router router) number leaving entering slots queues is = absurd cc
+face_in (TableRouter router) number leaving entering slots queues is = absurd cc
 face_in (Stage stage) number leaving entering slots queues is = absurd cc
 
 pub interface-at : (parts : List Part) (number : ℕ) (frame : Frame)
@@ -81,6 +82,7 @@ queue_in-other (Interface ni) queue other change apart =
     get_or-set_other ni.queues queue other (change (queue_at ni.queues queue)) (empty_queue 0)
     apart
 queue_in-other (Router router) queue other change apart = refl
+queue_in-other (TableRouter router) queue other change apart = refl
 queue_in-other (Stage stage) queue other change apart = refl
 
 queue_of-same_part : (parts : List Part) (number queue other : ℕ)

@@ -21,6 +21,7 @@ use Rattle.aeth_components.specs.Ends.{AreReceivers, AreSenders, IsAtEnds, part_
 use Rattle.aeth_components.specs.Ends.{receiver_for, stage_number}
 use Rattle.aeth_components.specs.Frames.{Frame, frame_of, receives_by, sends_by}
 use Rattle.aeth_components.specs.Making.{made_interface, made_router, made_stage, new_parts}
+use Rattle.aeth_components.specs.declared.making.RouterKind.TheVariants.{ByHeader}
 use Rattle.aeth_components.proofs.MadeParts.{StageAt, same_node-place}
 use Rattle.aeth_components.proofs.MadeLemmas.{Made, IsInterface, IsRouter, IsStage}
 use Rattle.aeth_components.proofs.MadeLemmas.{frame-sends, length-new_parts, made-at}
@@ -85,7 +86,7 @@ module _ (chip : ChipData) (is_chip : IsChip chip) (rooms : List ℕ) where
       (ap (last_wire chip.links) (sym only)
       ∙ eqb-true (last_wire chip.links (slice_index links 0)) wire is)
 
-  router-end : (r wire : ℕ) → receives_by (frame_of (made_router chip r)) wire ≡ true
+  router-end : (r wire : ℕ) → receives_by (frame_of (made_router chip ByHeader r)) wire ≡ true
       → ReceivesAt chip (length chip.nis + r) wire
   router-end r wire is =
       let node : Node = Router (record { 0 = r }) in
@@ -124,12 +125,12 @@ module _ (chip : ChipData) (is_chip : IsChip chip) (rooms : List ℕ) where
       rw place (stage-end k wire part stage receives)
 
   -- As many frames as components.
-  length-frames : length (map frame_of (new_parts chip rooms)) ≡ part_count chip
-  length-frames = length-map (new_parts chip rooms) frame_of ∙ length-new_parts chip rooms
+  length-frames : length (map frame_of (new_parts chip ByHeader rooms)) ≡ part_count chip
+  length-frames = length-map (new_parts chip ByHeader rooms) frame_of ∙ length-new_parts chip rooms
 
   -- Each component sends on its outputs alone.
   pub IsAtEnds-senders : (senders : List ℕ) → AreSenders chip senders
-      → IsAtEnds sends_by (map frame_of (new_parts chip rooms)) senders
+      → IsAtEnds sends_by (map frame_of (new_parts chip ByHeader rooms)) senders
   IsAtEnds-senders senders are = record {
     at = λ wire i frame at sends. elim (frame-sends chip is_chip rooms i wire frame at sends) [
       | inl link ↦ are.first wire link.0 link.1 ∙ ap (λ (n : ℕ). Some n) link.2
@@ -145,7 +146,7 @@ module _ (chip : ChipData) (is_chip : IsChip chip) (rooms : List ℕ) where
 
   -- And receives on its inputs alone.
   pub IsAtEnds-receivers : (receivers : List ℕ) → AreReceivers chip receivers
-      → IsAtEnds receives_by (map frame_of (new_parts chip rooms)) receivers
+      → IsAtEnds receives_by (map frame_of (new_parts chip ByHeader rooms)) receivers
   IsAtEnds-receivers receivers are = record {
     at = λ wire i frame at receives.
         let made = made-at chip is_chip rooms i frame at in

@@ -16,6 +16,7 @@ use Rattle.aeth_components.specs.Resting.{HasPlaces, HoldNoMore, HoldsNone, hold
 use Rattle.aeth_components.specs.Turns.{AreReady, AreUnmarked, HasRoom}
 use Rattle.aeth_components.specs.declared.ends.Ends.{Ends}
 use Rattle.aeth_components.specs.declared.turns.Turns.{Turns}
+use Rattle.aeth_components.specs.declared.making.RouterKind.TheVariants.{ByHeader}
 use Rattle.aeth_components.proofs.EndLemmas.{IsAtEnds-receivers, IsAtEnds-senders}
 use Rattle.aeth_components.proofs.FrameLemmas.{from-map}
 use Rattle.aeth_components.proofs.MadeLemmas.{Made, IsInterface, IsRouter, IsStage, length-new_parts}
@@ -50,19 +51,19 @@ module _ (chip : ChipData) (rooms : List ℕ) where
   made-none i part (IsStage k few place stage) = rw stage.is refl
 
   HoldNoMore-new : (wires : List (Option Flit))
-      → HoldNoMore wires (map holding_of (new_parts chip rooms))
+      → HoldNoMore wires (map holding_of (new_parts chip ByHeader rooms))
   HoldNoMore-new wires = record {
     places = λ i holding at.
-        let found = from-map holding_of (new_parts chip rooms) i holding at in
+        let found = from-map holding_of (new_parts chip ByHeader rooms) i holding at in
         rw found.2 (made-places i found.0 (part-at chip rooms i found.0 found.1));
     none = λ i holding at empty.
-        let found = from-map holding_of (new_parts chip rooms) i holding at in
+        let found = from-map holding_of (new_parts chip ByHeader rooms) i holding at in
         rw found.2 (made-none i found.0 (part-at chip rooms i found.0 found.1));
   }
 
 module _ (chip : ChipData) (is_chip : IsChip chip) (rooms : List ℕ) where
   AreEnds-new : (ends : Ends) → AreEndsOf chip ends
-      → AreEnds (map frame_of (new_parts chip rooms)) (wires_of chip.links) ends
+      → AreEnds (map frame_of (new_parts chip ByHeader rooms)) (wires_of chip.links) ends
   AreEnds-new ends are =
       let parts = are.parts in
       let interfaces = are.interfaces in
@@ -79,7 +80,7 @@ module _ (chip : ChipData) (is_chip : IsChip chip) (rooms : List ℕ) where
           few_wires = are.few_wires;
           few_parts = omega (arith, parts, few);
         };
-        count = parts ∙ sym (length-map (new_parts chip rooms) frame_of
+        count = parts ∙ sym (length-map (new_parts chip ByHeader rooms) frame_of
             ∙ length-new_parts chip rooms);
         sends = IsAtEnds-senders chip is_chip rooms ends.senders.items are.senders;
         receives = IsAtEnds-receivers chip is_chip rooms ends.receivers.items are.receivers;
@@ -94,10 +95,11 @@ module _ (chip : ChipData) (is_chip : IsChip chip) (rooms : List ℕ) where
   -- Nothing is marked, and nothing is held.
   pub AreReady-new : (turns : Turns) → AreEndsOf chip turns.ends → HasRoom turns
       → AreUnmarked (turns.ends.parts + turns.ends.parts) turns.marks
-      → AreReady (map frame_of (new_parts chip rooms)) (map holding_of (new_parts chip rooms))
+      → AreReady (map frame_of (new_parts chip ByHeader rooms))
+      (map holding_of (new_parts chip ByHeader rooms))
       (replicate (wires_of chip.links) None) turns
   AreReady-new turns are room none = record {
-    ends = subst (λ n. AreEnds (map frame_of (new_parts chip rooms)) n turns.ends)
+    ends = subst (λ n. AreEnds (map frame_of (new_parts chip ByHeader rooms)) n turns.ends)
         (sym (length-replicate (wires_of chip.links) None)) (AreEnds-new turns.ends are);
     room = room;
     unmarked = none;

@@ -16,7 +16,7 @@ use Rattle.aeth_ni.proofs.InterfaceLemmas.{length-with_queue}
 use Rattle.aeth_clocked.specs.Driven.{AreDisjoint}
 use Rattle.aeth_clocked.specs.declared.flit.Flit.{Flit}
 use Rattle.aeth_router.specs.declared.part.Part.{Part}
-use Rattle.aeth_router.specs.declared.part.Part.TheVariants.{Interface, Router, Stage}
+use Rattle.aeth_router.specs.declared.part.Part.TheVariants.{Interface, Router, Stage, TableRouter}
 use Rattle.aeth_router.specs.Part.{absorb_of, after_of, inputs_of, outputs_of}
 use Rattle.aeth_components.specs.Components.{wires_driven}
 use Rattle.aeth_components.specs.Frames.{Frame, InterfaceFrame, IsWired, frame_of, receives_by}
@@ -37,12 +37,14 @@ All-from_map f P xs all place default within =
 pub outputs_of-frame : (part : Part) (link : ℕ) → outputs_of part link ≡ sends_by (frame_of part) link
 outputs_of-frame (Interface ni) link = refl
 outputs_of-frame (Router router) link = refl
+outputs_of-frame (TableRouter router) link = refl
 outputs_of-frame (Stage stage) link = refl
 
 pub inputs_of-frame : (part : Part) (link : ℕ)
     → inputs_of part link ≡ receives_by (frame_of part) link
 inputs_of-frame (Interface ni) link = refl
 inputs_of-frame (Router router) link = refl
+inputs_of-frame (TableRouter router) link = refl
 inputs_of-frame (Stage stage) link = refl
 
 module _ (links : Part → ℕ → Bool) (kinds : Frame → ℕ → Bool)
@@ -123,6 +125,7 @@ frame_of-after (Interface ni) cycle =
     frame_of-queues ni (flit_sent_by (queue_at_cycle ni.entries cycle) ni.queues)
     (length-flit_sent_by (queue_at_cycle ni.entries cycle) ni.queues)
 frame_of-after (Router router) cycle = refl
+frame_of-after (TableRouter router) cycle = refl
 frame_of-after (Stage stage) cycle = refl
 
 length-landed_at : (arrival : Option Arrival) (queues : List QueueState)
@@ -137,10 +140,11 @@ frame_of-absorb (Interface ni) wires =
     let arrival = arrival_of (flit_on wires ni.entering.0) in
     frame_of-queues ni (landed_at arrival ni.queues) (length-landed_at arrival ni.queues)
 frame_of-absorb (Router router) wires = refl
+frame_of-absorb (TableRouter router) wires = refl
 frame_of-absorb (Stage stage) wires = refl
 
 -- A change of all components that keeps each frame keeps the frames.
-frames-map : (change : Part → Part) → ((part : Part) → frame_of (change part) ≡ frame_of part)
+pub frames-map : (change : Part → Part) → ((part : Part) → frame_of (change part) ≡ frame_of part)
     → (parts : List Part) → map frame_of (map change parts) ≡ map frame_of parts
 frames-map change kept [] = refl
 frames-map change kept (part ∷ parts) = rw (kept part, frames-map change kept parts) refl

@@ -19,11 +19,12 @@ use Rattle.aeth_ni.proofs.RestingLemmas.{RestsDrive-interface, RestsLatch-interf
 use Rattle.aeth_router.specs.Part.{absorb_of, after_of, emit_of, inputs_of, outputs_of}
 use Rattle.aeth_router.specs.Router.{RouterState}
 use Rattle.aeth_router.specs.Stage.{StageState}
+use Rattle.aeth_router.specs.TableRouter.{TableRouterState}
 use Rattle.aeth_router.specs.declared.part.Part.{Part}
-use Rattle.aeth_router.specs.declared.part.Part.TheVariants.{Interface, Router, Stage}
+use Rattle.aeth_router.specs.declared.part.Part.TheVariants.{Interface, Router, Stage, TableRouter}
 use Rattle.aeth_router.proofs.IdleLemmas.{HasNoFlit-map}
-use Rattle.aeth_router.proofs.RestingLemmas.{RestsDrive-router, RestsDrive-stage}
-use Rattle.aeth_router.proofs.RestingLemmas.{RestsLatch-router, RestsLatch-stage}
+use Rattle.aeth_router.proofs.RestingLemmas.{RestsDrive-router, RestsDrive-stage, RestsDrive-table}
+use Rattle.aeth_router.proofs.RestingLemmas.{RestsLatch-router, RestsLatch-stage, RestsLatch-table}
 use Rattle.aeth_components.specs.declared.event.Event.{Event}
 use Rattle.aeth_components.specs.declared.event.Event.TheVariants.{Halt, Finish, Change}
 use Rattle.aeth_components.specs.Changes.{event_done, on_interface, switched}
@@ -40,6 +41,7 @@ holding-changed : (queue : ℕ) (change : QueueState → QueueState) (part : Par
     → holding_of (on_interface (changed queue change) part) ≡ holding_of part
 holding-changed queue change (Interface ni) = refl
 holding-changed queue change (Router router) = refl
+holding-changed queue change (TableRouter router) = refl
 holding-changed queue change (Stage stage) = refl
 
 -- Nor does an event.
@@ -53,6 +55,7 @@ holding-written (SetSlot to slot queue) ni = refl
 holding-event : (event : Event) (part : Part)
     → holding_of (on_interface (event_done event) part) ≡ holding_of part
 holding-event event (Router router) = refl
+holding-event event (TableRouter router) = refl
 holding-event event (Stage stage) = refl
 holding-event (Halt end) (Interface ni) = refl
 holding-event (Finish end) (Interface ni) = refl
@@ -81,6 +84,7 @@ absorbed-places : (wires : List (Option Flit)) (part : Part)
     → HasPlaces (holding_of (absorb_of part wires))
 absorbed-places wires (Interface ni) = tt
 absorbed-places wires (Router router) = length-map router.incoming (flit_on wires)
+absorbed-places wires (TableRouter router) = length-map router.incoming (flit_on wires)
 absorbed-places wires (Stage stage) = tt
 
 absorbed-none : (wires : List (Option Flit)) (part : Part)
@@ -90,6 +94,9 @@ absorbed-none wires (Interface ni) empty =
     ap (λ (flit : Option Flit). last_of (arrival_of flit))
     ((HasNoFlit-one ni.entering.0 wires).1 empty)
 absorbed-none wires (Router router) empty =
+    HasNoFlit-map router.incoming wires empty
+    ∙ ap (λ n. replicate n None) (sym (length-map router.incoming (flit_on wires)))
+absorbed-none wires (TableRouter router) empty =
     HasNoFlit-map router.incoming wires empty
     ∙ ap (λ n. replicate n None) (sym (length-map router.incoming (flit_on wires)))
 absorbed-none wires (Stage stage) empty = (HasNoFlit-one stage.input.0 wires).1 empty
@@ -128,6 +135,13 @@ RestsDrive-part cycle wires (Router router) none empty =
       still = ap (λ (router : RouterState). Router router) rests.still;
       empty = empty;
     }
+RestsDrive-part cycle wires (TableRouter router) none empty =
+    let rests = (RestsDrive-table router wires cycle).0 (none, empty) in
+    record {
+      silent = rests.silent;
+      still = ap (λ (router : TableRouterState). TableRouter router) rests.still;
+      empty = empty;
+    }
 RestsDrive-part cycle wires (Stage stage) none empty =
     let rests = (RestsDrive-stage stage wires cycle).0
     (none, (HasNoFlit-one stage.output.0 wires).1 empty) in
@@ -147,6 +161,9 @@ RestsLatch-part wires (Interface ni) places none empty =
 RestsLatch-part wires (Router router) places none empty =
     ap (λ (router : RouterState). Router router)
     ((RestsLatch-router router wires places).0 (none, empty)).1
+RestsLatch-part wires (TableRouter router) places none empty =
+    ap (λ (router : TableRouterState). TableRouter router)
+    ((RestsLatch-table router wires places).0 (none, empty)).1
 RestsLatch-part wires (Stage stage) places none empty =
     ap (λ (stage : StageState). Stage stage)
     ((RestsLatch-stage stage wires).0 (none, (HasNoFlit-one stage.input.0 wires).1 empty)).1
@@ -156,6 +173,7 @@ holding-after : (cycle : ℕ) (part : Part)
     → holding_of (after_of part cycle) ≡ left_held (holding_of part)
 holding-after cycle (Interface ni) = refl
 holding-after cycle (Router router) = refl
+holding-after cycle (TableRouter router) = refl
 holding-after cycle (Stage stage) = refl
 
 pub holdings-after : (cycle : ℕ) (parts : List Part)
@@ -183,6 +201,7 @@ left-none wires (StageHolds input held) none empty = refl
 pub holds_from-part : (part : Part) (wire : ℕ) → holds_from (holding_of part) wire ≡ inputs_of part wire
 holds_from-part (Interface ni) wire = refl
 holds_from-part (Router router) wire = refl
+holds_from-part (TableRouter router) wire = refl
 holds_from-part (Stage stage) wire = refl
 
 -- What isn't marked rests, where of each wire with a flit the component at its end is marked.

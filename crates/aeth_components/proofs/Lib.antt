@@ -2,11 +2,13 @@ pub mod AloneLemmas
 pub mod CountingLemmas
 mod CycleLemmas
 mod EndLemmas
+pub mod EnteringLemmas
 pub mod FrameLemmas
 mod FirstLemmas
 mod HalvesLemmas
 pub mod HoldingLemmas
 pub mod KeptLemmas
+pub mod KindLemmas
 pub mod LaneLemmas
 mod ListedLemmas
 mod MarkLemmas

@@ -32,12 +32,13 @@ use Rattle.aeth_components.specs.Components.{part_count}
 use Rattle.aeth_components.specs.Frames.{Frame, IsWired, frame_of, receives_by, sends_by}
 use Rattle.aeth_components.specs.Making.{made_interface, made_router, made_stage}
 use Rattle.aeth_components.specs.Making.{made_stages, new_parts}
+use Rattle.aeth_components.specs.declared.making.RouterKind.TheVariants.{ByHeader}
 
 -- The component of a number is an interface, a router, or a stage.
 pub data Made (chip : ChipData) (rooms : List ℕ) (i : ℕ) (part : Part) : Type 0 where
   IsInterface : i < length chip.nis → part ≡ made_interface chip rooms i → Made chip rooms i part
   IsRouter : (r : ℕ) → r < length chip.routers → i ≡ length chip.nis + r
-      → part ≡ made_router chip r → Made chip rooms i part
+      → part ≡ made_router chip ByHeader r → Made chip rooms i part
   IsStage : (k : ℕ) → k < further_wires chip.links
       → i ≡ length chip.nis + length chip.routers + k → StageAt chip.links k part
       → Made chip rooms i part
@@ -47,7 +48,7 @@ module _ (chip : ChipData) (rooms : List ℕ) where
   interfaces = map (made_interface chip rooms) (range_with_len 0 (length chip.nis))
 
   abbrev routers : List Part
-  routers = map (made_router chip) (range_with_len 0 (length chip.routers))
+  routers = map (made_router chip ByHeader) (range_with_len 0 (length chip.routers))
 
   length-interfaces : length interfaces ≡ length chip.nis
   length-interfaces = length-map-range_with_len (made_interface chip rooms) 0 (length chip.nis)
@@ -55,7 +56,7 @@ module _ (chip : ChipData) (rooms : List ℕ) where
   length-both : length (interfaces ++ routers) ≡ length chip.nis + length chip.routers
   length-both =
       let first = length-interfaces in
-      let second = length-map-range_with_len (made_router chip) 0 (length chip.routers) in
+      let second = length-map-range_with_len (made_router chip ByHeader) 0 (length chip.routers) in
       length-append interfaces routers ∙ omega arith
 
   length-stages : length (made_stages chip.links (length chip.links)) ≡ further_wires chip.links
@@ -64,14 +65,14 @@ module _ (chip : ChipData) (rooms : List ℕ) where
       ∙ ap further_wires (take_all (length chip.links) chip.links (omega arith))
 
   -- There are as many components as interfaces, routers and stages.
-  pub length-new_parts : length (new_parts chip rooms) ≡ part_count chip
+  pub length-new_parts : length (new_parts chip ByHeader rooms) ≡ part_count chip
   length-new_parts =
       let both = length-both in
       let stages = length-stages in
       length-append (interfaces ++ routers) (made_stages chip.links (length chip.links))
       ∙ omega arith
 
-  pub part-at : (i : ℕ) (part : Part) → slice_get (new_parts chip rooms) i ≡ Some part
+  pub part-at : (i : ℕ) (part : Part) → slice_get (new_parts chip ByHeader rooms) i ≡ Some part
       → Made chip rooms i part
   part-at i part at =
       let size = length-interfaces in
@@ -85,10 +86,10 @@ module _ (chip : ChipData) (rooms : List ℕ) where
               (one.1 ∙ ap (made_interface chip rooms) (let same : 0 + i ≡ i = omega arith in same))
           | inr second ↦
               let one =
-              at-range (made_router chip) 0 (length chip.routers) second.0 part second.2 in
+              at-range (made_router chip ByHeader) 0 (length chip.routers) second.0 part second.2 in
               let place = second.1 in
               IsRouter second.0 one.0 (omega arith)
-              (one.1 ∙ ap (made_router chip)
+              (one.1 ∙ ap (made_router chip ByHeader)
               (let same : 0 + second.0 ≡ second.0 = omega arith in same))
         ]
         | inr later ↦
@@ -147,7 +148,7 @@ module _ (chip : ChipData) (is_chip : IsChip chip) (rooms : List ℕ) where
       let passes = passes-from_is_among (begins_at node) chip.links wire among in
       inl (passes.0, passes.1, same_node-place (length chip.nis) passes.0.from node passes.2)
 
-  router-sends : (r wire : ℕ) → sends_by (frame_of (made_router chip r)) wire ≡ true
+  router-sends : (r wire : ℕ) → sends_by (frame_of (made_router chip ByHeader r)) wire ≡ true
       → SendsAt chip (length chip.nis + r) wire
   router-sends r wire is =
       let node : Node = Router (record { 0 = r }) in
@@ -267,7 +268,7 @@ module _ (chip : ChipData) (is_chip : IsChip chip) (rooms : List ℕ) where
 
   -- So on each wire a component sends.
   owner : (wire : ℕ) → wire < wires_of chip.links
-      → (i : ℕ) × (part : Part) × (slice_get (new_parts chip rooms) i ≡ Some part)
+      → (i : ℕ) × (part : Part) × (slice_get (new_parts chip ByHeader rooms) i ≡ Some part)
       × (sends_by (frame_of part) wire ≡ true)
   owner wire within =
       let size = length-new_parts chip rooms in
@@ -277,7 +278,7 @@ module _ (chip : ChipData) (is_chip : IsChip chip) (rooms : List ℕ) where
             let known = (is_chip.links wire link.0 link.1).from in
             let i = part_number (length chip.nis) link.0.from in
             let below = part_number-below chip.routers chip.nis link.0.from known in
-            let part = item-at (new_parts chip rooms) i (omega arith) in (
+            let part = item-at (new_parts chip ByHeader rooms) i (omega arith) in (
               i,
               part.0,
               part.1,
@@ -288,20 +289,21 @@ module _ (chip : ChipData) (is_chip : IsChip chip) (rooms : List ℕ) where
             let split = wires_of-split chip.links (have_delays chip is_chip) in
             let k = wire - length chip.links in
             let i = length chip.nis + length chip.routers + k in
-            let part = item-at (new_parts chip rooms) i (omega arith) in
+            let part = item-at (new_parts chip ByHeader rooms) i (omega arith) in
             let same : length chip.links + k ≡ wire = omega arith in
             let sends = further-sends k (omega arith) part.0 (part-at chip rooms i part.0 part.1) in
             (i, part.0, part.1, ap (sends_by (frame_of part.0)) (sym same) ∙ sends)
       ]
 
-  pub made-at : (i : ℕ) (frame : Frame) → slice_get (map frame_of (new_parts chip rooms)) i ≡ Some frame
+  pub made-at : (i : ℕ) (frame : Frame)
+      → slice_get (map frame_of (new_parts chip ByHeader rooms)) i ≡ Some frame
       → (part : Part) × (Made chip rooms i part) × (frame ≡ frame_of part)
   made-at i frame at =
-      let made = from-map frame_of (new_parts chip rooms) i frame at in
+      let made = from-map frame_of (new_parts chip ByHeader rooms) i frame at in
       (made.0, part-at chip rooms i made.0 made.1, made.2)
 
   pub frame-sends : (i wire : ℕ) (frame : Frame)
-      → slice_get (map frame_of (new_parts chip rooms)) i ≡ Some frame
+      → slice_get (map frame_of (new_parts chip ByHeader rooms)) i ≡ Some frame
       → sends_by frame wire ≡ true → SendsAt chip i wire
   frame-sends i wire frame at sends =
       let made = made-at i frame at in
@@ -309,9 +311,9 @@ module _ (chip : ChipData) (is_chip : IsChip chip) (rooms : List ℕ) where
       (ap (λ (frame : Frame). sends_by frame wire) (sym made.2) ∙ sends)
 
   -- A chip's components are wired by its wires.
-  pub IsWired-new : IsWired (map frame_of (new_parts chip rooms)) (wires_of chip.links)
+  pub IsWired-new : IsWired (map frame_of (new_parts chip ByHeader rooms)) (wires_of chip.links)
   IsWired-new =
-      let frames = map frame_of (new_parts chip rooms) in
+      let frames = map frame_of (new_parts chip ByHeader rooms) in
       record {
         outputs = λ i default within wire sends.
             sends-below i wire (frame-sends i wire (get_or frames i default)
@@ -328,7 +330,8 @@ module _ (chip : ChipData) (is_chip : IsChip chip) (rooms : List ℕ) where
             let part = owner wire within in (
               part.0,
               frame_of part.1,
-              slice_get-map frame_of (new_parts chip rooms) part.0 ∙ ap (option_map frame_of) part.2,
+              slice_get-map frame_of (new_parts chip ByHeader rooms) part.0
+                  ∙ ap (option_map frame_of) part.2,
               part.3,
             );
       }

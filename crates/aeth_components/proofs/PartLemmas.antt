@@ -10,7 +10,7 @@ use Rattle.std.proofs.lemmas.Option.{slice_get-get_or, slice_get-map}
 use Rattle.aeth_ni.specs.declared.write.Write.{Write}
 use Rattle.aeth_ni.specs.declared.write.Write.TheVariants.{ClearSlot, ClearRoute, SetRoute, SetSlot}
 use Rattle.aeth_router.specs.declared.part.Part.{Part}
-use Rattle.aeth_router.specs.declared.part.Part.TheVariants.{Interface, Router, Stage}
+use Rattle.aeth_router.specs.declared.part.Part.TheVariants.{Interface, Router, Stage, TableRouter}
 use Rattle.aeth_components.specs.declared.event.Event.{Event}
 use Rattle.aeth_components.specs.declared.event.Event.TheVariants.{Halt, Finish, Change}
 use Rattle.aeth_components.proofs.FrameLemmas.{frame_of-changed}
@@ -85,6 +85,7 @@ frame_of-written (SetSlot to slot queue) ni = rw (length-set ni.entries slot) re
 frame_of-event : (event : Event) (part : Part)
     → frame_of (on_interface (event_done event) part) ≡ frame_of part
 frame_of-event event (Router router) = refl
+frame_of-event event (TableRouter router) = refl
 frame_of-event event (Stage stage) = refl
 frame_of-event (Halt end) (Interface ni) = frame_of-changed end.queue stopped ni
 frame_of-event (Finish end) (Interface ni) = frame_of-changed end.queue finished ni

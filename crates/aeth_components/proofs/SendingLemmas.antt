@@ -14,7 +14,7 @@ use Rattle.aeth_clocked.proofs.DrivenLemmas.{AreDisjoint-tail, driven-at}
 use Rattle.aeth_clocked.proofs.FewLemmas.{chosen-few}
 use Rattle.aeth_router.specs.Part.{emit_of, outputs_of}
 use Rattle.aeth_router.specs.declared.part.Part.{Part}
-use Rattle.aeth_router.specs.declared.part.Part.TheVariants.{Interface, Router, Stage}
+use Rattle.aeth_router.specs.declared.part.Part.TheVariants.{Interface, Router, Stage, TableRouter}
 use Rattle.aeth_components.specs.Components.{wires_driven}
 use Rattle.aeth_components.specs.Frames.{IsWired, frame_of}
 use Rattle.aeth_components.specs.Turns.{flits_on, sends_own}
@@ -24,6 +24,7 @@ use Rattle.aeth_components.proofs.FrameLemmas.{AreDisjoint-parts, AreLinks-outpu
 abbrev leaving_of : Part → ℕ
 leaving_of (Interface ni) = ni.leaving.0
 leaving_of (Router router) = 0
+leaving_of (TableRouter router) = 0
 leaving_of (Stage stage) = 0
 
 -- The wires on which components send something of their own.
@@ -35,12 +36,14 @@ leaving-output : (cycle : ℕ) (part : Part) → sends_own cycle part ≡ true
     → outputs_of part (leaving_of part) ≡ true
 leaving-output cycle (Interface ni) sends = eq-eqb ni.leaving.0 ni.leaving.0 refl
 leaving-output cycle (Router router) sends = absurd (cc sends)
+leaving-output cycle (TableRouter router) sends = absurd (cc sends)
 leaving-output cycle (Stage stage) sends = absurd (cc sends)
 
 leaving-emits : (cycle : ℕ) (part : Part) → sends_own cycle part ≡ true
     → is_some (emit_of part cycle (leaving_of part)) ≡ true
 leaving-emits cycle (Interface ni) sends = sends
 leaving-emits cycle (Router router) sends = absurd (cc sends)
+leaving-emits cycle (TableRouter router) sends = absurd (cc sends)
 leaving-emits cycle (Stage stage) sends = absurd (cc sends)
 
 -- Each of these wires is a component's.

@@ -8,7 +8,7 @@ use Rattle.aeth_base.specs.declared.ids.LinkId.{LinkId}
 use Rattle.aeth_base.specs.declared.ids.NiId.{NiId}
 use Rattle.aeth_ni.specs.declared.write.Write.TheVariants.{ClearSlot, ClearRoute, SetRoute, SetSlot}
 use Rattle.aeth_router.specs.declared.part.Part.{Part}
-use Rattle.aeth_router.specs.declared.part.Part.TheVariants.{Interface, Router, Stage}
+use Rattle.aeth_router.specs.declared.part.Part.TheVariants.{Interface, Router, Stage, TableRouter}
 use Rattle.aeth_components.specs.declared.event.Event.{Event}
 use Rattle.aeth_components.specs.declared.event.Event.TheVariants.{Halt, Finish, Change}
 use Rattle.aeth_components.proofs.AloneLemmas.{interface-at, slice_get-with_part_other}
@@ -32,6 +32,7 @@ entry_of-kept : (parts : List Part) (number : ℕ) (change : InterfaceState → 
 entry_of-kept [] number change kept ni slot = refl
 entry_of-kept (Interface state ∷ parts) zero change kept zero slot = rw (kept state) refl
 entry_of-kept (Router router ∷ parts) zero change kept zero slot = refl
+entry_of-kept (TableRouter router ∷ parts) zero change kept zero slot = refl
 entry_of-kept (Stage stage ∷ parts) zero change kept zero slot = refl
 entry_of-kept (part ∷ parts) zero change kept (suc ni) slot = refl
 entry_of-kept (part ∷ parts) (suc number) change kept zero slot = refl
@@ -44,6 +45,7 @@ entry_in-other : (part : Part) (write : SlotWrite) (slot : ℕ) → slot ≢ wri
 entry_in-other (Interface ni) write slot apart =
     get_or-set_other ni.entries write.slot slot write.entry None apart
 entry_in-other (Router router) write slot apart = refl
+entry_in-other (TableRouter router) write slot apart = refl
 entry_in-other (Stage stage) write slot apart = refl
 
 entry_of-same_part : (parts : List Part) (number slot : ℕ) (write : SlotWrite)
@@ -76,6 +78,7 @@ slots-in : (part : Part) (number : NiId) (leaving entering : LinkId) (slots queu
     → (ni : InterfaceState) × (part ≡ Interface ni) × (length ni.entries ≡ slots)
 slots-in (Interface ni) number leaving entering slots queues is = (ni, refl, cc)
 slots-in (Router router) number leaving entering slots queues is = absurd cc
+slots-in (TableRouter router) number leaving entering slots queues is = absurd cc
 slots-in (Stage stage) number leaving entering slots queues is = absurd cc
 
 entry_of-write_same : (parts : List Part) (write : SlotWrite)

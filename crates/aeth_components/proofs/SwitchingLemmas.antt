@@ -4,7 +4,7 @@ use Rattle.std.proofs.Common.{List, [], ◌∷◌, Some, map, slice_get}
 use Rattle.std.proofs.lemmas.Option.{same_Some}
 use Rattle.aeth_ni.specs.declared.write.Write.TheVariants.{ClearSlot, ClearRoute, SetRoute, SetSlot}
 use Rattle.aeth_router.specs.declared.part.Part.{Part}
-use Rattle.aeth_router.specs.declared.part.Part.TheVariants.{Interface, Router, Stage}
+use Rattle.aeth_router.specs.declared.part.Part.TheVariants.{Interface, Router, Stage, TableRouter}
 use Rattle.aeth_components.specs.declared.lane.ChannelEnd.{ChannelEnd}
 use Rattle.aeth_components.specs.declared.event.Event.{Event}
 use Rattle.aeth_components.specs.declared.event.Event.TheVariants.{Halt, Finish, Change}
@@ -24,6 +24,7 @@ queue_of-kept : (parts : List Part) (number : ℕ) (change : InterfaceState → 
 queue_of-kept [] number change kept ni queue = refl
 queue_of-kept (Interface state ∷ parts) zero change kept zero queue = rw (kept state) refl
 queue_of-kept (Router router ∷ parts) zero change kept zero queue = refl
+queue_of-kept (TableRouter router ∷ parts) zero change kept zero queue = refl
 queue_of-kept (Stage stage ∷ parts) zero change kept zero queue = refl
 queue_of-kept (part ∷ parts) zero change kept (suc ni) queue = refl
 queue_of-kept (part ∷ parts) (suc number) change kept zero queue = refl

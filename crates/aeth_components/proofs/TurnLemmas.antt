@@ -4,7 +4,7 @@ use Rattle.std.proofs.Common.{arith, inl, inr, true, false, map, drop}
 use Rattle.std.specs.Option.{option_map_or}
 use Rattle.std.proofs.lemmas.Bool.{cases_Bool}
 use Rattle.aeth_components.specs.declared.lane.ChannelEnd.{ChannelEnd}
-use Rattle.aeth_router.specs.declared.part.Part.TheVariants.{Interface, Router, Stage}
+use Rattle.aeth_router.specs.declared.part.Part.TheVariants.{Interface, Router, Stage, TableRouter}
 use Rattle.std.proofs.Common.{List, [], ◌∷◌, ◌++◌, length, fold, Option, Some, None}
 use Rattle.std.proofs.Common.{slice_get}
 use Rattle.std.specs.List.{All}
@@ -107,6 +107,7 @@ on_interface-same queue change same (Interface ni) =
     ap (λ (ni : InterfaceState). Interface ni)
     (changed-same queue change ni (same (queue_at ni.queues queue)))
 on_interface-same queue change same (Router router) = refl
+on_interface-same queue change same (TableRouter router) = refl
 on_interface-same queue change same (Stage stage) = refl
 
 at_end-same : (end : ChannelEnd) (change : QueueState → QueueState)
@@ -121,6 +122,7 @@ told_by-le : (queue most : ℕ) (tells : QueueState → ℕ)
     → ((state : QueueState) → tells state ≤ most) → (part : Part) → told_by queue tells part ≤ most
 told_by-le queue most tells within (Interface ni) = within (queue_at ni.queues queue)
 told_by-le queue most tells within (Router router) = omega arith
+told_by-le queue most tells within (TableRouter router) = omega arith
 told_by-le queue most tells within (Stage stage) = omega arith
 
 map_or-le : (most : ℕ) (tells : Part → ℕ) → ((part : Part) → tells part ≤ most)
@@ -191,6 +193,7 @@ frame_of-on_interface : (queue : ℕ) (change : QueueState → QueueState) (part
     → frame_of (on_interface (changed queue change) part) ≡ frame_of part
 frame_of-on_interface queue change (Interface ni) = frame_of-changed queue change ni
 frame_of-on_interface queue change (Router router) = refl
+frame_of-on_interface queue change (TableRouter router) = refl
 frame_of-on_interface queue change (Stage stage) = refl
 
 -- What changes of queues keep of the components, refilling and taking keep.

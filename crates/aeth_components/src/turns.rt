@@ -11,6 +11,7 @@ ghost use Rattle.aeth_components.specs.Resting.{holding_of};
 ghost use Rattle.aeth_components.specs.Turns.{AreListed, AreReady, AreUnmarked, HasRoom, ListDrive};
 ghost use Rattle.aeth_components.specs.Turns.{ListLatch, Lists, MarkDrive, MarkEnds, MarkSending};
 ghost use Rattle.aeth_components.specs.Turns.{mark_of};
+ghost use Rattle.aeth_components.specs.declared.making.RouterKind.TheVariants.{ByHeader};
 
 use crate::ends::Ends;
 use crate::parts::sends_own;
@@ -37,7 +38,8 @@ impl Turns {
     // Those of the components of a chip, before the first cycle. Later calls take no memory.
     pub(crate) fn new(alloc: Global, chip: &Chip) -> Result<Turns, NoMemory>
         ensures { IfOk result (λ turns. (rooms : List ℕ) → AreReady
-            (map frame_of (new_parts chip.now rooms)) (map holding_of (new_parts chip.now rooms))
+            (map frame_of (new_parts chip.now ByHeader rooms))
+            (map holding_of (new_parts chip.now ByHeader rooms))
             (replicate (wires_of chip.now.links) None) turns) }
     {
         let _ = chip.slots();

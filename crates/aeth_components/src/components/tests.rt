@@ -4,10 +4,12 @@ ghost use Rattle.aeth_base.specs.Limits.{max_cycles};
 ghost use Rattle.aeth_components.specs.Components.{frames_of};
 ghost use Rattle.aeth_components.specs.Frames.{RouterFrame, frame_of};
 ghost use Rattle.aeth_components.specs.Making.{made_router};
+ghost use Rattle.aeth_components.specs.declared.making.RouterKind.TheVariants.{ByHeader};
 
 use super::Components;
 use crate::event::Event;
 use crate::lane::{ChannelEnd, Lane};
+use crate::making::RouterKind;
 use aeth_base::{NiId, RouterId};
 use aeth_chip::{Chip, read_chip};
 use aeth_clocked::Order;
@@ -74,12 +76,12 @@ fn pair_of(alloc: Global, chip: &Chip) -> Option<Components>
     requires routers { length chip.now.routers ≡ 2 }
     requires slots { chip.now.slots ≡ 8 }
     ensures { IfSome result (λ pair.
-        slice_get (frames_of pair) 2 ≡ Some (frame_of (made_router chip.now 0))) }
+        slice_get (frames_of pair) 2 ≡ Some (frame_of (made_router chip.now ByHeader 0))) }
 {
     let lanes = [SESSION].to_vec(alloc).ok()?;
     let words = [100, 101, 102, 103, 104].to_vec(alloc).ok()?;
     let rooms = [9; 2 * QUEUES_OF_INTERFACE];
-    let mut pair = Components::new(alloc, chip, &rooms, lanes, words).ok()?;
+    let mut pair = Components::new(alloc, chip, RouterKind::ByHeader, &rooms, lanes, words).ok()?;
     pair.prepare(&TABLES);
     Some(pair)
 }
@@ -130,7 +132,8 @@ fn played(alloc: Global, pair: &mut Components, from: u32, to: u32) -> bool
 
 // The router `r0` is put back to a fresh one, and so loses the flit that it holds.
 fn lose(alloc: Global, chip: &Chip, pair: &mut Components) -> bool
-    requires { slice_get (frames_of pair.old) 2 ≡ Some (frame_of (made_router chip.now 0)) }
+    requires { slice_get (frames_of pair.old) 2
+        ≡ Some (frame_of (made_router chip.now ByHeader 0)) }
 {
     match Router::new(alloc, chip, RouterId(0)) {
         Ok(router) => {
@@ -143,7 +146,8 @@ fn lose(alloc: Global, chip: &Chip, pair: &mut Components) -> bool
 
 // 20 cycles. Before cycle 5 a flit is lost.
 fn carry(alloc: Global, chip: &Chip, pair: &mut Components) -> bool
-    requires { slice_get (frames_of pair.old) 2 ≡ Some (frame_of (made_router chip.now 0)) }
+    requires { slice_get (frames_of pair.old) 2
+        ≡ Some (frame_of (made_router chip.now ByHeader 0)) }
 {
     if !played(alloc, pair, 0, 5) {
         return false;

@@ -8,8 +8,9 @@ use Rattle.aeth_components.specs.Making.{made_router}
 pub loop-number-preserved : goal.loop-number-preserved
 loop-number-preserved c =
     let chip = c.args.chip.now in
+    let kind = c.args.kind in
     let number = c.loop-number.number in
-    let more = map-range_with_len_more (made_router chip) 0 number number (omega arith) in
+    let more = map-range_with_len_more (made_router chip kind) 0 number number (omega arith) in
     let regroup = append_assoc c.args.parts.now.items
-    (map (made_router chip) (range_with_len 0 number)) (made_router chip number ∷ []) in
-    cc (c.in_ok-push.ensures.items, c.in_ok-router.ensures)
+    (map (made_router chip kind) (range_with_len 0 number)) (made_router chip kind number ∷ []) in
+    cc (c.in_ok-push.ensures.items, c.in_ok-router_of.ensures)

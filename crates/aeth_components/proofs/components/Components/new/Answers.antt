@@ -7,14 +7,17 @@ use Rattle.aeth_chip.specs.Wires.{wires_of}
 use Rattle.aeth_clocked.specs.declared.flit.Flit.{Flit}
 use Rattle.aeth_router.specs.declared.part.Part.{Part}
 use Rattle.aeth_components.proofs.components.Components.new.Goals as goal
-use Rattle.aeth_components.proofs.MadeLemmas.{IsWired-new, length-new_parts}
+use Rattle.aeth_components.proofs.KindLemmas.{frames-kind, holdings-kind, length-kind}
+use Rattle.aeth_components.proofs.MadeLemmas.{IsWired-new}
+use Rattle.aeth_components.proofs.ReadyLemmas.{AreReady-same}
 use Rattle.aeth_components.specs.Channels.{ChannelsState}
 use Rattle.aeth_components.specs.Components.{IsComponents, components_of}
-use Rattle.aeth_components.specs.Frames.{IsWired, frame_of}
+use Rattle.aeth_components.specs.Frames.{Frame, IsWired, frame_of}
 use Rattle.aeth_components.specs.Lanes.{IsLane}
 use Rattle.aeth_components.specs.Making.{new_parts}
 use Rattle.aeth_components.specs.Resting.{holding_of}
 use Rattle.aeth_components.specs.Turns.{AreReady}
+use Rattle.aeth_components.specs.declared.making.RouterKind.TheVariants.{ByHeader}
 
 -- The components are wired by the chip's wires.
 pub invariant_of-result : goal.invariant_of-result
@@ -22,7 +25,8 @@ invariant_of-result c =
     let chip = c.args.chip.now in
     let rooms = c.args.rooms.now in
     let words = length c.args.words.items in
-    let made : c.in_ok-parts.parts.items ≡ new_parts chip rooms = c.in_ok-parts.ensures in
+    let kind = c.args.kind in
+    let made : c.in_ok-parts.parts.items ≡ new_parts chip kind rooms = c.in_ok-parts.ensures in
     let wires : length c.in_ok-wires.wires ≡ wires_of chip.links =
     ap length c.in_ok-wires.ensures ∙ length-replicate c.wires.result None ∙ c.wires.ensures.wires
     in
@@ -34,10 +38,11 @@ invariant_of-result c =
           (record {
             wired = subst (λ (parts : List Part). IsWired (map frame_of parts)
                 (length c.in_ok-wires.wires)) (sym made)
-                (subst (IsWired (map frame_of (new_parts chip rooms))) (sym wires)
-                (IsWired-new chip c.slots.ensures.chip rooms));
+                (subst (IsWired (map frame_of (new_parts chip kind rooms))) (sym wires)
+                (subst (λ (frames : List Frame). IsWired frames (wires_of chip.links))
+                (sym (frames-kind chip kind rooms)) (IsWired-new chip c.slots.ensures.chip rooms)));
             lanes = subst (λ n. All (IsLane words n) c.args.lanes.items)
-                (sym (ap length made ∙ length-new_parts chip rooms)) c.requires.lanes;
+                (sym (ap length made ∙ length-kind chip kind rooms)) c.requires.lanes;
             landings = (
                 let size = c.in_ok-landings.ensures.len in
                 let own = c.in_ok-landings.landings.ok.0 in
@@ -57,7 +62,12 @@ invariant_of-result c =
           }),
       subst (λ (parts : List Part). AreReady (map frame_of parts) (map holding_of parts)
           c.in_ok-wires.wires c.in_ok-turns.turns) (sym made)
-          (subst (λ (wires : List (Option Flit)). AreReady (map frame_of (new_parts chip rooms))
-          (map holding_of (new_parts chip rooms)) wires c.in_ok-turns.turns) (sym wires_are)
-          (c.in_ok-turns.ensures rooms)),
+          (subst (λ (wires : List (Option Flit)). AreReady (map frame_of (new_parts chip kind rooms))
+          (map holding_of (new_parts chip kind rooms)) wires c.in_ok-turns.turns) (sym wires_are)
+          (AreReady-same (map frame_of (new_parts chip ByHeader rooms))
+          (map frame_of (new_parts chip kind rooms))
+          (map holding_of (new_parts chip ByHeader rooms))
+          (map holding_of (new_parts chip kind rooms)) (replicate (wires_of chip.links) None)
+          c.in_ok-turns.turns (frames-kind chip kind rooms) (holdings-kind chip kind rooms)
+          (c.in_ok-turns.ensures rooms))),
     )

@@ -1,0 +1,72 @@
+-- The components of a chip with routers of either kind have the same frames, and hold the same.
+use Rattle.std.proofs.Common.{ℕ, ◌≡◌, ◌∙◌, refl, sym, ap, List, [], ◌∷◌, ◌++◌, length, map}
+use Rattle.std.specs.List.{range_with_len}
+use Rattle.std.proofs.lemmas.List.{length-map, map-append}
+use Rattle.aeth_chip.specs.Chip.{ChipData}
+use Rattle.aeth_router.specs.declared.part.Part.{Part}
+use Rattle.aeth_components.specs.declared.making.RouterKind.{RouterKind}
+use Rattle.aeth_components.specs.declared.making.RouterKind.TheVariants.{ByHeader, ByTable}
+use Rattle.aeth_components.specs.Components.{part_count}
+use Rattle.aeth_components.specs.Frames.{frame_of}
+use Rattle.aeth_components.specs.Making.{made_interface, made_router, made_stages, new_parts}
+use Rattle.aeth_components.specs.Resting.{holding_of}
+use Rattle.aeth_components.proofs.MadeLemmas.{length-new_parts}
+
+-- What is the same of one router of either kind is the same of all components.
+module _ {X : Type 0} (view : Part → X) (chip : ChipData) (rooms : List ℕ) (kind : RouterKind)
+    (same : (r : ℕ) → view (made_router chip kind r) ≡ view (made_router chip ByHeader r)) where
+  routers-kind : (numbers : List ℕ)
+      → map view (map (made_router chip kind) numbers)
+      ≡ map view (map (made_router chip ByHeader) numbers)
+  routers-kind [] = refl
+  routers-kind (number ∷ numbers) = rw (same number, routers-kind numbers) refl
+
+  -- The components of a kind, seen in their three runs.
+  views-apart : (kind : RouterKind)
+      → let interfaces = map (made_interface chip rooms) (range_with_len 0 (length chip.nis)) in
+      let routers = map (made_router chip kind) (range_with_len 0 (length chip.routers)) in
+      map view (new_parts chip kind rooms) ≡ (map view interfaces ++ map view routers)
+      ++ map view (made_stages chip.links (length chip.links))
+  views-apart kind =
+      let interfaces = map (made_interface chip rooms) (range_with_len 0 (length chip.nis)) in
+      let routers = map (made_router chip kind) (range_with_len 0 (length chip.routers)) in
+      let stages = made_stages chip.links (length chip.links) in
+      map-append view (interfaces ++ routers) stages
+      ∙ ap (λ (front : List X). front ++ map view stages) (map-append view interfaces routers)
+
+  views-kind : map view (new_parts chip kind rooms) ≡ map view (new_parts chip ByHeader rooms)
+  views-kind =
+      let interfaces = map (made_interface chip rooms) (range_with_len 0 (length chip.nis)) in
+      let stages = made_stages chip.links (length chip.links) in
+      views-apart kind
+      ∙ ap (λ (routers : List X). (map view interfaces ++ routers) ++ map view stages)
+      (routers-kind (range_with_len 0 (length chip.routers)))
+      ∙ sym (views-apart ByHeader)
+
+-- A router has the same wires whatever its kind, and holds no flit.
+frame-kind : (chip : ChipData) (kind : RouterKind) (r : ℕ)
+    → frame_of (made_router chip kind r) ≡ frame_of (made_router chip ByHeader r)
+frame-kind chip ByHeader r = refl
+frame-kind chip ByTable r = refl
+
+holding-kind : (chip : ChipData) (kind : RouterKind) (r : ℕ)
+    → holding_of (made_router chip kind r) ≡ holding_of (made_router chip ByHeader r)
+holding-kind chip ByHeader r = refl
+holding-kind chip ByTable r = refl
+
+module _ (chip : ChipData) (kind : RouterKind) (rooms : List ℕ) where
+  -- The frames of the components of a chip don't depend on the kind of its routers.
+  pub frames-kind : map frame_of (new_parts chip kind rooms)
+      ≡ map frame_of (new_parts chip ByHeader rooms)
+  frames-kind = views-kind frame_of chip rooms kind (frame-kind chip kind)
+
+  -- Nor does what they hold.
+  pub holdings-kind : map holding_of (new_parts chip kind rooms)
+      ≡ map holding_of (new_parts chip ByHeader rooms)
+  holdings-kind = views-kind holding_of chip rooms kind (holding-kind chip kind)
+
+  -- Nor does their number.
+  pub length-kind : length (new_parts chip kind rooms) ≡ part_count chip
+  length-kind =
+      sym (length-map (new_parts chip kind rooms) frame_of) ∙ ap length frames-kind
+      ∙ length-map (new_parts chip ByHeader rooms) frame_of ∙ length-new_parts chip rooms

@@ -1,0 +1,35 @@
+use Rattle.std.proofs.Common.{◌≡◌, ◌++◌, ◌∙◌, List, ap, drop, length, map, subst, sym, take}
+use Rattle.aeth_router.specs.declared.part.Part.{Part}
+use Rattle.aeth_components.proofs.components.Components.enter.Goals as goal
+use Rattle.aeth_components.proofs.EnteringLemmas.{IsComponents-entered, frames-entered}
+use Rattle.aeth_components.proofs.EnteringLemmas.{holdings-entered}
+use Rattle.aeth_components.proofs.ReadyLemmas.{AreReady-same}
+use Rattle.aeth_base.proofs.Lists.{written_back}
+use Rattle.aeth_components.specs.Components.{IsComponents, components_of}
+use Rattle.aeth_components.specs.Entering.{with_rows}
+use Rattle.aeth_components.specs.Frames.{frame_of}
+use Rattle.aeth_components.specs.Resting.{holding_of}
+use Rattle.aeth_components.specs.Turns.{AreReady}
+
+-- What holds of components still holds.
+pub invariant_of-self : goal.invariant_of-self
+invariant_of-self c =
+    let all = c.self.inside in
+    let rows = c.args.rows.now in
+    let parts : take all.parts.len (c.enter_all.new.parts
+    ++ drop (length c.enter_all.new.parts) all.parts.items) ≡ with_rows rows all.parts.items =
+    written_back all.parts.items c.enter_all.new.parts all.parts.len all.parts.ok.0
+    (c.enter_all.auto.parts ∙ ap length c.deref_mut.ensures.value)
+    ∙ c.enter_all.ensures ∙ ap (with_rows rows) c.deref_mut.ensures.value in (
+      subst (λ (parts : List Part). IsComponents (components_of parts all.wires all.channels.lanes
+          all.channels.words all.landings.items all.flits.items)) (sym parts)
+          (IsComponents-entered rows (components_of all.parts.items all.wires all.channels.lanes
+          all.channels.words all.landings.items all.flits.items) c.self.invariant.0),
+      subst (λ (parts : List Part). AreReady (map frame_of parts) (map holding_of parts) all.wires
+          all.turns) (sym parts)
+          (AreReady-same (map frame_of all.parts.items)
+          (map frame_of (with_rows rows all.parts.items)) (map holding_of all.parts.items)
+          (map holding_of (with_rows rows all.parts.items)) all.wires all.turns
+          (frames-entered rows all.parts.items) (holdings-entered rows all.parts.items)
+          c.self.invariant.1),
+    )
