@@ -1,18 +1,18 @@
 -- What each turn of the loops over links of a router adds.
-use Rattle.std.proofs.Common.{◌≡◌, ◌<◌, ◌+◌, ℕ, refl, sym, ap, ◌∙◌, inl, inr, arith}
+use Rattle.std.proofs.Common.{◌≡◌, ◌<◌, ◌≤◌, ◌+◌, ℕ, Bool, false, refl, sym, ap, ◌∙◌, inl, inr, arith}
 use Rattle.std.proofs.Common.{eqb, ◌||◌, List, [], ◌∷◌, ◌++◌, length, map, take}
 use Rattle.std.proofs.Common.{get_or, Option, Some, None, true}
 use Rattle.std.proofs.Common.{slice_get}
 use Rattle.std.specs.Prelude.{unwrap_or}
 use Rattle.std.specs.List.{slice_set}
-use Rattle.std.proofs.lemmas.Bool.{cases_Bool, eqb-true}
+use Rattle.std.proofs.lemmas.Bool.{cases_Bool, cases_eq, cases_lt, eqb-true}
 use Rattle.std.proofs.lemmas.Bool.Decides.{nat_tests}
-use Rattle.std.proofs.lemmas.List.{map-append, take_more}
-use Rattle.std.proofs.lemmas.List.{take_more_set}
+use Rattle.std.proofs.lemmas.List.{length-map, map-append, take_more}
 use Rattle.std.proofs.lemmas.List.Folds.{list_any-append}
 use Rattle.std.proofs.lemmas.Option.{get_or_from_slice_get, slice_get-get_or, slice_get-map}
-use Rattle.std.proofs.lemmas.Option.{slice_get_within}
+use Rattle.std.proofs.lemmas.Option.{slice_get_past, slice_get_within}
 use Rattle.std.specs.Option.{option_map}
+use Rattle.aeth_base.proofs.Lists.{same_list, slice_get-slice_set_other, slice_get-slice_set_same}
 use Rattle.aeth_base.specs.declared.ids.LinkId.{LinkId}
 use Rattle.aeth_clocked.specs.declared.flit.Flit.{Flit}
 use Rattle.aeth_clocked.specs.Resting.{HasNoFlit}
@@ -60,18 +60,80 @@ numbers_of-more change links made place default more within is before =
       map-append change (take place (numbers_of links)) (number ∷ []),
     ) (rw (before, is) refl)
 
--- The flit of one link more is held.
-pub held-more : (wires held : List (Option Flit)) (links : List ℕ) (place link : ℕ)
-    (flit : Option Flit) → slice_get links place ≡ Some link → place < length held
-    → slice_get wires link ≡ Some flit
-    → take place held ≡ map (flit_on wires) (take place links)
-    → take (place + 1) (slice_set held place flit) ≡ map (flit_on wires) (take (place + 1) links)
-held-more wires held links place link flit at within on before =
+-- What is held of the wires up to a place, where nothing was held, and whether it is anything.
+pub record HasTaken (wires first : List (Option Flit)) (links : List ℕ) (place : ℕ)
+    (held : List (Option Flit)) (is_any : Bool) : Type 0 where
+  pub taken : (i : ℕ) → i < place → slice_get held i ≡ slice_get (map (flit_on wires) links) i
+  pub rest : (i : ℕ) → place ≤ i → slice_get held i ≡ slice_get first i
+  pub none : is_any ≡ false → held ≡ first
+
+-- What the wire of a place has.
+taken-at : (wires : List (Option Flit)) (links : List ℕ) (place link : ℕ)
+    → slice_get links place ≡ Some link
+    → slice_get (map (flit_on wires) links) place ≡ Some (flit_on wires link)
+taken-at wires links place link at =
+    slice_get-map (flit_on wires) links place
+    ∙ ap (λ (link : Option ℕ). option_map (flit_on wires) link) at
+
+-- Of one wire more nothing is held, where it is empty.
+pub HasTaken-none : (wires first : List (Option Flit)) (links : List ℕ) (place link : ℕ)
+    (held : List (Option Flit)) (is_any : Bool) → slice_get links place ≡ Some link
+    → slice_get first place ≡ Some None → flit_on wires link ≡ None
+    → HasTaken wires first links place held is_any
+    → HasTaken wires first links (place + 1) held is_any
+HasTaken-none wires first links place link held is_any at free empty before =
+    record {
+      taken = λ i within.
+          elim (cases_eq i place) [
+            | inl same ↦
+                rw same (before.rest place (omega arith)
+                ∙ free
+                ∙ sym (taken-at wires links place link at
+                ∙ ap (λ (flit : Option Flit). Some flit) empty))
+            | inr other ↦ before.taken i (omega arith)
+          ];
+      rest = λ i from. before.rest i (omega arith);
+      none = before.none;
+    }
+
+-- Of one wire more its flit is held.
+pub HasTaken-some : (wires first : List (Option Flit)) (links : List ℕ) (place link : ℕ)
+    (held : List (Option Flit)) (is_any : Bool) (flit : Option Flit)
+    → slice_get links place ≡ Some link → place < length held → slice_get wires link ≡ Some flit
+    → HasTaken wires first links place held is_any
+    → HasTaken wires first links (place + 1) (slice_set held place flit) true
+HasTaken-some wires first links place link held is_any flit at within on before =
     let is : flit ≡ flit_on wires link =
     ap (λ (there : Option (Option Flit)). unwrap_or there None) (sym on) in
-    take_more_set held place flit within
-    ∙ rw (take-at links place link at, map-append (flit_on wires) (take place links) (link ∷ []))
-    (rw (before, is) refl)
+    record {
+      taken = λ i below.
+          elim (cases_eq i place) [
+            | inl same ↦
+                rw same (slice_get-slice_set_same held place flit within
+                ∙ ap (λ (flit : Option Flit). Some flit) is
+                ∙ sym (taken-at wires links place link at))
+            | inr other ↦
+                slice_get-slice_set_other held place i flit other ∙ before.taken i (omega arith)
+          ];
+      rest = λ i from.
+          slice_get-slice_set_other held place i flit (λ same. absurd (omega arith))
+          ∙ before.rest i (omega arith);
+      none = λ is. absurd (cc is);
+    }
+
+-- Once all have been asked, what they have is held.
+pub HasTaken-all : (wires first : List (Option Flit)) (links : List ℕ) (count : ℕ)
+    (held : List (Option Flit)) (is_any : Bool) → count ≡ length links → length held ≡ length links
+    → HasTaken wires first links count held is_any → held ≡ map (flit_on wires) links
+HasTaken-all wires first links count held is_any whole places taken =
+    let size = length-map links (flit_on wires) in
+    same_list held (map (flit_on wires) links) (λ i.
+    elim (cases_lt i (length links)) [
+      | inl within ↦ taken.taken i (omega arith)
+      | inr past ↦
+          slice_get_past held i (omega arith)
+          ∙ sym (slice_get_past (map (flit_on wires) links) i (omega arith))
+    ])
 
 -- The links up to a place, and the one at it.
 is_among-more : (links : List ℕ) (place link other : ℕ) → slice_get links place ≡ Some link

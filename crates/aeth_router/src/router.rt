@@ -1,7 +1,7 @@
 // A router: flits latched in one cycle and driven in the next.
 
-ghost use Rattle.std.specs.Prelude.{◌≡◌, ◌<◌, ◌↔◌, IfOk, IsTrue, None, length, map, replicate};
-ghost use Rattle.std.specs.Prelude.{slice_set};
+ghost use Rattle.std.specs.Prelude.{◌≡◌, ◌<◌, ◌↔◌, IfOk, IsTrue, None, false, length, map};
+ghost use Rattle.std.specs.Prelude.{replicate};
 ghost use Rattle.aeth_chip.specs.Nodes.{sends_on};
 ghost use Rattle.aeth_clocked.specs.Resting.{HasNoFlit};
 ghost use Rattle.aeth_clocked.specs.Wires.{AreLinks, flit_on};
@@ -100,10 +100,8 @@ impl Clocked for Router {
     }
 
     fn latch(&mut self, wires: &Wires) {
-        if self.is_holding || !are_empty(&self.incoming, wires) {
-            take_in(&mut self.held, &self.incoming, wires);
-            self.is_holding = true;
-        }
+        empty(&mut self.held, self.is_holding);
+        self.is_holding = take_in(&mut self.held, &self.incoming, wires);
     }
 
     // A router whose flits contend emits nothing, and yet doesn't rest: they are lost.
@@ -196,25 +194,32 @@ pub(crate) fn are_none(held: &[Option<Flit>]) -> bool
     true
 }
 
-// Holds from each incoming wire what is there.
-pub(crate) fn take_in(held: &mut [Option<Flit>], incoming: &[LinkId], wires: &Wires)
-    requires links { AreLinks (is_among (numbers_of incoming.now)) (length wires.now) }
-    requires places { length held.old ≡ length incoming.now }
-    ensures { held.new ≡ map (flit_on wires.now) (numbers_of incoming.now) }
+// Takes out all flits. Where none is noted, there is none.
+pub(crate) fn empty(held: &mut [Option<Flit>], is_holding: bool)
+    requires { is_holding ≡ false → held.old ≡ replicate (length held.old) None }
+    ensures { held.new ≡ replicate (length held.old) None }
 {
-    for place in 0..incoming.len() {
-        hold(held, place, wires.get(incoming[place]));
+    if is_holding {
+        held.fill(None);
     }
 }
 
-// Holds what is there at a place. Nothing more is copied where there is no flit.
-fn hold(held: &mut [Option<Flit>], place: usize, flit: Option<Flit>)
-    requires { place < length held.old }
-    ensures { held.new ≡ slice_set held.old place flit }
+// Holds from each incoming wire what is there, where no flit was held, and tells whether there is
+// one. Nothing is written where there is none.
+pub(crate) fn take_in(held: &mut [Option<Flit>], incoming: &[LinkId], wires: &Wires) -> bool
+    requires links { AreLinks (is_among (numbers_of incoming.now)) (length wires.now) }
+    requires places { length held.old ≡ length incoming.now }
+    requires none { held.old ≡ replicate (length held.old) None }
+    ensures held { held.new ≡ map (flit_on wires.now) (numbers_of incoming.now) }
+    ensures none { result ≡ false → held.new ≡ held.old }
 {
-    if let Some(flit) = flit {
-        held[place] = Some(flit);
-    } else {
-        held[place] = None;
+    let mut is_any = false;
+    for place in 0..incoming.len() {
+        let link = incoming[place];
+        if !wires.is_empty(link) {
+            held[place] = wires.get(link);
+            is_any = true;
+        }
     }
+    is_any
 }

@@ -16,7 +16,7 @@ ghost use Rattle.aeth_router.specs.TableRouter.{sent_on, table_absorb, table_aft
 ghost use Rattle.aeth_router.specs.TableRouter.{table_inputs, table_outputs, with_entry};
 ghost use Rattle.std.proofs.Common.{refl};
 
-use crate::router::{are_empty, are_none, empty_places, last_wires, sending, take_in};
+use crate::router::{are_empty, are_none, empty, empty_places, last_wires, sending, take_in};
 use crate::router_row::RouterRow;
 use crate::traffic::clear;
 use aeth_base::{LinkId, NoMemory, RouterId};
@@ -187,10 +187,8 @@ impl Clocked for TableRouter {
     }
 
     fn latch(&mut self, wires: &Wires) {
-        if self.is_holding || !are_empty(&self.incoming, wires) {
-            take_in(&mut self.held, &self.incoming, wires);
-            self.is_holding = true;
-        }
+        empty(&mut self.held, self.is_holding);
+        self.is_holding = take_in(&mut self.held, &self.incoming, wires);
     }
 
     // A router that has no entry for its flits emits nothing, and yet doesn't rest: they are lost.

@@ -1,11 +1,12 @@
 // What the flits that a router holds put on its output links.
 
-ghost use Rattle.std.specs.Prelude.{◌≡◌, ◌++◌, ◌∷◌, [], List, None, Option, length};
+ghost use Rattle.std.specs.Prelude.{◌≡◌, ◌++◌, ◌∷◌, ℕ, [], List, None, Option, Some, length};
+ghost use Rattle.std.specs.Prelude.{slice_get, slice_set};
 ghost use Rattle.aeth_clocked.specs.Wires.{AreLinks, Drives};
 ghost use Rattle.aeth_clocked.specs.declared.flit.Flit.{Flit};
-ghost use Rattle.aeth_router.specs.Ports.{flits_for, sole};
+ghost use Rattle.aeth_router.specs.Ports.{sole};
 ghost use Rattle.aeth_router.specs.Router.{AreDistinctLinks, emitted_on, is_among, numbers_of};
-ghost use Rattle.aeth_router.specs.Traffic.{IsTraffic, named_ports, traffic_of};
+ghost use Rattle.aeth_router.specs.Traffic.{AreNamed, is_any, named_ports};
 
 use aeth_base::LinkId;
 use aeth_clocked::{Flit, Wires};
@@ -13,38 +14,6 @@ use aeth_header::{PORT_BITS, hop};
 
 // The output ports that a header can name.
 const PORTS: usize = 1 << PORT_BITS;
-
-// How much goes to one port: no flit, one, or flits that contend for it.
-#[derive(Clone, Copy)]
-enum Traffic {
-    Free,
-    One(Flit),
-    Contended,
-}
-
-impl Traffic {
-    /// The traffic with one flit more.
-    fn with(self, flit: Flit) -> Traffic
-        ensures { (flits : List Flit) → self ≡ traffic_of flits
-            → result ≡ traffic_of (flits ++ flit ∷ []) }
-    {
-        match self {
-            Traffic::Free => Traffic::One(flit),
-            Traffic::One(_) => Traffic::Contended,
-            Traffic::Contended => Traffic::Contended,
-        }
-    }
-
-    /// The flit that the port carries: the one for it.
-    fn carried(self) -> Option<Flit>
-        ensures { (flits : List Flit) → self ≡ traffic_of flits → result ≡ sole flits }
-    {
-        match self {
-            Traffic::One(flit) => Some(flit),
-            Traffic::Free | Traffic::Contended => None,
-        }
-    }
-}
 
 /// Puts on each outgoing link the one flit that names its port, behind its hop.
 pub(crate) fn emit(outgoing: &[LinkId], held: &[Option<Flit>], wires: &mut Wires)
@@ -55,10 +24,10 @@ pub(crate) fn emit(outgoing: &[LinkId], held: &[Option<Flit>], wires: &mut Wires
         (emitted_on (numbers_of outgoing.now) held.now)
         wires.old wires.new }
 {
-    let table = traffic_by(held);
-    for place in 0..outgoing.len() {
-        let flit = carried_on(&table, place);
-        wires.put(outgoing[place], flit);
+    clear(outgoing, wires);
+    let mut named = [false; PORTS];
+    for latched in held {
+        send(&mut named, outgoing, *latched, wires);
     }
 }
 
@@ -72,38 +41,44 @@ pub(crate) fn clear(outgoing: &[LinkId], wires: &mut Wires)
     }
 }
 
-// What goes to each port.
-fn traffic_by(held: &[Option<Flit>]) -> [Traffic; PORTS]
-    ensures { IsTraffic result held.now }
-{
-    let mut table = [Traffic::Free; PORTS];
-    for latched in held {
-        send(&mut table, *latched);
-    }
-    table
-}
-
-// Sends one flit more to the port that it names.
-fn send(table: &mut [Traffic], latched: Option<Flit>)
-    requires { length table.old ≡ named_ports }
-    ensures { (before : List (Option Flit)) → IsTraffic table.old before
-        → IsTraffic table.new (before ++ latched ∷ []) }
+// Sends one flit more to the port that it names, which carries it where it is the first, and else
+// none.
+fn send(named: &mut [bool], outgoing: &[LinkId], latched: Option<Flit>, wires: &mut Wires)
+    requires size { length named.old ≡ named_ports }
+    requires links { AreLinks (is_among (numbers_of outgoing.now)) (length wires.old) }
+    requires apart { AreDistinctLinks (numbers_of outgoing.now) }
+    ensures named { (before : List (Option Flit)) → AreNamed named.old before
+        → AreNamed named.new (before ++ latched ∷ []) }
+    ensures wires { (before first : List (Option Flit)) → AreNamed named.old before
+        → Drives (is_among (numbers_of outgoing.now))
+        (emitted_on (numbers_of outgoing.now) before) first wires.old
+        → Drives (is_among (numbers_of outgoing.now))
+        (emitted_on (numbers_of outgoing.now) (before ++ latched ∷ [])) first wires.new }
 {
     let Some(flit) = latched else {
         return;
     };
     let (port, header) = hop(flit.header);
-    let traffic = table[port as usize];
-    table[port as usize] = traffic.with(Flit { header, ..flit });
+    let sent = alone(named[port as usize], Flit { header, ..flit });
+    named[port as usize] = true;
+    put_at(outgoing, port as usize, sent, wires);
 }
 
-// The flit on a port; none past those that a header can name.
-fn carried_on(table: &[Traffic], port: usize) -> Option<Flit>
-    ensures { (held : List (Option Flit)) → IsTraffic table.now held
-        → result ≡ sole (flits_for port held) }
+// What a port carries of a flit: itself where no other was for the port.
+fn alone(is_named: bool, flit: Flit) -> Option<Flit>
+    ensures { (flits : List Flit) → is_named ≡ is_any flits → result ≡ sole (flits ++ flit ∷ []) }
 {
-    match table.get(port) {
-        Some(traffic) => traffic.carried(),
-        None => None,
+    if is_named { None } else { Some(flit) }
+}
+
+// Puts on the link of a port what this carries; nothing changes where there is no such port.
+fn put_at(outgoing: &[LinkId], port: usize, flit: Option<Flit>, wires: &mut Wires)
+    requires { AreLinks (is_among (numbers_of outgoing.now)) (length wires.old) }
+    ensures put { (link : ℕ) → slice_get (numbers_of outgoing.now) port ≡ Some link
+        → wires.new ≡ slice_set wires.old link flit }
+    ensures past { slice_get (numbers_of outgoing.now) port ≡ None → wires.new ≡ wires.old }
+{
+    if let Some(link) = outgoing.get(port) {
+        wires.put(*link, flit);
     }
 }

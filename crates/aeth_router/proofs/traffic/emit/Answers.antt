@@ -1,29 +1,30 @@
-use Rattle.std.proofs.Common.{◌≡◌, length, get_or, ◌∙◌, sym}
+use Rattle.std.proofs.Common.{[], take, None}
+use Rattle.std.proofs.lemmas.List.{take_more}
 use Rattle.aeth_router.specs.Router.{emitted_on, numbers_of}
-use Rattle.aeth_router.proofs.RouterLemmas.{emitted_on-port}
-use Rattle.aeth_router.proofs.Steps.{Drives-more, numbers_of-at, numbers_of-below}
+use Rattle.aeth_router.proofs.IdleLemmas.{Drives-silent, emitted_on-idle}
+use Rattle.aeth_router.proofs.TrafficLemmas.{AreNamed-first}
 use Rattle.aeth_router.proofs.traffic.emit.Goals as goal
 
--- Each outgoing link is a link.
-pub put-requires : goal.put-requires
-put-requires c =
-    rw c.loop-place.invariant.links
-    (numbers_of-below c.args.outgoing.now c.loop-place.place (length c.args.wires.now) _
-    c.requires.links c.loop-place-test.true)
+-- Before the first flit the links are empty.
+pub loop-latched-init : goal.loop-latched-init
+loop-latched-init c =
+    let links = numbers_of c.args.outgoing.now in (
+      AreNamed-first,
+      Drives-silent links (emitted_on links []) c.args.wires.now c.clear.new.wires
+          (emitted_on-idle links 0) c.clear.ensures,
+    )
 
--- One link more has what its port carries.
-pub loop-place-preserved : goal.loop-place-preserved
-loop-place-preserved c =
-    let place = c.loop-place.place in
-    let links = numbers_of c.args.outgoing.now in
+-- The links are links.
+pub send-requires-clause-links : goal.send-requires-clause-links
+send-requires-clause-links c = rw c.loop-latched.invariant.1.links c.requires.links
+
+-- One flit more is sent.
+pub loop-latched-preserved : goal.loop-latched-preserved
+loop-latched-preserved c =
     let held = c.args.held.now in
-    let within = c.loop-place-test.true in
-    let link = (get_or c.args.outgoing.now place (record { 0 = 0 })).0 in
-    let at = numbers_of-at c.args.outgoing.now place (record { 0 = 0 }) within in
-    let flit : c.carried_on-flit.result ≡ emitted_on links held link =
-    c.carried_on-flit.ensures held c.traffic_by-table.ensures
-    ∙ sym (emitted_on-port links held place link c.requires.apart at) in
-    rw (c.put.ensures, flit)
-    (Drives-more links (emitted_on links held) place link c.args.wires.now c.loop-place.wires at
-    (numbers_of-below c.args.outgoing.now place (length c.args.wires.now) (record { 0 = 0 })
-    c.requires.links within) c.loop-place.invariant)
+    let i = c.loop-latched.latched-index in
+    let before = c.loop-latched.invariant in
+    rw (take_more held i None c.loop-latched-test.true) (
+      c.send.ensures.named (take i held) before.0,
+      c.send.ensures.wires (take i held) c.args.wires.now before.0 before.1,
+    )
