@@ -1,7 +1,7 @@
 -- The two halves of a cycle: which components rest, how many take a turn, and what is held behind them.
-use Rattle.std.proofs.Common.{ℕ, zero, suc, ◌≡◌, ◌+◌, ◌-◌, ◌*◌, ◌≤◌, ◌<◌, ◌∙◌, refl, sym, ap}
+use Rattle.std.proofs.Common.{ℕ, zero, suc, ◌≡◌, ◌+◌, ◌-◌, ◌≤◌, ◌<◌, ◌∙◌, refl, sym, ap}
 use Rattle.std.proofs.Common.{arith, count_by, inl, inr, length, List, map, Option, slice_get, Some}
-use Rattle.std.proofs.Common.{true, false, subst, cond, take}
+use Rattle.std.proofs.Common.{true, false, subst, cond, take, None, replicate}
 use Rattle.std.specs.List.{All}
 use Rattle.std.proofs.lemmas.Bool.{cases_Bool, cases_lt}
 use Rattle.std.proofs.lemmas.List.{length-map}
@@ -22,6 +22,7 @@ use Rattle.aeth_components.specs.Resting.{holding_of, holds_from, left_held}
 use Rattle.aeth_components.specs.Turns.{AreUnmarked, Lists, MarkDrive, MarkEnds, MarkSending}
 use Rattle.aeth_components.specs.Turns.{flits_on, mark_of, marks_below, sends_own}
 use Rattle.aeth_components.specs.declared.ends.Ends.{Ends}
+use Rattle.aeth_components.proofs.ClearLemmas.{flit_on-replicate}
 use Rattle.aeth_components.proofs.FrameLemmas.{from-map, inputs_of-frame}
 use Rattle.aeth_components.proofs.HoldingLemmas.{holds_from-part, left-none, left-places, none-unless}
 use Rattle.aeth_components.proofs.MarkedLemmas.{mark_of-below, mark_of-others, marks_below-none}
@@ -62,28 +63,23 @@ marks_below-others old new count (suc more) none same =
     let next : count + suc more ≡ suc (count + more) = omega arith in
     rw next (omega (arith, rest, here))
 
--- Who is marked before the drive, in three walks.
+-- Who is marked before the drive, in two walks.
 pub MarkDrive-from : (cycle : ℕ) (parts : List Part) (wires : List (Option Flit)) (ends : Ends)
-    (old first second new : List ℕ) → AreUnmarked (ends.parts + ends.parts) old
-    → MarkEnds 0 ends.parts ends.senders.items wires old first
-    → MarkEnds ends.interfaces ends.parts ends.receivers.items wires first second
-    → MarkSending cycle ends.interfaces parts second new → MarkDrive cycle parts wires ends new
-MarkDrive-from cycle parts wires ends old first second new none sends passes own = record {
-  sent = λ wire number some at.
-      own.kept number (passes.kept number (ap (bit_of first)
-      (sym (mark_of-others 0 ends.parts number (omega arith))) ∙ sends.at wire number some at));
+    (old first new : List ℕ) → AreUnmarked (ends.parts + ends.parts) old
+    → MarkEnds ends.interfaces ends.parts ends.receivers.items wires old first
+    → MarkSending cycle ends.interfaces parts first new → MarkDrive cycle parts wires ends new
+MarkDrive-from cycle parts wires ends old first new none passes own = record {
   arrived = λ wire number some at.
       own.kept (mark_of ends.interfaces ends.parts number) (passes.at wire number some at);
   sending = own.at;
   few = (
       let zero_of = marks_below-none old (ends.parts + ends.parts) none in
-      let first_few = sends.few (ends.parts + ends.parts) in
-      let second_few = passes.few (ends.parts + ends.parts) in
+      let first_few = passes.few (ends.parts + ends.parts) in
       let own_few = own.few (ends.parts + ends.parts) in
       let fewer : count_by (sends_own cycle) (take ends.interfaces parts)
       ≤ count_by (sends_own cycle) parts =
       sum_by-take-le (λ part. cond (sends_own cycle part) 1 0) parts ends.interfaces in
-      omega (arith, zero_of, first_few, second_few, own_few, fewer));
+      omega (arith, zero_of, first_few, own_few, fewer));
 }
 
 module _ (parts : List Part) (wires : List (Option Flit)) (ends : Ends)
@@ -123,13 +119,14 @@ module _ (parts : List Part) (wires : List (Option Flit)) (ends : Ends)
   module _ (cycle : ℕ) (marked new numbers : List ℕ) (hold : HoldNoMore wires (map holding_of parts))
       (marks : MarkDrive cycle parts wires ends marked)
       (lists : Lists 0 ends.parts marked new numbers) where
-    -- Each component that isn't listed rests from driving.
-    pub rests-drive : AllOthers numbers (RestsDrive outputs_of emit_of after_of cycle wires) parts
+    -- Each component that isn't listed rests from driving, once all wires are empty.
+    pub rests-drive : AllOthers numbers
+        (RestsDrive outputs_of emit_of after_of cycle (replicate (length wires) None)) parts
     rests-drive =
-        RestsDrive-unlisted parts marked 0 numbers ends.senders.items ends.receivers.items
+        RestsDrive-unlisted parts marked 0 numbers ends.receivers.items
         (λ number below bit. lists.listed.all number (within-parts number below) bit)
-        are.sends are.receives cycle wires hold
-        (λ wire number some at. at-first marked number (marks.sent wire number some at))
+        are.receives cycle wires (replicate (length wires) None) hold
+        (flit_on-replicate (length wires))
         (λ wire number part some at there passing.
         at-first marked number (ap (bit_of marked) (sym (mark_of-others ends.interfaces ends.parts
         number (others-behind number part there passing))) ∙ marks.arrived wire number some at))
@@ -148,7 +145,7 @@ module _ (parts : List Part) (wires : List (Option Flit)) (ends : Ends)
 
     -- So many are listed, and left marked to latch.
     pub few-drive : length numbers + marks_below new (ends.parts + ends.parts)
-        ≤ 2 * flits_on wires + count_by (sends_own cycle) parts
+        ≤ flits_on wires + count_by (sends_own cycle) parts
     few-drive =
         let few = marks.few in
         let listed = lists.listed.few in
@@ -194,9 +191,9 @@ module _ (parts : List Part) (wires : List (Option Flit)) (ends : Ends)
     -- Each component that isn't listed rests from latching.
     pub rests-latch : AllOthers numbers (RestsLatch absorb_of wires) parts
     rests-latch =
-        RestsLatch-unlisted parts marked ends.parts numbers ends.senders.items ends.receivers.items
+        RestsLatch-unlisted parts marked ends.parts numbers ends.receivers.items
         (λ number below bit. lists.listed.all number (within-parts number below) bit)
-        are.sends are.receives wires
+        are.receives wires
         (λ number part at never.
         let seen = seen-at holding_of parts number part at in (
           hold.places number (holding_of part) seen,

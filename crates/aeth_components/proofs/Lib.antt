@@ -1,5 +1,6 @@
 pub mod AloneLemmas
 pub mod CountingLemmas
+mod ClearLemmas
 mod CycleLemmas
 mod EndLemmas
 pub mod EnteringLemmas

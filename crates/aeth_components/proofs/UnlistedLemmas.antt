@@ -1,6 +1,6 @@
 -- Components that aren't listed rest: from driving, and from latching.
 use Rattle.std.proofs.Common.{ℕ, ◌≡◌, ◌≢◌, ◌+◌, ◌<◌, ◌∙◌, sym, ap, map, List, length, Some}
-use Rattle.std.proofs.Common.{IsSome, true, false, slice_get, inl, inr, Option}
+use Rattle.std.proofs.Common.{IsSome, None, true, false, slice_get, inl, inr, Option}
 use Rattle.std.specs.Prelude.{◌⊎◌}
 use Rattle.std.specs.Option.{option_map}
 use Rattle.std.proofs.lemmas.Option.{slice_get-map}
@@ -13,10 +13,10 @@ use Rattle.aeth_router.specs.Part.{absorb_of, after_of, emit_of, inputs_of, outp
 use Rattle.aeth_router.specs.declared.part.Part.{Part}
 use Rattle.aeth_router.specs.declared.part.Part.TheVariants.{Interface, Router, Stage, TableRouter}
 use Rattle.aeth_components.specs.Ends.{IsAtEnds}
-use Rattle.aeth_components.specs.Frames.{frame_of, receives_by, sends_by}
+use Rattle.aeth_components.specs.Frames.{frame_of, receives_by}
 use Rattle.aeth_components.specs.Resting.{DrivesNone, HasPlaces, HoldNoMore, HoldsNone, IsTelling}
 use Rattle.aeth_components.specs.Resting.{holding_of}
-use Rattle.aeth_components.proofs.FrameLemmas.{inputs_of-frame, outputs_of-frame}
+use Rattle.aeth_components.proofs.FrameLemmas.{inputs_of-frame}
 use Rattle.aeth_components.proofs.HoldingLemmas.{RestsDrive-part, RestsLatch-part, empty-unlisted}
 use Rattle.aeth_components.proofs.HoldingLemmas.{holds_from-part, none-unless, unlisted}
 
@@ -27,27 +27,20 @@ seen-at view parts number part at =
     slice_get-map view parts number ∙ ap (option_map view) at
 
 module _ (parts : List Part) (marks : List ℕ) (first : ℕ) (list : List ℕ)
-    (senders receivers : List ℕ)
+    (receivers : List ℕ)
     (all : (number : ℕ) → number < length parts → bit_of marks (first + number) ≡ 1
     → is_chosen list number ≡ true)
-    (sends : IsAtEnds sends_by (map frame_of parts) senders)
     (receives : IsAtEnds receives_by (map frame_of parts) receivers) where
-  -- The component that sends on a wire is its sender, and the one that receives its receiver.
-  sender-at : (wire number : ℕ) (part : Part) → slice_get parts number ≡ Some part
-      → outputs_of part wire ≡ true → slice_get senders wire ≡ Some number
-  sender-at wire number part at is =
-      sends.at wire number (frame_of part) (seen-at frame_of parts number part at)
-      (sym (outputs_of-frame part wire) ∙ is)
-
+  -- The component that receives on a wire is its receiver.
   receiver-at : (wire number : ℕ) (part : Part) → slice_get parts number ≡ Some part
       → inputs_of part wire ≡ true → slice_get receivers wire ≡ Some number
   receiver-at wire number part at is =
       receives.at wire number (frame_of part) (seen-at frame_of parts number part at)
       (sym (inputs_of-frame part wire) ∙ is)
 
-  module _ (cycle : ℕ) (wires : List (Option Flit)) (hold : HoldNoMore wires (map holding_of parts))
-      (sent : (wire number : ℕ) → IsSome (flit_on wires wire) → slice_get senders wire ≡ Some number
-      → bit_of marks (first + number) ≡ 1)
+  module _ (cycle : ℕ) (wires cleared : List (Option Flit))
+      (hold : HoldNoMore wires (map holding_of parts))
+      (empty : (wire : ℕ) → flit_on cleared wire ≡ None)
       (arrived : (wire number : ℕ) (part : Part) → IsSome (flit_on wires wire)
       → slice_get receivers wire ≡ Some number → slice_get parts number ≡ Some part
       → (IsTelling (holding_of part) → ⊥) → bit_of marks (first + number) ≡ 1)
@@ -79,12 +72,9 @@ module _ (parts : List Part) (marks : List ℕ) (first : ℕ) (list : List ℕ)
         holds-none number (Stage stage) at left (λ telling. telling)
 
     pub RestsDrive-unlisted : AllOthers list
-        (RestsDrive outputs_of emit_of after_of cycle wires) parts
+        (RestsDrive outputs_of emit_of after_of cycle cleared) parts
     RestsDrive-unlisted number part at left =
-        RestsDrive-part cycle wires part (drives-none number part at left)
-        (empty-unlisted parts marks first list all wires outputs_of
-        (λ wire other one there is some. sent wire other some (sender-at wire other one there is))
-        number part at left)
+        RestsDrive-part cycle cleared part (drives-none number part at left) (λ wire is. empty wire)
 
   module _ (wires : List (Option Flit))
       (held : (number : ℕ) (part : Part) → slice_get parts number ≡ Some part

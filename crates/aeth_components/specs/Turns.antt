@@ -8,7 +8,7 @@
 --   AreReady, HaveDriven       what holds between cycles, and between the halves of one
 --
 -- This project's own.
-use Rattle.std.specs.Prelude.{◌≡◌, ℕ, zero, suc, ◌+◌, ◌*◌, ◌≤◌, ◌<◌, ◌⊎◌, List, Option, Some}
+use Rattle.std.specs.Prelude.{◌≡◌, ℕ, zero, suc, ◌+◌, ◌≤◌, ◌<◌, ◌⊎◌, List, Option, Some}
 use Rattle.std.specs.Prelude.{Bool, IsSome, count_by, false, if◌then◌else◌, is_some, length, nat_lt}
 use Rattle.std.specs.Prelude.{slice_get, take, true}
 use Rattle.aeth_base.specs.Marks.{bit_of, room_of}
@@ -82,20 +82,17 @@ pub record MarkSending (cycle to : ℕ) (parts : List Part) (old new : List ℕ)
   pub few : (count : ℕ) → marks_below new count
       ≤ marks_below old count + count_by (sends_own cycle) (take to parts)
 
--- Who is marked before the drive of a cycle: of each wire with a flit the component that sends there,
--- and the one that receives there, an interface behind all components; and each that sends something
--- of its own.
+-- Who is marked before the drive of a cycle: of each wire with a flit the component that receives
+-- there, an interface behind all components; and each that sends something of its own.
 pub record MarkDrive (cycle : ℕ) (parts : List Part) (wires : List (Option Flit)) (ends : Ends)
     (marks : List ℕ) : Type 0 where
-  pub sent : (wire number : ℕ) → IsSome (flit_on wires wire)
-      → slice_get ends.senders.items wire ≡ Some number → bit_of marks number ≡ 1
   pub arrived : (wire number : ℕ) → IsSome (flit_on wires wire)
       → slice_get ends.receivers.items wire ≡ Some number
       → bit_of marks (mark_of ends.interfaces ends.parts number) ≡ 1
   pub sending : (number : ℕ) (part : Part) → number < ends.interfaces
       → slice_get parts number ≡ Some part → sends_own cycle part ≡ true → bit_of marks number ≡ 1
   pub few : marks_below marks (ends.parts + ends.parts)
-      ≤ 2 * flits_on wires + count_by (sends_own cycle) parts
+      ≤ flits_on wires + count_by (sends_own cycle) parts
 
 -- The components to drive are listed. Marked is left which interfaces were told of a flit.
 pub record ListDrive (cycle : ℕ) (parts : List Part) (wires : List (Option Flit)) (ends : Ends)

@@ -7,13 +7,15 @@ ghost use Rattle.aeth_components.specs.Frames.{IsWired, frame_of};
 ghost use Rattle.aeth_components.specs.Resting.{holding_of};
 ghost use Rattle.aeth_components.specs.Turns.{AreReady, HaveDriven, flits_on, marked_of};
 
+use crate::ends::clear;
 use crate::turns::Turns;
 use aeth_base::Steps;
 use aeth_clocked::{Wires, drive_some, latch_some};
 use aeth_router::Part;
 use std::sync::ledger::Ledger;
 
-// Drives every component: those that have nothing to drive rest.
+// Drives every component: those that have nothing to drive rest. All wires are emptied before, so
+// that no component takes a turn only to empty its own.
 pub(crate) fn drive<L: Ledger>(
     parts: &mut [Part],
     turns: &mut Turns,
@@ -34,6 +36,7 @@ pub(crate) fn drive<L: Ledger>(
         ≤ steps.old + 2 * flits_on wires.old + flits_on wires.new }
 {
     let count = turns.list_drive(parts, cycle, wires);
+    clear(wires, &turns.ends);
     let numbers = &turns.numbers[..count];
     drive_some(parts, numbers, u64::from(cycle), wires, steps);
 }

@@ -21,8 +21,8 @@ use aeth_clocked::{Order, Wires};
 use aeth_router::Part;
 use std::alloc::Global;
 
-// Which components take a turn, read off the wires: those that a flit leaves or comes to, and the
-// interfaces that send. All others rest.
+// Which components take a turn, read off the wires: those that a flit comes to, and the interfaces
+// that send. All others rest.
 #[derive(Drop)]
 pub(crate) struct Turns {
     pub ends: Ends,
@@ -110,7 +110,6 @@ fn mark_drive(marks: &mut Marks, ends: &Ends, parts: &[Part], cycle: u32, wires:
     ensures room { room_of marks.new ≡ room_of marks.old }
     ensures marks { MarkDrive cycle parts.now wires.now ends.now marks.new }
 {
-    mark_ends(marks, &ends.senders, 0, ends.parts, wires);
     mark_ends(marks, &ends.receivers, ends.interfaces, ends.parts, wires);
     mark_sending(marks, parts, ends.interfaces, cycle);
 }

@@ -1,7 +1,10 @@
-use Rattle.std.proofs.Common.{◌≡◌, ◌+◌, ◌∙◌, ap, arith, length, List, map, subst, take, ℕ}
-use Rattle.std.proofs.lemmas.List.{length-map}
+use Rattle.std.proofs.Common.{◌≡◌, ◌+◌, ◌∙◌, ap, arith, length, List, map, subst, sym, take, ℕ}
+use Rattle.std.proofs.Common.{None, Option, replicate}
+use Rattle.std.specs.List.{All}
+use Rattle.std.proofs.lemmas.List.{length-map, length-replicate}
 use Rattle.aeth_clocked.specs.Order.{AreChosen}
-use Rattle.aeth_clocked.specs.Wires.{Drives}
+use Rattle.aeth_clocked.specs.Wires.{AreLinks, Drives}
+use Rattle.aeth_clocked.specs.declared.flit.Flit.{Flit}
 use Rattle.aeth_clocked.proofs.WiresLemmas.{Drives-whole}
 use Rattle.aeth_clocked.specs.Driven.{driven, is_output}
 use Rattle.aeth_router.specs.Part.{emit_of, outputs_of}
@@ -12,15 +15,24 @@ use Rattle.aeth_components.proofs.HalvesLemmas.{few-drive, held-drive, rests-dri
 use Rattle.aeth_components.proofs.HoldingLemmas.{holdings-after}
 use Rattle.aeth_components.proofs.ReadyLemmas.{HaveDriven-from}
 use Rattle.aeth_components.proofs.SendingLemmas.{sending-few}
+use Rattle.aeth_components.specs.Components.{wires_driven}
 use Rattle.aeth_components.specs.Frames.{frame_of}
 use Rattle.aeth_components.specs.Resting.{holding_of, left_held}
 use Rattle.aeth_components.specs.Turns.{flits_on, marked_of, marks_below}
 use Rattle.aeth_components.specs.declared.ends.Ends.{Ends}
 
+-- There are as many wires once they are empty.
+cleared : (wires now : List (Option Flit)) → now ≡ replicate (length wires) None
+    → length now ≡ length wires
+cleared wires now is = ap length is ∙ length-replicate (length wires) None
+
 -- Outputs are wires.
 pub drive_some-requires-clause-links : goal.drive_some-requires-clause-links
 drive_some-requires-clause-links g c =
-    AreLinks-outputs c.args.parts.now (length c.args.wires.now) c.requires.wired
+    let parts = c.args.parts.now in
+    let size = cleared c.args.wires.now c.clear.new.wires c.clear.ensures in
+    subst (λ (n : ℕ). All (λ part. AreLinks (outputs_of part) n) parts) (sym size)
+    (AreLinks-outputs parts (length c.args.wires.now) c.requires.wired)
 
 -- Each is one component's.
 pub drive_some-requires-clause-disjoint : goal.drive_some-requires-clause-disjoint
@@ -31,11 +43,14 @@ drive_some-requires-clause-disjoint g c =
 pub returns-clause-wires : goal.returns-clause-wires
 returns-clause-wires g c =
     let parts = c.args.parts.now in
+    let count = length c.args.wires.now in
+    let size = cleared c.args.wires.now c.clear.new.wires c.clear.ensures in
     Drives-whole (is_output outputs_of parts) (driven outputs_of emit_of parts c.args.cycle)
-    c.args.wires.now c.drive_some.new.wires
-    (is_output-parts parts (length c.args.wires.now) c.requires.wired)
+    c.clear.new.wires c.drive_some.new.wires
+    (λ link below. is_output-parts parts count c.requires.wired link (omega (arith, size, below)))
     (subst (λ n. Drives (is_output outputs_of parts) (driven outputs_of emit_of parts n)
-    c.args.wires.now c.drive_some.new.wires) c.from.ensures c.drive_some.ensures.wires)
+    c.clear.new.wires c.drive_some.new.wires) c.from.ensures c.drive_some.ensures.wires)
+    ∙ ap (λ (n : ℕ). wires_driven parts n c.args.cycle) size
 
 -- The frames stay.
 pub returns-clause-frames : goal.returns-clause-frames
@@ -44,7 +59,9 @@ returns-clause-frames g c =
 
 -- So do the wires.
 pub returns-clause-count : goal.returns-clause-count
-returns-clause-count g c = c.drive_some.ensures.wires.links
+returns-clause-count g c =
+    c.drive_some.ensures.wires.links
+    ∙ cleared c.args.wires.now c.clear.new.wires c.clear.ensures
 
 -- The numbers of components are listed.
 pub drive_some-requires-clause-chosen : goal.drive_some-requires-clause-chosen
@@ -61,7 +78,7 @@ drive_some-requires-clause-rest g c =
     let turns = c.list_drive-count.new.self in
     let lists = c.list_drive-count.ensures.listed in
     let ready = c.requires.ready in
-    rw (c.from.ensures, c.deref.ensures.value)
+    rw (c.from.ensures, c.deref.ensures.value, c.clear.ensures)
     (rests-drive c.args.parts.now c.args.wires.now c.args.turns.now.ends ready.ends c.args.cycle
     lists.marked turns.marks (take c.list_drive-count.result turns.numbers.items) ready.hold
     lists.marks lists.lists)
@@ -80,7 +97,7 @@ returns-clause-driven g c =
     (map left_held (map holding_of parts)) (map holding_of c.drive_some.new.parts) (length wires)
     (length c.drive_some.new.wires) ends c.list_drive-count.new.self (returns-clause-frames g c)
     (ap (map holding_of) c.drive_some.ensures.parts ∙ holdings-after c.from.result parts)
-    c.drive_some.ensures.wires.links c.list_drive-count.ensures.ends ready.ends
+    (returns-clause-count g c) c.list_drive-count.ensures.ends ready.ends
     c.list_drive-count.ensures.room
     (unmarked-drive parts wires ends ready.ends c.args.cycle lists.marked new list ready.hold
     lists.marks lists.lists)
