@@ -20,6 +20,7 @@ use Rattle.aeth_components.specs.Frames.{Frame, frame_of}
 use Rattle.aeth_components.specs.Making.{made_interface, new_parts}
 use Rattle.aeth_components.specs.declared.event.Event.{Event}
 use Rattle.aeth_components.specs.declared.event.Event.TheVariants.{Change, Finish, Halt}
+use Rattle.aeth_components.specs.declared.making.RouterKind.TheVariants.{ByHeader}
 use Rattle.aeth_components.proofs.PartLemmas.{frames-switched}
 use Rattle.aeth_accepted.specs.Inputs.{AreAccepted, Inputs}
 use Rattle.aeth_accepted.proofs.SoundRuns.{AreSpans}
@@ -59,7 +60,7 @@ module _ (inputs : Inputs) (accepted : AreAccepted inputs) where
       → slice_get (frames_of (loaded_components inputs)) n
       ≡ Some (frame_of (made_interface inputs.chip (rooms_of inputs) n))
   frame-at n within =
-      let parts = new_parts inputs.chip (rooms_of inputs) in
+      let parts = new_parts inputs.chip ByHeader (rooms_of inputs) in
       ap (λ (list : List Frame). slice_get list n) (frames-switched (loaded_of inputs) parts)
       ∙ slice_get-map frame_of parts n
       ∙ ap (option_map frame_of) (interface-part inputs.chip accepted.design.chip_is (rooms_of inputs)

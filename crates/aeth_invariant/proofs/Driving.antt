@@ -1,7 +1,7 @@
 -- What the components drive on each wire is what those of the law drive.
-use Rattle.std.proofs.Common.{◌≡◌, ◌≤◌, ◌<◌, ◌∙◌, ℕ, ◌%◌, refl, sym, ap, arith, inl, inr, true}
-use Rattle.std.proofs.Common.{List, Option, Some, None, get_or, length, map, slice_get}
-use Rattle.std.specs.Prelude.{◌==◌, option_and_then, position, unwrap_or}
+use Rattle.std.proofs.Common.{◌≡◌, ◌≤◌, ◌<◌, ◌∙◌, ℕ, zero, suc, ◌%◌, refl, sym, ap, arith, inl, inr, true}
+use Rattle.std.proofs.Common.{List, [], ◌∷◌, Option, Some, None, get_or, length, map, slice_get}
+use Rattle.std.specs.Prelude.{◌==◌, option_and_then, option_map, position, unwrap_or}
 use Rattle.std.specs.List.{slice_index_or}
 use Rattle.std.proofs.lemmas.Bool.{cases_lt, eq-eqb}
 use Rattle.std.proofs.lemmas.List.FromFn.{get_or-map-range_with_len, length-map-range_with_len}
@@ -17,20 +17,26 @@ use Rattle.aeth_ni.specs.Component.{emitted_by as ni_emitted, queue_at_cycle}
 use Rattle.aeth_ni.specs.Interface.{queue_at}
 use Rattle.aeth_ni.specs.Queue.{QueueState}
 use Rattle.aeth_router.specs.Part.{emit_of, outputs_of}
-use Rattle.aeth_router.specs.Ports.{flits_for, sole}
+use Rattle.aeth_router.specs.Ports.{flits_for, hopped, sole}
 use Rattle.aeth_router.specs.Router.{is_among}
+use Rattle.aeth_router.specs.TableRouter.{TableRouterState, entry_at, routed, sent_from}
 use Rattle.aeth_router.specs.declared.part.Part.{Part}
-use Rattle.aeth_router.specs.declared.part.Part.TheVariants.{Interface, Router, Stage}
+use Rattle.aeth_router.specs.declared.part.Part.TheVariants.{Interface, Router, Stage, TableRouter}
 use Rattle.aeth_components.proofs.FrameLemmas.{AreDisjoint-parts, from-map}
 use Rattle.aeth_components.specs.Components.{wires_driven}
 use Rattle.aeth_components.specs.Frames.{InterfaceFrame, IsWired, RouterFrame, StageFrame}
 use Rattle.aeth_components.specs.Frames.{frame_of}
 use Rattle.aeth_components.specs.Switching.{entry_in}
 use Rattle.aeth_components.specs.View.{queue_in}
+use Rattle.aeth_refinement.proofs.Tables.{forwards, forwards-none}
+use Rattle.aeth_refinement.specs.Accepted.{IsAccepted}
+use Rattle.aeth_refinement.specs.Carried.{Exact}
 use Rattle.aeth_refinement.specs.Components.{Net, emit, emitted_by}
 use Rattle.aeth_refinement.specs.Components.{driven as net_driven}
 use Rattle.aeth_refinement.specs.Fabric.{AtInterface, AtRouter, AtStage, Fabric, WireEnd}
+use Rattle.aeth_refinement.specs.Tables.{AreEntries, passed_on}
 use Rattle.aeth_invariant.specs.Framed.{IsFramed, IsFrom, IsFromRouter, IsFromStage}
+use Rattle.aeth_invariant.specs.Routed.{AreRoutedBy}
 use Rattle.aeth_invariant.specs.View.{HaveLatched, net_of}
 
 -- The flit on each of so many wires, and on no wire.
@@ -61,9 +67,37 @@ is_among-position numbers l port at =
     any_passes_from_place (λ other. other == l) numbers port (get_or numbers port 0)
     (slice_get-get_or numbers port 0 found.0) found.1
 
-module _ (fabric : Fabric) (parts : List Part) (old : List (Option Flit)) (t : ℕ) (handed : ℕ → ℕ)
+-- What is at a place of a mapped list, or none.
+place-map : (f : ℕ → Option Flit) (xs : List ℕ) (place : ℕ)
+    → slice_index_or (map f xs) place None ≡ option_and_then f (slice_get xs place)
+place-map f [] place = refl
+place-map f (x ∷ xs) zero = refl
+place-map f (x ∷ xs) (suc place) = place-map f xs place
+
+-- What an entry sends on is held from its wire.
+sent_from-wire : (f : ℕ → Option Flit) (xs : List ℕ) (entry : Option ℕ)
+    → sent_from (map f xs) entry
+    ≡ option_map hopped (option_and_then f (option_and_then (λ place. slice_get xs place) entry))
+sent_from-wire f xs None = refl
+sent_from-wire f xs (Some place) = ap (option_map hopped) (place-map f xs place)
+
+-- By tables is sent on what headers send on.
+forwarded : (fabric : Fabric) → IsAccepted fabric → 0 < fabric.size → (t : ℕ) (held : ℕ → Option Flit)
+    → ((v : ℕ) → suc v ≡ t → Exact fabric v held) → (t ≡ 0 → (l : ℕ) → held l ≡ None)
+    → (from : ℕ → Option ℕ) → AreEntries fabric t from → (l r : ℕ) → fabric.start l ≡ AtRouter r
+    → passed_on from held l ≡ sole (flits_for (fabric.port l) (map held (fabric.incoming r)))
+forwarded fabric ok some zero held exact none from entries l r start =
+    forwards-none fabric held (none refl) from l r
+forwarded fabric ok some (suc t) held exact none from entries l r start =
+    forwards fabric ok some t held (exact t refl) from entries l r start
+
+module _ (fabric : Fabric) (ok : IsAccepted fabric) (parts : List Part) (old : List (Option Flit))
+    (t : ℕ) (handed : ℕ → ℕ)
     (wired : IsWired (map frame_of parts) (length old))
-    (framed : IsFramed fabric (map frame_of parts) (length old)) (latched : HaveLatched parts old) where
+    (framed : IsFramed fabric (map frame_of parts) (length old)) (latched : HaveLatched parts old)
+    (routes : AreRoutedBy fabric t parts)
+    (exact : (v : ℕ) → suc v ≡ t → Exact fabric v (flit_on old))
+    (none : t ≡ 0 → (l : ℕ) → flit_on old l ≡ None) where
   abbrev net : Net
   net = net_of handed parts old
 
@@ -96,14 +130,32 @@ module _ (fabric : Fabric) (parts : List Part) (old : List (Option Flit)) (t : �
             ∙ ap (λ (part : Option Part). emitted_by (entry_in (t % fabric.size) part)
             (λ q. queue_in q part)) (sym at)
         | Router router ↦ λ at is. absurd (cc is)
+        | TableRouter router ↦ λ at is. absurd (cc is)
         | Stage stage ↦ λ at is. absurd (cc is)
       ] in
       cases found.0 found.1 found.2
 
-  from-router : (l r : ℕ) → l < length old
+  -- A router with a table emits what headers name, where its table has the sessions of the cycle.
+  from-table : (l r place : ℕ) (router : TableRouterState) → l < length old
+      → fabric.start l ≡ AtRouter r → slice_get parts place ≡ Some (TableRouter router)
+      → position (λ other. other == l) router.outgoing ≡ Some (fabric.port l)
+      → flit_on (wires_driven parts (length old) t) l ≡ emit fabric net t l (AtRouter r)
+  from-table l r place router within start at port =
+      let entry = entry_at router.entries router.slots (fabric.port l) (t % router.slots) in
+      let own = routes place router at in
+      sent-on place l (TableRouter router) within at
+      (is_among-position router.outgoing l (fabric.port l) port)
+      ∙ ap (option_and_then (routed router (t % router.slots))) port
+      ∙ ap (λ (held : List (Option Flit)). sent_from held entry) (latched.tables place router at)
+      ∙ sent_from-wire (flit_on old) router.incoming entry
+      ∙ ap (λ (from : Option ℕ). option_map hopped (option_and_then (flit_on old) from))
+      (sym (own.own l (fabric.port l) port))
+      ∙ forwarded fabric ok own.some_slots t (flit_on old) exact none own.from own.entries l r start
+
+  from-router : (l r : ℕ) → l < length old → fabric.start l ≡ AtRouter r
       → IsFromRouter (map frame_of parts) (fabric.incoming r) (fabric.port l) l
       → flit_on (wires_driven parts (length old) t) l ≡ emit fabric net t l (AtRouter r)
-  from-router l r within from =
+  from-router l r within start from =
       let found = from-map frame_of parts from.place _ from.face in
       let cases : (part : Part) → slice_get parts from.place ≡ Some part
       → RouterFrame (fabric.incoming r) from.outgoing ≡ frame_of part
@@ -120,6 +172,10 @@ module _ (fabric : Fabric) (parts : List Part) (old : List (Option Flit)) (t : �
             ∙ ap (λ (held : List (Option Flit)). sole (flits_for (fabric.port l) held))
             (latched.routers from.place router at
             ∙ ap (λ (ls : List ℕ). map (flit_on old) ls) (sym enters))
+        | TableRouter router ↦ λ at is.
+            let leaves : from.outgoing ≡ router.outgoing = cc is in
+            from-table l r from.place router within start at
+            (ap (λ (ls : List ℕ). position (λ other. other == l) ls) (sym leaves) ∙ from.sends)
         | Stage stage ↦ λ at is. absurd (cc is)
       ] in
       cases found.0 found.1 found.2
@@ -133,6 +189,7 @@ module _ (fabric : Fabric) (parts : List Part) (old : List (Option Flit)) (t : �
       → flit_on (wires_driven parts (length old) t) l ≡ emit fabric net t l (AtStage m) = elim [
         | Interface ni ↦ λ at is. absurd (cc is)
         | Router router ↦ λ at is. absurd (cc is)
+        | TableRouter router ↦ λ at is. absurd (cc is)
         | Stage stage ↦ λ at is.
             let reads : from.input ≡ stage.input = cc is in
             let sends : from.output ≡ stage.output = cc is in
@@ -150,7 +207,8 @@ module _ (fabric : Fabric) (parts : List Part) (old : List (Option Flit)) (t : �
     | inl within ↦
         let cases : (end : WireEnd) → fabric.start l ≡ end
         → flit_on (wires_driven parts (length old) t) l ≡ emit fabric net t l end = elim [
-          | AtRouter r ↦ λ starts. from-router l r within (framed.router l r within starts)
+          | AtRouter r ↦ λ starts.
+              from-router l r within starts (framed.router l r within starts)
           | AtInterface n ↦ λ starts.
               from-interface l n within (framed.interface l n within starts)
           | AtStage m ↦ λ starts. from-stage l m within (framed.stage l m within starts)

@@ -47,6 +47,7 @@ use Rattle.aeth_invariant.proofs.Kept.{hardware-switched, hardware_in, hardware_
 use Rattle.aeth_invariant.proofs.Kept.{kept-refilling}
 use Rattle.aeth_invariant.proofs.OneQueue.{entries-after, entry_of-same, queue_of-after}
 use Rattle.aeth_invariant.proofs.Refilling.{refills, refills-served}
+use Rattle.aeth_invariant.proofs.Routed.{routed-same, tables-kept, tables-ready}
 use Rattle.aeth_invariant.proofs.Taking.{took, took-served}
 use Rattle.aeth_invariant.specs.Following.{Follows}
 use Rattle.aeth_invariant.specs.Framed.{IsFramed}
@@ -152,9 +153,12 @@ module _ (fabric : Fabric) (ok : IsAccepted fabric) (channel : ℕ → ℕ) (eve
   drives : (l : ℕ) → flit_on new.wires l ≡ net_driven fabric third t l
   drives l =
       ap (λ (ws : List (Option Flit)). flit_on ws l) cycle.wires
-      ∙ wires-driven fabric ready.parts old.wires t more
+      ∙ wires-driven fabric ok ready.parts old.wires t more
       (subst (λ (fs : List Frame). IsWired fs (length old.wires)) (sym ready-frames) follows.wired)
-      (framed-at (map frame_of ready.parts) ready-frames) held l
+      (framed-at (map frame_of ready.parts) ready-frames) held
+      (routed-same fabric t ready.parts old.parts (tables-ready old.words events t (moment_of old))
+      follows.routed)
+      follows.stands.held follows.stands.held_none l
 
   -- Taking. A session in use has no finish on its queue.
   unfinished : (c : ℕ) → c < fabric.count → IsGoing fabric c t
@@ -298,6 +302,8 @@ module _ (fabric : Fabric) (ok : IsAccepted fabric) (channel : ℕ → ℕ) (eve
         framed = subst (IsFramed fabric (frames_of new)) (sym wires-same) framed;
         latched = subst (λ (ps : List Part). HaveLatched ps new.wires) (sym cycle.parts)
             (latched-absorb drained.parts new.wires);
+        routed = routed-same fabric t new.parts old.parts (tables-kept events t old new cycle)
+            follows.routed;
         served = subst (λ (ws : List ℕ). AreServed fabric channel ws t (t + 1 + 1) (t + 1) more
             new.lanes) (sym cycle.words) lanes;
         stands = subst (λ (ps : List Part). Stands fabric (t + 1) (t + 1)

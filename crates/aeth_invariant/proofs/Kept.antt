@@ -6,7 +6,7 @@ use Rattle.std.proofs.lemmas.Bool.{cases_Bool}
 use Rattle.aeth_ni.specs.Interface.{InterfaceState, changed}
 use Rattle.aeth_ni.specs.Queue.{QueueState}
 use Rattle.aeth_router.specs.declared.part.Part.{Part}
-use Rattle.aeth_router.specs.declared.part.Part.TheVariants.{Interface, Router, Stage}
+use Rattle.aeth_router.specs.declared.part.Part.TheVariants.{Interface, Router, Stage, TableRouter}
 use Rattle.aeth_components.specs.declared.event.Event.{Event}
 use Rattle.aeth_components.specs.declared.lane.ChannelEnd.{ChannelEnd}
 use Rattle.aeth_components.specs.declared.lane.Lane.{Lane}
@@ -88,27 +88,47 @@ module _ {X : Type 0} (f : Part → X) where
         kept-turns (pulled cycle) (kept-pulled cycle)
         (range_with_len 0 (length moment.lanes)) moment
 
+  -- A change of all components that doesn't touch it.
+  pub kept-map : (change : Part → Part) → ((part : Part) → f (change part) ≡ f part)
+      → (parts : List Part) → map f (map change parts) ≡ map f parts
+  kept-map change same [] = refl
+  kept-map change same (part ∷ parts) = rw (same part, kept-map change same parts) refl
+
+  -- Events that touch no more than interfaces.
+  pub kept-switched : ((change : InterfaceState → InterfaceState) (part : Part)
+      → f (on_interface change part) ≡ f part) → (events : List Event) (parts : List Part)
+      → map f (switched events parts) ≡ map f parts
+  kept-switched still [] parts = refl
+  kept-switched still (event ∷ events) parts =
+      kept-switched still events (happened parts event)
+      ∙ kept-with_part (event_part event) (on_interface (event_done event))
+      (still (event_done event)) parts
+
 -- The entries of a component, and the component where it is no interface.
 abbrev pub entries_in : Part → List (Option ℕ)
 entries_in (Interface ni) = ni.entries
 entries_in (Router router) = []
+entries_in (TableRouter router) = []
 entries_in (Stage stage) = []
 
 abbrev pub hardware_in : Part → Option Part
 hardware_in (Interface ni) = None
 hardware_in (Router router) = Some (Router router)
+hardware_in (TableRouter router) = Some (TableRouter router)
 hardware_in (Stage stage) = Some (Stage stage)
 
 pub entries_in-changed : (queue : ℕ) (change : QueueState → QueueState) (part : Part)
     → entries_in (on_interface (changed queue change) part) ≡ entries_in part
 entries_in-changed queue change (Interface ni) = refl
 entries_in-changed queue change (Router router) = refl
+entries_in-changed queue change (TableRouter router) = refl
 entries_in-changed queue change (Stage stage) = refl
 
 pub hardware_in-interface : (change : InterfaceState → InterfaceState) (part : Part)
     → hardware_in (on_interface change part) ≡ hardware_in part
 hardware_in-interface change (Interface ni) = refl
 hardware_in-interface change (Router router) = refl
+hardware_in-interface change (TableRouter router) = refl
 hardware_in-interface change (Stage stage) = refl
 
 pub hardware_in-changed : (queue : ℕ) (change : QueueState → QueueState) (part : Part)
@@ -118,8 +138,4 @@ hardware_in-changed queue change part = hardware_in-interface (changed queue cha
 -- Events touch no router and no stage.
 pub hardware-switched : (events : List Event) (parts : List Part)
     → map hardware_in (switched events parts) ≡ map hardware_in parts
-hardware-switched [] parts = refl
-hardware-switched (event ∷ events) parts =
-    hardware-switched events (happened parts event)
-    ∙ kept-with_part hardware_in (event_part event) (on_interface (event_done event))
-    (hardware_in-interface (event_done event)) parts
+hardware-switched = kept-switched hardware_in hardware_in-interface

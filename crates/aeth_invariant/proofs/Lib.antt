@@ -1,6 +1,7 @@
 pub mod Kept
 pub mod OneQueue
 pub mod Holding
+pub mod Routed
 pub mod Driving
 pub mod Serving
 pub mod Refilling

@@ -1,7 +1,7 @@
 -- One queue and one entry of all components, once these have driven or latched.
 use Rattle.std.proofs.Common.{◌≡◌, ◌<◌, ◌∙◌, ℕ, ◌%◌, refl, sym, ap, subst, arith, inl, inr, Bool}
 use Rattle.std.proofs.Common.{cond}
-use Rattle.std.proofs.Common.{List, [], ◌∷◌, Option, Some, None, length, map, slice_get, ◌⊎◌}
+use Rattle.std.proofs.Common.{List, Option, Some, None, length, map, slice_get, ◌⊎◌}
 use Rattle.std.specs.Prelude.{◌==◌, option_map}
 use Rattle.std.specs.List.{slice_index_or}
 use Rattle.std.proofs.lemmas.Bool.{cases_eq, cases_lt, eq-eqb, ne_eqb}
@@ -18,13 +18,13 @@ use Rattle.aeth_ni.specs.Queue.{QueueState, empty_queue, flit_landed}
 use Rattle.aeth_ni.specs.Sending.{flit_sent}
 use Rattle.aeth_router.specs.Part.{absorb_of, after_of}
 use Rattle.aeth_router.specs.declared.part.Part.{Part}
-use Rattle.aeth_router.specs.declared.part.Part.TheVariants.{Interface, Router, Stage}
+use Rattle.aeth_router.specs.declared.part.Part.TheVariants.{Interface, Router, Stage, TableRouter}
 use Rattle.aeth_components.proofs.FrameLemmas.{from-map}
 use Rattle.aeth_components.specs.Frames.{Frame, InterfaceFrame, frame_of}
 use Rattle.aeth_components.specs.Switching.{entry_in, entry_of}
 use Rattle.aeth_components.specs.View.{queue_in, queue_of}
 use Rattle.aeth_refinement.specs.Components.{brought, brought_by, sent_from}
-use Rattle.aeth_invariant.proofs.Kept.{entries_in}
+use Rattle.aeth_invariant.proofs.Kept.{entries_in, kept-map}
 
 -- A change of a queue, seen at any.
 with_queue-at : (k q : ℕ) (change : QueueState → QueueState) (queues : List QueueState)
@@ -86,6 +86,7 @@ queue_in-after (Some (Interface ni)) cycle q size slots =
     ∙ ap (λ (n : ℕ). sent_from (slice_index_or ni.entries (cycle % n) None) q
     (queue_at ni.queues q)) (slots ni refl)
 queue_in-after (Some (Router router)) cycle q size slots = refl
+queue_in-after (Some (TableRouter router)) cycle q size slots = refl
 queue_in-after (Some (Stage stage)) cycle q size slots = refl
 
 pub queue_of-after : (parts : List Part) (cycle n q size : ℕ) → HaveSlots size (map frame_of parts)
@@ -121,6 +122,7 @@ queue_of-absorb parts wires n q number leaving entering slots queues face within
           ∙ ap (λ (part : Option Part). brought (flit_on wires entering.0) q (queue_in q part))
           (sym at)
       | Router router ↦ λ at is. absurd (cc is)
+      | TableRouter router ↦ λ at is. absurd (cc is)
       | Stage stage ↦ λ at is. absurd (cc is)
     ] in
     cases found.0 found.1 found.2
@@ -135,6 +137,7 @@ unfolding entry_by
 entry_in-by x None = refl
 entry_in-by x (Some (Interface ni)) = refl
 entry_in-by x (Some (Router router)) = refl
+entry_in-by x (Some (TableRouter router)) = refl
 entry_in-by x (Some (Stage stage)) = refl
 
 pub entry_of-same : (one other : List Part) → map entries_in one ≡ map entries_in other
@@ -146,22 +149,17 @@ entry_of-same one other same n x =
     ∙ slice_get-map entries_in other n)
     ∙ sym (entry_in-by x (slice_get other n))
 
--- A change of all components that leaves a word of each.
-kept-map : {X : Type 0} (f : Part → X) (change : Part → Part)
-    → ((part : Part) → f (change part) ≡ f part) → (parts : List Part)
-    → map f (map change parts) ≡ map f parts
-kept-map f change same [] = refl
-kept-map f change same (part ∷ parts) = rw (same part, kept-map f change same parts) refl
-
 entries_in-after : (cycle : ℕ) (part : Part) → entries_in (after_of part cycle) ≡ entries_in part
 entries_in-after cycle (Interface ni) = refl
 entries_in-after cycle (Router router) = refl
+entries_in-after cycle (TableRouter router) = refl
 entries_in-after cycle (Stage stage) = refl
 
 entries_in-absorb : (wires : List (Option Flit)) (part : Part)
     → entries_in (absorb_of part wires) ≡ entries_in part
 entries_in-absorb wires (Interface ni) = refl
 entries_in-absorb wires (Router router) = refl
+entries_in-absorb wires (TableRouter router) = refl
 entries_in-absorb wires (Stage stage) = refl
 
 pub entries-after : (cycle : ℕ) (parts : List Part)

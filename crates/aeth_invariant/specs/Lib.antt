@@ -1,5 +1,6 @@
 pub mod View
 pub mod Framed
+pub mod Routed
 pub mod Served
 pub mod Following
 pub mod Events

@@ -4,7 +4,7 @@
 --   Runs      what holds before a cycle
 --   HasStart, Prepares      sessions that go are loaded, and each is given what the cycle brings
 -- This project's own.
-use Rattle.std.specs.Prelude.{◌≡◌, ◌≤◌, ◌<◌, ◌⊎◌, ℕ, ◌+◌, true, List, Some, length, slice_get}
+use Rattle.std.specs.Prelude.{◌≡◌, ◌≤◌, ◌<◌, ◌⊎◌, ℕ, ◌+◌, true, List, Some, length, map, slice_get}
 use Rattle.aeth_components.specs.Components.{ComponentsState, frames_of}
 use Rattle.aeth_components.specs.Frames.{IsWired}
 use Rattle.aeth_components.specs.Lanes.{is_open}
@@ -13,6 +13,7 @@ use Rattle.aeth_server.specs.PrivateServer.{arrived}
 use Rattle.aeth_refinement.specs.Fabric.{Fabric, IsGoing, server_at}
 use Rattle.aeth_refinement.specs.Standing.{Stands}
 use Rattle.aeth_invariant.specs.Framed.{IsFramed}
+use Rattle.aeth_invariant.specs.Routed.{AreRoutedBy, without_table}
 use Rattle.aeth_invariant.specs.Served.{IsCounted, IsFed, IsInUse, IsLaneOf}
 use Rattle.aeth_invariant.specs.View.{HaveLatched, net_of}
 
@@ -59,11 +60,13 @@ module _ (fabric : Fabric) (channel : ℕ → ℕ) where
     pub goes : (server_at fabric session).go ≡ t
     pub place : channel session ≡ number
 
-  -- What is done before cycle t. Sessions that go are loaded; each that went before accepts what has
-  -- arrived by then, and its receiver takes as it says; but for these two numbers, a channel that isn't
-  -- loaded stays.
+  -- What is done before cycle t. Tables of routers become those of the sessions that are in them then, and
+  -- nothing else of components changes. Sessions that go are loaded; each that went before accepts what
+  -- has arrived by then, and its receiver takes as it says; but for these two numbers, a channel that
+  -- isn't loaded stays.
   pub record Prepares (t : ℕ) (old ready : ComponentsState) : Type 0 where
-    pub parts : ready.parts ≡ old.parts
+    pub parts : map without_table ready.parts ≡ map without_table old.parts
+    pub routed : AreRoutedBy fabric t ready.parts
     pub wires : ready.wires ≡ old.wires
     pub words : ready.words ≡ old.words
     pub landings : ready.landings ≡ old.landings

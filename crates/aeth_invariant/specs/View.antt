@@ -1,15 +1,16 @@
 -- The components of a network, seen as functions of numbers.
 --
 --   net_of      the components as a net
---   HaveLatched      routers and stages hold what the wires have
+--   HaveLatched      routers, of both kinds, and stages hold what the wires have
 -- This project's own.
 use Rattle.std.specs.Prelude.{◌≡◌, ℕ, List, Option, Some, map, slice_get}
 use Rattle.aeth_clocked.specs.Wires.{flit_on}
 use Rattle.aeth_clocked.specs.declared.flit.Flit.{Flit}
 use Rattle.aeth_router.specs.Router.{RouterState}
 use Rattle.aeth_router.specs.Stage.{StageState}
+use Rattle.aeth_router.specs.TableRouter.{TableRouterState}
 use Rattle.aeth_router.specs.declared.part.Part.{Part}
-use Rattle.aeth_router.specs.declared.part.Part.TheVariants.{Router, Stage}
+use Rattle.aeth_router.specs.declared.part.Part.TheVariants.{Router, Stage, TableRouter}
 use Rattle.aeth_components.specs.Switching.{entry_of}
 use Rattle.aeth_components.specs.View.{queue_of}
 use Rattle.aeth_refinement.specs.Components.{Net}
@@ -24,9 +25,11 @@ net_of handed parts wires = record {
   handed = handed;
 }
 
--- Routers and stages hold what these wires have.
+-- Routers, of both kinds, and stages hold what these wires have.
 pub record HaveLatched (parts : List Part) (wires : List (Option Flit)) : Type 0 where
   pub routers : (i : ℕ) (router : RouterState) → slice_get parts i ≡ Some (Router router)
+      → router.held ≡ map (flit_on wires) router.incoming
+  pub tables : (i : ℕ) (router : TableRouterState) → slice_get parts i ≡ Some (TableRouter router)
       → router.held ≡ map (flit_on wires) router.incoming
   pub stages : (i : ℕ) (stage : StageState) → slice_get parts i ≡ Some (Stage stage)
       → stage.held ≡ flit_on wires stage.input.0

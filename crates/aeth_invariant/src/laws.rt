@@ -1,5 +1,5 @@
 //! What holds of the components of a network over a fabric, over the definitions alone.
-ghost use Rattle.std.specs.Prelude.{◌≡◌, ◌≤◌, ◌<◌, ◌-◌, ◌+◌, ℕ, List, Option, length, map};
+ghost use Rattle.std.specs.Prelude.{◌≡◌, ◌≤◌, ◌<◌, ◌-◌, ◌+◌, ℕ, suc, List, None, Option, length, map};
 ghost use Rattle.aeth_clocked.specs.Wires.{flit_on};
 ghost use Rattle.aeth_clocked.specs.declared.flit.Flit.{Flit};
 ghost use Rattle.aeth_router.specs.Part.{absorb_of};
@@ -25,6 +25,7 @@ ghost use Rattle.aeth_invariant.specs.Events.{AreEvents};
 ghost use Rattle.aeth_invariant.specs.Following.{Follows};
 ghost use Rattle.aeth_invariant.specs.Framed.{IsFramed};
 ghost use Rattle.aeth_invariant.specs.Places.{ArePlaced, HavePlaces};
+ghost use Rattle.aeth_invariant.specs.Routed.{AreRoutedBy};
 ghost use Rattle.aeth_invariant.specs.Running.{Prepares, Runs, Starts};
 ghost use Rattle.aeth_invariant.specs.Served.{AreServed, handed_after};
 ghost use Rattle.aeth_invariant.specs.Telling.{CountsFlits, HasTold, NotesLandings};
@@ -77,11 +78,16 @@ pub fn words_are_taken()
     aeth_components::laws::turns_are_taken_alone();
 }
 
-/// The components of a fabric drive on each wire what the law on networks says.
+/// The components of a fabric drive on each wire what the law on networks says, by headers or by tables:
+/// where they hold what the fabric carried in the cycle before, or nothing in the first cycle, and
+/// tables have the sessions of the cycle.
 pub fn wires_are_driven()
-    ensures { (fabric : Fabric) (parts : List Part) (old : List (Option Flit)) (t : ℕ)
-        (handed : ℕ → ℕ) → IsWired (map frame_of parts) (length old)
-        → IsFramed fabric (map frame_of parts) (length old) → HaveLatched parts old → (l : ℕ)
+    ensures { (fabric : Fabric) → IsAccepted fabric → (parts : List Part)
+        (old : List (Option Flit)) (t : ℕ) (handed : ℕ → ℕ)
+        → IsWired (map frame_of parts) (length old)
+        → IsFramed fabric (map frame_of parts) (length old) → HaveLatched parts old
+        → AreRoutedBy fabric t parts → ((v : ℕ) → suc v ≡ t → Exact fabric v (flit_on old))
+        → (t ≡ 0 → (l : ℕ) → flit_on old l ≡ None) → (l : ℕ)
         → flit_on (wires_driven parts (length old) t) l
         ≡ driven fabric (net_of handed parts old) t l }
 {}

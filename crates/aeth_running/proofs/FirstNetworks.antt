@@ -27,6 +27,7 @@ use Rattle.aeth_components.specs.Frames.{frame_of}
 use Rattle.aeth_components.specs.Lanes.{IsLane}
 use Rattle.aeth_components.specs.Making.{new_parts}
 use Rattle.aeth_components.specs.declared.lane.Lane.{Lane}
+use Rattle.aeth_components.specs.declared.making.RouterKind.TheVariants.{ByHeader}
 use Rattle.aeth_refinement.specs.Accepted.{IsAccepted}
 use Rattle.aeth_accepted.specs.Inputs.{Inputs, run_of}
 use Rattle.aeth_fabric.specs.Fabric.{fabric_of, opposite_in, passage_of, placed_at, placed_of}
@@ -42,6 +43,7 @@ use Rattle.aeth_running.proofs.ChannelRows.{last_pull}
 use Rattle.aeth_running.proofs.ChannelStates.{Unused}
 use Rattle.aeth_running.proofs.NetworkLaws.{BeginningLaws}
 use Rattle.aeth_running.proofs.NetworkSteps.{Plays}
+use Rattle.aeth_running.proofs.RouterTables.{none-first}
 use Rattle.aeth_running.specs.Network.{first_network}
 use Rattle.aeth_stimuli.specs.Loaded.{loaded_components, no_lane}
 use Rattle.aeth_stimuli.specs.OnChip.{HaveRooms, IsOver}
@@ -77,7 +79,7 @@ module _ (inputs : Inputs) where
   words = values_of inputs.words (length inputs.app.connections)
 
   abbrev made : ComponentsState
-  made = first_components inputs.chip (rooms_of inputs) lanes words
+  made = first_components inputs.chip ByHeader (rooms_of inputs) lanes words
 
   rooms-are : length (rooms_of inputs) ≡ queues_of_interface * length inputs.chip.nis
   unfolding rooms_of
@@ -102,7 +104,7 @@ module _ (inputs : Inputs) where
 
     parts-some : 1 ≤ length (loaded_components inputs).parts
     parts-some =
-        let parts = new_parts inputs.chip (rooms_of inputs) in
+        let parts = new_parts inputs.chip ByHeader (rooms_of inputs) in
         let after = switched (loaded_of inputs) parts in
         let same = ap length (frames-switched (loaded_of inputs) parts) in
         let one = length-map after frame_of in
@@ -161,6 +163,7 @@ module _ (inputs : Inputs) where
       stimuli_are = refl;
       log_is = refl;
       running = first-running;
+      headers = none-first inputs.chip (rooms_of inputs) (loaded_of inputs);
       channels = λ channel known.
           let within = channel-within channel (length inputs.app.connections) known in
           record {

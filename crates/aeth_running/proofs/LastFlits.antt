@@ -21,6 +21,7 @@ use Rattle.aeth_components.specs.Making.{link_stages, made_interface, made_route
 use Rattle.aeth_components.specs.Making.{made_stages, new_parts}
 use Rattle.aeth_components.specs.Resting.{Holding, InterfaceHolds, RouterHolds, StageHolds, holding_of}
 use Rattle.aeth_components.specs.declared.event.Event.{Event}
+use Rattle.aeth_components.specs.declared.making.RouterKind.TheVariants.{ByHeader}
 
 -- What is told of the last flit.
 abbrev last_held : Holding → Option (ℕ × ℕ)
@@ -29,12 +30,12 @@ last_held (RouterHolds incoming held) = None
 last_held (StageHolds input held) = None
 
 -- Fresh components tell of none.
-last-made : (chip : ChipData) (rooms : List ℕ) (part : Part) → Contains (new_parts chip rooms) part
+last-made : (chip : ChipData) (rooms : List ℕ) (part : Part) → Contains (new_parts chip ByHeader rooms) part
     → last_held (holding_of part) ≡ None
 last-made chip rooms part has =
     let told = λ (one : Part). last_held (holding_of one) in
     let interfaces = map (made_interface chip rooms) (range_with_len 0 (length chip.nis)) in
-    let routers = map (made_router chip) (range_with_len 0 (length chip.routers)) in
+    let routers = map (made_router chip ByHeader) (range_with_len 0 (length chip.routers)) in
     let stages = made_stages chip.links (length chip.links) in
     elim (Contains-append_cases (interfaces ++ routers) stages part has) [
       | inl former ↦ elim (Contains-append_cases interfaces routers part former) [
@@ -43,7 +44,7 @@ last-made chip rooms part has =
             (range_with_len 0 (length chip.nis)) part first in
             sym (ap told is)
         | inr second ↦
-            let (number, is, listed) = map-Contains (made_router chip)
+            let (number, is, listed) = map-Contains (made_router chip ByHeader)
             (range_with_len 0 (length chip.routers)) part second in
             sym (ap told is)
       ]
@@ -58,9 +59,9 @@ last-made chip rooms part has =
 -- Nor do they once events are done.
 pub last-loaded : (chip : ChipData) (rooms : List ℕ) (events : List Event) (i : ℕ)
     (ni : InterfaceState)
-    → slice_get (switched events (new_parts chip rooms)) i ≡ Some (Interface ni) → ni.last ≡ None
+    → slice_get (switched events (new_parts chip ByHeader rooms)) i ≡ Some (Interface ni) → ni.last ≡ None
 last-loaded chip rooms events i ni at =
-    let made = new_parts chip rooms in
+    let made = new_parts chip ByHeader rooms in
     let (part, there, same) = from-map holding_of made i (holding_of (Interface ni))
     (ap (λ (all : List Holding). slice_get all i) (sym (holdings-switched events made))
     ∙ slice_get-map holding_of (switched events made) i ∙ ap (option_map holding_of) at) in

@@ -36,6 +36,7 @@ pub mod RestedNetworks
 pub mod RestingNetworks
 pub mod RestingParts
 pub mod RestingStates
+pub mod RouterTables
 pub mod RowFilters
 pub mod RunningCycles
 pub mod SessionCycles

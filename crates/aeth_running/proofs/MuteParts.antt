@@ -12,11 +12,12 @@ use Rattle.aeth_clocked.specs.Driven.{driven}
 use Rattle.aeth_clocked.specs.Wires.{AreLinks, flit_on}
 use Rattle.aeth_clocked.specs.declared.flit.Flit.{Flit}
 use Rattle.aeth_ni.specs.Component.{emitted_by, queue_at_cycle}
-use Rattle.aeth_router.proofs.RestingLemmas.{RestsDrive-router, RestsDrive-stage}
+use Rattle.aeth_router.proofs.RestingLemmas.{RestsDrive-router, RestsDrive-stage, RestsDrive-table}
 use Rattle.aeth_router.specs.Part.{emit_of, outputs_of}
 use Rattle.aeth_router.specs.Router.{RouterState}
+use Rattle.aeth_router.specs.TableRouter.{TableRouterState}
 use Rattle.aeth_router.specs.declared.part.Part.{Part}
-use Rattle.aeth_router.specs.declared.part.Part.TheVariants.{Interface, Router, Stage}
+use Rattle.aeth_router.specs.declared.part.Part.TheVariants.{Interface, Router, Stage, TableRouter}
 use Rattle.aeth_components.proofs.FrameLemmas.{AreDisjoint-parts, length-wires_driven}
 use Rattle.aeth_components.specs.Components.{wires_driven}
 use Rattle.aeth_components.specs.Frames.{Frame, IsWired, frame_of, sends_by}
@@ -59,6 +60,14 @@ module _ (parts : List Part) (wires : List (Option Flit)) (cycle : ℕ)
       latched.routers i router at ∙ nothing-from router.incoming
       ∙ ap (λ n. replicate n None) (sym places)
 
+  table-none : (i : ℕ) (router : TableRouterState) → slice_get parts i ≡ Some (TableRouter router)
+      → router.held ≡ replicate (length router.held) None
+  table-none i router at =
+      let places : length router.held ≡ length router.incoming =
+      ap length (latched.tables i router at) ∙ length-map router.incoming (flit_on wires) in
+      latched.tables i router at ∙ nothing-from router.incoming
+      ∙ ap (λ n. replicate n None) (sym places)
+
   -- A component that sends nothing of its own emits nothing.
   emits-none : (i : ℕ) (part : Part) → slice_get parts i ≡ Some part
       → sends_own cycle part ≡ false → (link : ℕ) → outputs_of part link ≡ true
@@ -67,6 +76,8 @@ module _ (parts : List Part) (wires : List (Option Flit)) (cycle : ℕ)
   emits-none i (Router router) at mute link own =
       ((RestsDrive-router router wires cycle).0 (held-none i router at, λ l is. empty l)).silent link
       own
+  emits-none i (TableRouter router) at mute link own =
+      ((RestsDrive-table router wires cycle).0 (table-none i router at, λ l is. empty l)).silent link own
   emits-none i (Stage stage) at mute link own =
       ((RestsDrive-stage stage wires cycle).0
       (latched.stages i stage at ∙ empty stage.input.0, empty stage.output.0)).silent link own
@@ -100,4 +111,5 @@ module _ (parts : List Part) (wires : List (Option Flit)) (cycle : ℕ)
       ∙ silent leaving in
       ap is_some none
   silent-mute silent i (Router router) at = refl
+  silent-mute silent i (TableRouter router) at = refl
   silent-mute silent i (Stage stage) at = refl

@@ -8,6 +8,7 @@ use Rattle.aeth_components.specs.Changes.{switched}
 use Rattle.aeth_components.specs.Components.{ComponentsState, Cycle, IsComponents, first_components}
 use Rattle.aeth_components.specs.declared.event.Event.{Event}
 use Rattle.aeth_components.specs.declared.lane.Lane.{Lane}
+use Rattle.aeth_components.specs.declared.making.RouterKind.TheVariants.{ByHeader}
 use Rattle.aeth_refinement.specs.Accepted.{IsAccepted}
 use Rattle.aeth_refinement.specs.Carried.{Exact}
 use Rattle.aeth_refinement.specs.Fabric.{Fabric, Passage, server_at}
@@ -31,7 +32,7 @@ pub record BeginningLaws : Type 0 where
       → HaveRooms (fabric_on chip count passage opposite) rooms
       → (lanes : List Lane) (words : List ℕ)
       → ((number : ℕ) (lane : Lane) → slice_get lanes number ≡ Some lane → lane.fin ≡ 0)
-      → AreEmpty (fabric_on chip count passage opposite) (first_components chip rooms lanes words)
+      → AreEmpty (fabric_on chip count passage opposite) (first_components chip ByHeader rooms lanes words)
   pub runs_begin : (fabric : Fabric) → IsAccepted fabric → (channel : ℕ → ℕ) (events : List Event)
       (all : ComponentsState) → AreEmpty fabric all → AreEvents fabric 0 events
       → Runs fabric channel 0 (λ c. 0) (loaded_with events all)

@@ -27,11 +27,12 @@ use Rattle.aeth_invariant.specs.Running.{Prepares}
 use Rattle.aeth_running.proofs.ChannelStates.{HasChannel, StandsAt, Unused, Used}
 use Rattle.aeth_running.proofs.FabricSessions.{Before, Behind, Ordered, Same, placed-known}
 use Rattle.aeth_running.proofs.GoingSessions.{GoesNow}
-use Rattle.aeth_running.proofs.KeptLanes.{lane-behind, lanes-kept}
+use Rattle.aeth_running.proofs.KeptLanes.{cycle-behind, lane-behind, lanes-kept}
 use Rattle.aeth_running.proofs.NetworkLaws.{CycleLaws}
 use Rattle.aeth_running.proofs.Preparing.{prepares}
 use Rattle.aeth_running.proofs.ReadyChannels.{IsReady, ready}
 use Rattle.aeth_running.proofs.ReadySound.{ready-sound}
+use Rattle.aeth_running.proofs.RouterTables.{HaveNoTables, none-behind}
 use Rattle.aeth_running.proofs.RunningCycles.{running-on}
 use Rattle.aeth_running.specs.FirstLog.{first_log}
 use Rattle.aeth_events.specs.Events.{events_in}
@@ -48,6 +49,7 @@ pub record Plays (inputs : Inputs) (network : NetworkState) : Type 0 where
   pub stimuli_are : network.stimuli ≡ stimuli_of inputs
   pub log_is : network.log ≡ first_log inputs
   pub running : IsRunning inputs network.time network.components
+  pub headers : HaveNoTables network.components.parts
   pub channels : (channel : Channel) → channel.conn.0 < length inputs.app.connections
       → HasChannel inputs network.time network channel
 
@@ -116,7 +118,7 @@ module _ (inputs : Inputs) (laws : CycleLaws) (ok : IsAccepted (fabric_of inputs
         (ready_in network)
     then-prepares =
         let words = sym plays.running.words in
-        prepares inputs t early network
+        prepares inputs t early network plays.headers
         (subst (λ (all : List ℕ). (c : ℕ) → c < (fabric_of inputs).count
         → words_from all (first_of inputs c) (length (flow_at (fabric_of inputs) c).values)
         ≡ (flow_at (fabric_of inputs) c).values) words values-placed)
@@ -191,6 +193,14 @@ module _ (inputs : Inputs) (laws : CycleLaws) (ok : IsAccepted (fabric_of inputs
         goes-first firsts
         (λ c lane h going at. firsts c (latest-going c h going) lane at)
 
+    -- No component is a router with a table.
+    then-headers : HaveNoTables
+        (state_behind (events_in network.stimuli network.time) network.time (ready_in network)).parts
+    then-headers =
+        let events = events_in network.stimuli network.time in
+        none-behind events t (ready_in network) (state_behind events t (ready_in network))
+        (cycle-behind events t (ready_in network)) plays.headers
+
     -- Each channel behind the cycle.
     then-channel : (channel : Channel) → channel.conn.0 < length inputs.app.connections
         → HasChannel inputs (network.time + 1) (stepped network) channel
@@ -220,5 +230,6 @@ module _ (inputs : Inputs) (laws : CycleLaws) (ok : IsAccepted (fabric_of inputs
       stimuli_are = plays.stimuli_are;
       log_is = plays.log_is;
       running = then-runs;
+      headers = then-headers;
       channels = then-channel;
     }

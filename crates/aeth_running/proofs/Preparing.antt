@@ -28,6 +28,7 @@ use Rattle.aeth_running.proofs.FabricSessions.{Before, Behind, Ordered, Same, cl
 use Rattle.aeth_running.proofs.FabricSessions.{placed-known, session_at}
 use Rattle.aeth_running.proofs.LaneLookups.{length-lanes_in}
 use Rattle.aeth_running.proofs.ReadyChannels.{IsReady, Loads, Stays}
+use Rattle.aeth_running.proofs.RouterTables.{HaveNoTables}
 use Rattle.aeth_running.specs.Network.{NetworkState, ready_in, untils_in}
 use Rattle.aeth_running.specs.Running.{IsLatest}
 use Rattle.aeth_stimuli.specs.Sessions.{SessionGoing, as_going, channel_of, first_of, going_of}
@@ -137,6 +138,7 @@ module _ (inputs : Inputs) (ordered : (c d : ℕ) → c < (fabric_of inputs).cou
       ]
 
 module _ (inputs : Inputs) (t : ℕ) (early : t < inputs.cycles) (network : NetworkState)
+    (none : HaveNoTables network.components.parts)
     (values-placed : (c : ℕ) → c < (fabric_of inputs).count
     → words_from network.components.words (first_of inputs c)
     (length (flow_at (fabric_of inputs) c).values)
@@ -265,6 +267,7 @@ module _ (inputs : Inputs) (t : ℕ) (early : t < inputs.cycles) (network : Netw
       (ready_in network)
   prepares = record {
     parts = refl;
+    routed = λ i router at. absurd (none i router at);
     wires = refl;
     words = refl;
     landings = refl;

@@ -12,13 +12,14 @@ use Rattle.aeth_clocked.specs.declared.flit.Flit.{Flit}
 use Rattle.aeth_ni.proofs.RestingLemmas.{RestsDrive-interface, RestsLatch-interface}
 use Rattle.aeth_ni.specs.Component.{emitted_by, queue_at_cycle}
 use Rattle.aeth_ni.specs.Interface.{InterfaceState}
-use Rattle.aeth_router.proofs.RestingLemmas.{RestsDrive-router, RestsDrive-stage, RestsLatch-router}
-use Rattle.aeth_router.proofs.RestingLemmas.{RestsLatch-stage}
+use Rattle.aeth_router.proofs.RestingLemmas.{RestsDrive-router, RestsDrive-stage, RestsDrive-table}
+use Rattle.aeth_router.proofs.RestingLemmas.{RestsLatch-router, RestsLatch-stage, RestsLatch-table}
 use Rattle.aeth_router.specs.Part.{absorb_of, after_of, emit_of, outputs_of}
 use Rattle.aeth_router.specs.Router.{RouterState}
 use Rattle.aeth_router.specs.Stage.{StageState}
+use Rattle.aeth_router.specs.TableRouter.{TableRouterState}
 use Rattle.aeth_router.specs.declared.part.Part.{Part}
-use Rattle.aeth_router.specs.declared.part.Part.TheVariants.{Interface, Router, Stage}
+use Rattle.aeth_router.specs.declared.part.Part.TheVariants.{Interface, Router, Stage, TableRouter}
 use Rattle.aeth_components.proofs.FrameLemmas.{AreDisjoint-parts}
 use Rattle.aeth_components.specs.Components.{wires_driven}
 use Rattle.aeth_components.specs.Counting.{brings}
@@ -53,6 +54,17 @@ module _ (parts : List Part) (wires : List (Option Flit)) (cycle : ℕ)
       latched.routers i router at ∙ nothing-from router.incoming
       ∙ ap (λ n. replicate n None) (sym (places i router at))
 
+  table-places : (i : ℕ) (router : TableRouterState) → slice_get parts i ≡ Some (TableRouter router)
+      → length router.held ≡ length router.incoming
+  table-places i router at =
+      ap length (latched.tables i router at) ∙ length-map router.incoming (flit_on wires)
+
+  table-none : (i : ℕ) (router : TableRouterState) → slice_get parts i ≡ Some (TableRouter router)
+      → router.held ≡ replicate (length router.held) None
+  table-none i router at =
+      latched.tables i router at ∙ nothing-from router.incoming
+      ∙ ap (λ n. replicate n None) (sym (table-places i router at))
+
   -- An interface sends nothing, since its leaving wire stays empty.
   sent-none : (i : ℕ) (ni : InterfaceState) → slice_get parts i ≡ Some (Interface ni)
       → emitted_by (queue_at_cycle ni.entries cycle) ni.queues ≡ None
@@ -74,6 +86,9 @@ module _ (parts : List Part) (wires : List (Option Flit)) (cycle : ℕ)
   drives-rest i (Router router) at =
       ap (λ (one : RouterState). Router one)
       ((RestsDrive-router router wires cycle).0 (held-none i router at, λ l is. empty l)).still
+  drives-rest i (TableRouter router) at =
+      ap (λ (one : TableRouterState). TableRouter one)
+      ((RestsDrive-table router wires cycle).0 (table-none i router at, λ l is. empty l)).still
   drives-rest i (Stage stage) at =
       ap (λ (one : StageState). Stage one)
       ((RestsDrive-stage stage wires cycle).0
@@ -88,6 +103,10 @@ module _ (parts : List Part) (wires : List (Option Flit)) (cycle : ℕ)
       ap (λ (one : RouterState). Router one)
       ((RestsLatch-router router wires (places i router at)).0
       (held-none i router at, λ l is. empty l)).1
+  latches-rest i (TableRouter router) at =
+      ap (λ (one : TableRouterState). TableRouter one)
+      ((RestsLatch-table router wires (table-places i router at)).0
+      (table-none i router at, λ l is. empty l)).1
   latches-rest i (Stage stage) at =
       ap (λ (one : StageState). Stage one)
       ((RestsLatch-stage stage wires).0
@@ -97,6 +116,7 @@ module _ (parts : List Part) (wires : List (Option Flit)) (cycle : ℕ)
   told-none : (queue i : ℕ) (part : Part) → slice_get parts i ≡ Some part → brought_by queue part ≡ 0
   told-none queue i (Interface ni) at = ap (words_for queue) (last i ni at)
   told-none queue i (Router router) at = refl
+  told-none queue i (TableRouter router) at = refl
   told-none queue i (Stage stage) at = refl
 
   found-none : (queue i : ℕ) (found : Option Part) → slice_get parts i ≡ found

@@ -1,12 +1,10 @@
 -- A cycle of a network that runs: its components run behind it, and each channel has its session.
-use Rattle.std.proofs.Common.{◌≡◌, ◌<◌, ◌∙◌, ◌+◌, ℕ, List, Some, length, map, slice_get}
+use Rattle.std.proofs.Common.{◌≡◌, ◌<◌, ◌∙◌, ◌+◌, ℕ, List, Some, length, slice_get}
 use Rattle.std.proofs.Common.{sym, ap, subst, arith}
 use Rattle.aeth_base.specs.Limits.{max_cycles}
 use Rattle.aeth_clocked.specs.Wires.{flit_on}
 use Rattle.aeth_components.specs.Changes.{switched}
 use Rattle.aeth_components.specs.Components.{ComponentsState, Cycle, IsComponents}
-use Rattle.aeth_components.specs.Frames.{frame_of}
-use Rattle.aeth_router.specs.declared.part.Part.{Part}
 use Rattle.aeth_components.specs.declared.event.Event.{Event}
 use Rattle.aeth_components.specs.declared.lane.Lane.{Lane}
 use Rattle.aeth_refinement.specs.Accepted.{IsAccepted}
@@ -14,6 +12,7 @@ use Rattle.aeth_refinement.specs.Carried.{Exact}
 use Rattle.aeth_refinement.specs.Fabric.{server_at}
 use Rattle.aeth_accepted.specs.Inputs.{Inputs}
 use Rattle.aeth_fabric.specs.Fabric.{fabric_of}
+use Rattle.aeth_invariant.proofs.Routed.{frames-but_tables}
 use Rattle.aeth_invariant.specs.Events.{AreEvents}
 use Rattle.aeth_invariant.specs.Following.{Follows}
 use Rattle.aeth_invariant.specs.Places.{ArePlaced, HavePlaces}
@@ -106,7 +105,7 @@ module _ (inputs : Inputs) (laws : CycleLaws) (ok : IsAccepted (fabric_of inputs
         ready new running.runs prepares are cycle;
     sound = components-kept events t ready sound;
     frames = frames-kept events t ready
-        ∙ ap (λ (parts : List Part). map frame_of parts) prepares.parts ∙ running.frames;
+        ∙ frames-but_tables ready.parts old.parts prepares.parts ∙ running.frames;
     words = prepares.words ∙ running.words;
     lanes = length-kept events t ready ∙ prepares.count ∙ running.lanes;
     links = flits-kept events t ready ∙ ap length prepares.flits ∙ running.links;

@@ -11,7 +11,7 @@ use Rattle.aeth_ni.specs.Limits.{waiting_words}
 use Rattle.aeth_ni.specs.Interface.{InterfaceState, changed, queue_at}
 use Rattle.aeth_ni.specs.Queue.{QueueState}
 use Rattle.aeth_router.specs.declared.part.Part.{Part}
-use Rattle.aeth_router.specs.declared.part.Part.TheVariants.{Interface, Router, Stage}
+use Rattle.aeth_router.specs.declared.part.Part.TheVariants.{Interface, Router, Stage, TableRouter}
 use Rattle.aeth_server.specs.PrivateServer.{arrived, sent}
 use Rattle.aeth_server.proofs.PrivateServerLemmas.{sent-more}
 use Rattle.aeth_report.specs.Carries.{returns, sends}
@@ -112,6 +112,7 @@ module _ (left : List ℕ) (queue : ℕ) where
   at-full (Interface ni) full = ap (λ (one : InterfaceState). Interface one)
       (changed-same queue (filled left) ni (filled-full left (queue_at ni.queues queue) full))
   at-full (Router router) full = refl
+  at-full (TableRouter router) full = refl
   at-full (Stage stage) full = refl
 
   told-full : (found : Option Part) → length (queue_in queue found).waiting ≡ waiting_words
@@ -119,6 +120,7 @@ module _ (left : List ℕ) (queue : ℕ) where
   told-full None full = refl
   told-full (Some (Interface ni)) full = fits-full left (queue_at ni.queues queue) full
   told-full (Some (Router router)) full = refl
+  told-full (Some (TableRouter router)) full = refl
   told-full (Some (Stage stage)) full = refl
 
 pub handed_on-full : (left : List ℕ) (parts : List Part) (lane : Lane)

@@ -13,8 +13,9 @@ use Rattle.aeth_ni.specs.Limits.{queues_of_interface}
 use Rattle.aeth_ni.specs.Queue.{empty_queue}
 use Rattle.aeth_router.specs.Router.{RouterState, entering_wires, new_router}
 use Rattle.aeth_router.specs.Stage.{StageState}
+use Rattle.aeth_router.specs.TableRouter.{TableRouterState}
 use Rattle.aeth_router.specs.declared.part.Part.{Part}
-use Rattle.aeth_router.specs.declared.part.Part.TheVariants.{Router, Stage}
+use Rattle.aeth_router.specs.declared.part.Part.TheVariants.{Router, Stage, TableRouter}
 use Rattle.aeth_components.proofs.MadeLemmas.{IsInterface, IsRouter, IsStage, IsWired-new, length-new_parts, part-at}
 use Rattle.aeth_components.specs.Components.{first_components}
 use Rattle.aeth_components.specs.Frames.{IsWired, frame_of}
@@ -22,6 +23,7 @@ use Rattle.aeth_components.specs.Making.{made_interface, made_stage, new_parts}
 use Rattle.aeth_components.specs.Switching.{entry_in, entry_of}
 use Rattle.aeth_components.specs.View.{queue_in}
 use Rattle.aeth_components.specs.declared.lane.Lane.{Lane}
+use Rattle.aeth_components.specs.declared.making.RouterKind.TheVariants.{ByHeader}
 use Rattle.aeth_refinement.specs.Fabric.{Fabric, Passage}
 use Rattle.aeth_fabric.specs.Wiring.{fabric_on}
 use Rattle.aeth_stimuli.proofs.ChipFrames.{framed, queues-are}
@@ -51,7 +53,7 @@ no-flits f none (x ∷ xs) =
 module _ (chip : ChipData) (is_chip : IsChip chip) (rooms : List ℕ)
     (rooms_are : length rooms ≡ queues_of_interface * length chip.nis) where
   abbrev parts : List Part
-  parts = new_parts chip rooms
+  parts = new_parts chip ByHeader rooms
 
   abbrev wires : List (Option Flit)
   wires = replicate (wires_of chip.links) None
@@ -68,6 +70,17 @@ module _ (chip : ChipData) (is_chip : IsChip chip) (rooms : List ℕ)
         ∙ ap (λ (s : RouterState). map (flit_on wires) s.incoming) (sym same)
     | IsStage k small place stage ↦
         let same : Router router ≡ made_stage chip.links stage.link stage.place = stage.is in
+        absurd (cc same)
+  ]
+
+  -- Nor is there one with a table.
+  table-empty : (i : ℕ) (router : TableRouterState) → slice_get parts i ≡ Some (TableRouter router)
+      → router.held ≡ map (flit_on wires) router.incoming
+  table-empty i router at = elim (part-at chip rooms i (TableRouter router) at) [
+    | IsInterface small is ↦ absurd (cc is)
+    | IsRouter r small place is ↦ absurd (cc is)
+    | IsStage k small place stage ↦
+        let same : TableRouter router ≡ made_stage chip.links stage.link stage.place = stage.is in
         absurd (cc same)
   ]
 
@@ -116,7 +129,7 @@ module _ (chip : ChipData) (is_chip : IsChip chip) (rooms : List ℕ)
     fabric = fabric_on chip count passage opposite
 
     has-room : (lanes : List Lane) (words : List ℕ) (c : ℕ) → c < fabric.count
-        → HasRoom fabric (first_components chip rooms lanes words) c
+        → HasRoom fabric (first_components chip ByHeader rooms lanes words) c
     has-room lanes words c h =
         let n = (fabric.passage c).ni in
         let q = (fabric.passage c).queue in
@@ -133,7 +146,7 @@ module _ (chip : ChipData) (is_chip : IsChip chip) (rooms : List ℕ)
 
     pub empty : (lanes : List Lane) (words : List ℕ)
         → ((number : ℕ) (lane : Lane) → slice_get lanes number ≡ Some lane → lane.fin ≡ 0)
-        → AreEmpty fabric (first_components chip rooms lanes words)
+        → AreEmpty fabric (first_components chip ByHeader rooms lanes words)
     empty lanes words closed =
         let frames = map frame_of parts in
         let size : length wires ≡ wires_of chip.links =
@@ -142,7 +155,7 @@ module _ (chip : ChipData) (is_chip : IsChip chip) (rooms : List ℕ)
           wired = subst (IsWired frames) (sym size) (IsWired-new chip is_chip rooms);
           framed = subst (IsFramed fabric frames) (sym size)
               (framed chip is_chip rooms rooms_are count passage opposite over);
-          latched = record { routers = router-empty; stages = stage-empty };
+          latched = record { routers = router-empty; tables = table-empty; stages = stage-empty };
           wires = no-flit (wires_of chip.links);
           entries = entry-of;
           queues = has-room lanes words;

@@ -24,6 +24,7 @@ use Rattle.aeth_components.proofs.MadeLemmas.{IsInterface, IsRouter, IsStage, Is
 use Rattle.aeth_components.proofs.MadeParts.{StageAt}
 use Rattle.aeth_components.specs.Frames.{Frame, InterfaceFrame, frame_of, sends_by}
 use Rattle.aeth_components.specs.Making.{made_interface, made_router, made_stage, new_parts}
+use Rattle.aeth_components.specs.declared.making.RouterKind.TheVariants.{ByHeader}
 use Rattle.aeth_report.specs.Routes.{port_of}
 use Rattle.aeth_fabric.proofs.WiredLemmas.{port_at}
 use Rattle.aeth_fabric.proofs.WireEnds.{first-starts, further-starts}
@@ -36,7 +37,7 @@ use Rattle.aeth_invariant.specs.Framed.{HasSession, IsFramed, IsFrom, IsFromRout
 module _ (chip : ChipData) (is_chip : IsChip chip) (rooms : List ℕ)
     (rooms_are : length rooms ≡ queues_of_interface * length chip.nis) where
   abbrev frames : List Frame
-  frames = map frame_of (new_parts chip rooms)
+  frames = map frame_of (new_parts chip ByHeader rooms)
 
   abbrev links : List Link
   links = chip.links
@@ -89,7 +90,7 @@ module _ (chip : ChipData) (is_chip : IsChip chip) (rooms : List ℕ)
       })
 
   by-router : (r i l : ℕ) (frame : Frame) → slice_get frames i ≡ Some frame
-      → frame ≡ frame_of (made_router chip r) → sends_by frame l ≡ true → Sender l
+      → frame ≡ frame_of (made_router chip ByHeader r) → sends_by frame l ≡ true → Sender l
   by-router r i l frame at is sends =
       let node : Node = Router (record { 0 = r }) in
       let among : is_among (sends_on node links) l ≡ true =
@@ -146,7 +147,7 @@ module _ (chip : ChipData) (is_chip : IsChip chip) (rooms : List ℕ)
       → slice_get frames n ≡ Some (frame_of (made_interface chip rooms n))
   face-at n within =
       let count = length-new_parts chip rooms in
-      let size = length-map (new_parts chip rooms) frame_of in
+      let size = length-map (new_parts chip ByHeader rooms) frame_of in
       let default = frame_of (made_interface chip rooms n) in
       let at = slice_get-get_or frames n default (omega (arith, within, count, size)) in
       let made = made-at chip is_chip rooms n (get_or frames n default) at in
@@ -171,7 +172,7 @@ module _ (chip : ChipData) (is_chip : IsChip chip) (rooms : List ℕ)
             size ∙ length-replicate chip.slots none
         | IsRouter r small place is ↦
             let same : InterfaceFrame number leaving entering slots queues
-            ≡ frame_of (made_router chip r) = made.2 ∙ ap frame_of is in
+            ≡ frame_of (made_router chip ByHeader r) = made.2 ∙ ap frame_of is in
             absurd (cc same)
         | IsStage k small place stage ↦
             let same : InterfaceFrame number leaving entering slots queues

@@ -24,6 +24,7 @@ use Rattle.aeth_components.specs.Components.{frames_of}
 use Rattle.aeth_components.specs.Frames.{Frame, frame_of}
 use Rattle.aeth_components.specs.Lanes.{IsEnd, IsLane}
 use Rattle.aeth_components.specs.Making.{new_parts}
+use Rattle.aeth_components.specs.declared.making.RouterKind.TheVariants.{ByHeader}
 use Rattle.aeth_components.proofs.MadeLemmas.{length-new_parts}
 use Rattle.aeth_components.proofs.PartLemmas.{frames-switched}
 use Rattle.aeth_accepted.specs.Inputs.{AreAccepted, Inputs}
@@ -60,7 +61,7 @@ module _ (inputs : Inputs) (accepted : AreAccepted inputs) where
   -- The interfaces of the chip are among the components.
   interfaces-first : length inputs.chip.nis ≤ parts
   interfaces-first =
-      let made = new_parts inputs.chip (rooms_of inputs) in
+      let made = new_parts inputs.chip ByHeader (rooms_of inputs) in
       let kept = ap (λ (frames : List Frame). length frames)
       (frames-switched (loaded_of inputs) made) in
       let size = length-map made frame_of in

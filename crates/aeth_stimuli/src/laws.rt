@@ -11,6 +11,7 @@ ghost use Rattle.aeth_report.specs.declared.session.Session.{Session};
 ghost use Rattle.aeth_components.specs.Components.{first_components, frames_of};
 ghost use Rattle.aeth_components.specs.Lanes.{IsLane};
 ghost use Rattle.aeth_components.specs.declared.lane.Lane.{Lane};
+ghost use Rattle.aeth_components.specs.declared.making.RouterKind.TheVariants.{ByHeader};
 ghost use Rattle.aeth_refinement.specs.Carried.{words_from};
 ghost use Rattle.aeth_refinement.specs.Fabric.{Passage, flow_at};
 ghost use Rattle.aeth_accepted.specs.Inputs.{AreAccepted, Inputs, run_of};
@@ -37,7 +38,7 @@ pub fn chips_begin()
         → (lanes : List Lane) (words : List ℕ)
         → ((number : ℕ) (lane : Lane) → slice_get lanes number ≡ Some lane → lane.fin ≡ 0)
         → AreEmpty (fabric_on chip count passage opposite)
-        (first_components chip rooms lanes words) }
+        (first_components chip ByHeader rooms lanes words) }
 {}
 
 /// The sessions that go within a run are those of its connections, channel by channel: each sends and
