@@ -4,3 +4,7 @@ mod HopLaws
 mod RowLaws
 mod RouterPorts
 pub mod TableLaws
+mod SendingLaws
+mod InForce
+mod PathEntries
+mod TabledSessions

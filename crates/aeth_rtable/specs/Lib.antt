@@ -3,3 +3,5 @@ pub mod Entries
 pub mod Rows
 pub mod RouterTables
 pub mod RouteText
+pub mod Sending
+pub mod InForce

@@ -1,16 +1,28 @@
 // What holds of the tables of routers by an accepted plan, over the definitions alone.
+ghost use Rattle.aeth_accepted.specs.Inputs.{AreAccepted, Inputs};
 ghost use Rattle.aeth_app.specs.App.{AppData};
 ghost use Rattle.aeth_chip.specs.Chip.{ChipData};
+ghost use Rattle.aeth_fabric.specs.Fabric.{fabric_of};
 ghost use Rattle.aeth_group.specs.Members.{groups_of};
 ghost use Rattle.aeth_plan.specs.Plan.{PlanData};
+ghost use Rattle.aeth_refinement.specs.Tables.{AreEntries};
+ghost use Rattle.aeth_rtable.specs.InForce.{rows_in_force};
 ghost use Rattle.aeth_rtable.specs.RouterTables.{AreTables};
 ghost use Rattle.aeth_rtable.specs.Rows.{router_rows};
+ghost use Rattle.aeth_rtable.specs.Sending.{from_rows};
 ghost use Rattle.aeth_tables.specs.Reserved.{IsDesign};
-ghost use Rattle.std.specs.Prelude.{ℕ};
+ghost use Rattle.std.specs.Prelude.{◌<◌, ℕ};
 
 /// The rows of a use case by an accepted plan are the entries of its grants, each of them, ascending by
 /// router, port and slot; no two of them are of one slot of one port.
 pub fn router_tables()
     ensures { (chip : ChipData) (app : AppData) (plan : PlanData) → IsDesign chip app plan → (u : ℕ)
         → AreTables chip (groups_of app) plan u (router_rows chip (groups_of app) plan u) }
+{}
+
+/// In each cycle of a run of accepted inputs the rows of the use case in force are the entries of just
+/// the sessions that are in the tables then.
+pub fn rows_route()
+    ensures { (inputs : Inputs) → AreAccepted inputs → (t : ℕ) → t < inputs.cycles
+        → AreEntries (fabric_of inputs) t (from_rows inputs.chip (rows_in_force inputs t) t) }
 {}

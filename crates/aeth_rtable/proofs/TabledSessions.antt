@@ -1,0 +1,339 @@
+-- The rows in force in a cycle are the entries of just the sessions that are in the tables.
+use Rattle.std.proofs.Common.{◌≡◌, ◌≤◌, ◌<◌, ◌+◌, ◌%◌, ◌∙◌, ℕ, suc, true, eqb, List, All}
+use Rattle.std.proofs.Common.{Contains, Option, Some, None, length, slice_get, refl, sym, ap, subst}
+use Rattle.std.proofs.Common.{arith}
+use Rattle.std.specs.Prelude.{IfSome, option_map, unwrap_or}
+use Rattle.std.specs.List.{list_any, position_or_len}
+use Rattle.std.proofs.lemmas.Bool.{and_from, and_parts, eq-eqb, eqb-true}
+use Rattle.aeth_base.proofs.Lists.{option_map-some}
+use Rattle.std.proofs.lemmas.List.Elements.{All-from_recursion}
+use Rattle.std.proofs.lemmas.List.Folds.{list_any_at}
+use Rattle.std.proofs.lemmas.Option.{get_or_from_slice_get, same_Some, slice_get_within}
+use Rattle.aeth_base.specs.declared.ids.LinkId.{LinkId}
+use Rattle.aeth_base.specs.declared.ids.RouterId.{RouterId}
+use Rattle.aeth_chip.specs.Nodes.{sends_on}
+use Rattle.aeth_chip.specs.declared.node.Link.{Link}
+use Rattle.aeth_chip.specs.declared.node.Node.TheVariants.{Router}
+use Rattle.aeth_chip.proofs.WireLemmas.{HaveDelays, have_delays}
+use Rattle.aeth_group.specs.Members.{group_at, groups_of, has_at, has_unit}
+use Rattle.aeth_group.specs.declared.grant.Grant.{Grant}
+use Rattle.aeth_group.proofs.MemberLemmas.{connections-groups_of}
+use Rattle.aeth_plan.specs.Plan.{IsGrantOf}
+use Rattle.aeth_report.specs.Design.{grant_at}
+use Rattle.aeth_report.specs.Flows.{Run}
+use Rattle.aeth_report.specs.Routes.{port_of}
+use Rattle.aeth_report.specs.Sessions.{Switch, close_by}
+use Rattle.aeth_report.proofs.GrantLemmas.{grant_at-is}
+use Rattle.aeth_report.proofs.SessionMeetings.{IsInTables as IsStayInTables, finish_by}
+use Rattle.aeth_report.proofs.StaysAlone.{at-Contains}
+use Rattle.aeth_tables.proofs.ListLaws.{all_has_by, has_place, place_in}
+use Rattle.aeth_refinement.specs.Fabric.{AtRouter, IsInTables}
+use Rattle.aeth_refinement.specs.Tables.{AreEntries, HasPassing, IsPassing}
+use Rattle.aeth_router.specs.Router.{last_wire}
+use Rattle.aeth_router.specs.Rows.{link_in}
+use Rattle.aeth_accepted.specs.Inputs.{AreAccepted, Inputs, design_of, run_of}
+use Rattle.aeth_accepted.proofs.GivenGrants.{connection-known}
+use Rattle.aeth_accepted.proofs.OwnGrants.{channel_of, grant-own}
+use Rattle.aeth_fabric.specs.Fabric.{Placed, entered_by, fabric_of, flow_in, no_placed, placed_at}
+use Rattle.aeth_fabric.specs.Fabric.{placed_of, stays_in}
+use Rattle.aeth_fabric.specs.Paths.{wires_along}
+use Rattle.aeth_fabric.specs.Wiring.{start_of}
+use Rattle.aeth_fabric.proofs.ApartWires.{past, slot_place}
+use Rattle.aeth_fabric.proofs.Numbers.{numbered, placed-there}
+use Rattle.aeth_fabric.proofs.PathWires.{wires-place}
+use Rattle.aeth_fabric.proofs.WiredLemmas.{port_at}
+use Rattle.aeth_fabric.proofs.WireEnds.{starts_at-node}
+use Rattle.aeth_rtable.specs.InForce.{rows_in_force, use_in_force}
+use Rattle.aeth_rtable.specs.RouterTables.{AreTables}
+use Rattle.aeth_rtable.specs.Sending.{from_at, from_rows}
+use Rattle.aeth_router.specs.declared.router_row.RouterRow.{RouterRow}
+use Rattle.aeth_rtable.proofs.InForce.{stay-used, used-covered}
+use Rattle.aeth_rtable.proofs.PathEntries.{at-enters, enters-at}
+use Rattle.aeth_rtable.proofs.SendingLaws.{link-row, row-link}
+use Rattle.aeth_rtable.proofs.TableLaws.{design_tables}
+
+module _ (run : Run) (placed : Placed) (t : ℕ) where
+  -- A session is in the tables from the finish of the switch that opens it until that of the switch
+  -- that closes it, or that of the run.
+  covered : entered_by run placed.stay.opening ≤ t → t < (flow_in run placed).server.finish
+      → IsStayInTables run.design.groups run.spans placed.stay t
+  covered since unfinished =
+      let openings : (o : Option Switch) → entered_by run o ≤ t
+      → IfSome o (λ switch. finish_by run.design.groups run.spans switch ≤ t) = elim [
+        | None ↦ λ goes. tt
+        | Some switch ↦ λ goes. goes
+      ] in
+      let closings : (o : Option Switch)
+      → t < (unwrap_or (option_map (close_by run.spans) o) (past run placed)).fin
+      → IfSome o (λ switch. t < finish_by run.design.groups run.spans switch) = elim [
+        | None ↦ λ below. tt
+        | Some switch ↦ λ below. below
+      ] in
+      record {
+        opened_by = openings placed.stay.opening since;
+        closed_by = closings placed.stay.closing unfinished;
+      }
+
+  entered : IsStayInTables run.design.groups run.spans placed.stay t
+      → entered_by run placed.stay.opening ≤ t
+  entered covers =
+      let openings : (o : Option Switch)
+      → IfSome o (λ switch. finish_by run.design.groups run.spans switch ≤ t)
+      → entered_by run o ≤ t = elim [
+        | None ↦ λ goes. omega arith
+        | Some switch ↦ λ goes. goes
+      ] in
+      openings placed.stay.opening covers.opened_by
+
+  unfinished : t < run.cycles → IsStayInTables run.design.groups run.spans placed.stay t
+      → t < (flow_in run placed).server.finish
+  unfinished within covers =
+      let closings : (o : Option Switch)
+      → IfSome o (λ switch. t < finish_by run.design.groups run.spans switch)
+      → t < (unwrap_or (option_map (close_by run.spans) o) (past run placed)).fin = elim [
+        | None ↦ λ below. omega (arith, within)
+        | Some switch ↦ λ below. below
+      ] in
+      closings placed.stay.closing covers.closed_by
+
+module _ (inputs : Inputs) (accepted : AreAccepted inputs) (t : ℕ) where
+  abbrev run : Run
+  run = run_of inputs
+
+  abbrev links : List Link
+  links = inputs.chip.links
+
+  -- The use case in force, and that its rows are the tables of all routers.
+  abbrev used : ℕ
+  used = use_in_force (run_of inputs).spans t inputs.switches
+
+  tables : AreTables inputs.chip (groups_of inputs.app) inputs.plan used (rows_in_force inputs t)
+  tables = design_tables inputs.chip inputs.app inputs.plan accepted.design used
+
+  -- A grant of the plan is one for its chip.
+  grant_is : (grant : Grant) → Contains inputs.plan.grants grant
+      → IsGrantOf inputs.chip inputs.app (groups_of inputs.app) grant
+  grant_is grant has = all_has_by (IsGrantOf inputs.chip inputs.app (groups_of inputs.app))
+      inputs.plan.grants grant accepted.design.plan_is.grants has
+
+  links_known : (grant : Grant) → Contains inputs.plan.grants grant
+      → All (λ (link : LinkId). link.0 < length inputs.chip.links) grant.path
+  links_known grant has =
+      All-from_recursion (λ (link : LinkId). link.0 < length inputs.chip.links) grant.path
+      (grant_is grant has).links
+
+  -- From which wire a wire is sent on that starts at a router.
+  from-starts : (l r : ℕ) → start_of inputs.chip.links l ≡ AtRouter r
+      → from_rows inputs.chip (rows_in_force inputs t) t l
+      ≡ option_map (λ (link : LinkId). last_wire inputs.chip.links link.0)
+      (link_in (rows_in_force inputs t) (record { 0 = r })
+      (port_of inputs.chip.links (record { 0 = l })) (t % inputs.chip.slots))
+  from-starts l r starts = ap (from_at inputs.chip (rows_in_force inputs t) t l) starts
+
+  -- Such a wire is the first one of a link, which stands at its port.
+  record IsSent (l r : ℕ) : Type 0 where
+    below : l < length inputs.chip.links
+    port : slice_get (sends_on (Router (record { 0 = r })) inputs.chip.links)
+        (port_of inputs.chip.links (record { 0 = l })) ≡ Some l
+
+  sent : (l r : ℕ) → start_of inputs.chip.links l ≡ AtRouter r → IsSent l r
+  sent l r starts =
+      let router : RouterId = record { 0 = r } in
+      let delays : HaveDelays inputs.chip.links = have_delays inputs.chip accepted.design.chip_is in
+      let found = starts_at-node links delays l (Router router) starts in
+      record {
+        below = slice_get_within links l found.link found.at;
+        port = port_at links l found.link router found.at found.from;
+      }
+
+  -- Where a session that is in the tables goes on to a wire, a grant of the use case enters the row of
+  -- the wire.
+  module _ (c i m l r : ℕ) (starts : start_of inputs.chip.links l ≡ AtRouter r)
+      (on : IsInTables (fabric_of inputs) c t) (goes : IsPassing (fabric_of inputs) t c i m l) where
+    abbrev own : Placed
+    own = placed_at (run_of inputs) c
+
+    abbrev granted : Grant
+    granted = grant_at (design_of inputs) own.channel own.stay.group
+
+    row-there : from_rows inputs.chip (rows_in_force inputs t) t l ≡ Some m
+    row-there =
+        let conn = own.channel.conn.0 in
+        let is = placed-there run c goes.known in
+        let of = stay-used (groups_of inputs.app) run.spans inputs.switches conn t
+        accepted.switches.apart own.stay
+        (at-Contains (stays_in run conn) own.place own.stay is.stay_at)
+        (covered run own t on.since on.unfinished) in
+        let router : RouterId = record { 0 = r } in
+        let port = port_of links (record { 0 = l }) in
+        let sends = sent l r starts in
+        let onto = wires-place links granted.path (suc i) l goes.next in
+        let some = grant_at-is (design_of inputs) own.channel own.stay.group onto.place onto.link onto.at
+        in
+        let known = links_known granted some.has in
+        let size = (grant_is granted some.has).size in
+        let enters = enters-at inputs.chip accepted.design.chip_is granted.path known i m l sends.below
+        goes.here goes.next in
+        let slots = granted.slots.slots in
+        let row : RouterRow = record {
+          router = router;
+          port = port;
+          slot = t % inputs.chip.slots;
+          from = enters.from;
+        } in
+        let in_use = and_from (has_at (groups_of inputs.app) used granted.unit.conn.0)
+        (eqb (group_at (groups_of inputs.app) used) granted.unit.group.0)
+        (ap (has_at (groups_of inputs.app) used) some.conn ∙ of.has)
+        (eq-eqb (group_at (groups_of inputs.app) used) granted.unit.group.0
+        (of.group ∙ sym some.group)) in
+        let has = tables.all row (record {
+          grant = granted;
+          granted = some.has;
+          in_use = in_use;
+          enters = record {
+            place = enters.place;
+            link = record { 0 = l };
+            start = goes.slot;
+            before = enters.before;
+            behind = enters.behind;
+            port = sends.port;
+            starts = has_place slots (position_or_len (λ own. eqb goes.slot own) slots) goes.slot
+                (slot_place slots goes.slot goes.uses);
+            slot = ap (λ (n : ℕ). (goes.slot + n) % granted.slots.size) enters.index
+                ∙ ap (λ (n : ℕ). (goes.slot + suc i) % n) size ∙ goes.time;
+          };
+        }) in
+        from-starts l r starts
+        ∙ ap (option_map (λ (link : LinkId). last_wire inputs.chip.links link.0))
+        (row-link router port (t % inputs.chip.slots) (rows_in_force inputs t) tables.ascends row has
+        refl refl refl)
+        ∙ ap (λ (n : ℕ). Some n) enters.last
+
+  -- A session is in the tables, and goes on from a wire to the next.
+  record Goes (placed : Placed) (i m l : ℕ) : Type 0 where
+    since : entered_by (run_of inputs) placed.stay.opening ≤ t
+    unfinished : t < (flow_in (run_of inputs) placed).server.finish
+    here : slice_get (wires_along inputs.chip.links (flow_in (run_of inputs) placed).path) i ≡ Some m
+    next : slice_get (wires_along inputs.chip.links (flow_in (run_of inputs) placed).path) (suc i)
+        ≡ Some l
+    slot : ℕ
+    uses : list_any (λ own. eqb slot own) (flow_in (run_of inputs) placed).server.shape.slots ≡ true
+    time : (slot + suc i) % inputs.chip.slots ≡ t % inputs.chip.slots
+
+  passing : (c i m l : ℕ) → c < length (placed_of (run_of inputs))
+      → Goes (placed_at (run_of inputs) c) i m l → HasPassing (fabric_of inputs) t m l
+  passing c i m l known goes = record {
+    number = c;
+    place = i;
+    in_tables = record { since = goes.since; unfinished = goes.unfinished };
+    passing = record {
+      known = known;
+      here = goes.here;
+      next = goes.next;
+      slot = goes.slot;
+      uses = goes.uses;
+      time = goes.time;
+    };
+  }
+
+  module _ (within : t < inputs.cycles) (grant : Grant) (has : Contains inputs.plan.grants grant)
+      (in_use : has_unit (groups_of inputs.app) grant.unit used ≡ true) where
+    abbrev conn : ℕ
+    conn = grant.unit.conn.0
+
+    -- A session of a grant's channel is in the tables.
+    record IsTabled : Type 0 where
+      placed : Placed
+      number : ℕ
+      is_placed : placed_at (run_of inputs) number ≡ placed
+      known : number < length (placed_of (run_of inputs))
+      covers : IsStayInTables (groups_of inputs.app) (run_of inputs).spans placed.stay t
+      is_grant : grant_at (design_of inputs) placed.channel placed.stay.group ≡ grant
+
+    is_tabled : IsTabled
+    is_tabled =
+        let groups = groups_of inputs.app in
+        let parts = and_parts (has_at groups used conn)
+        (eqb (group_at groups used) grant.unit.group.0) in_use in
+        let group = eqb-true (group_at groups used) grant.unit.group.0 parts.1 in
+        let covered = used-covered groups run.spans inputs.switches conn t
+        accepted.switches.apart accepted.switches.first parts.0 in
+        let (i, at) = place_in (stays_in run conn) covered.stay covered.has in
+        let channel = channel_of grant in
+        let below = connection-known inputs used conn parts.0 in
+        let count = connections-groups_of inputs.app in
+        let (number, there) = numbered run channel i covered.stay (omega (arith, below, count)) at in
+        let placed : Placed = record { channel = channel; place = i; stay = covered.stay } in
+        record {
+          placed = placed;
+          number = number;
+          is_placed = get_or_from_slice_get (placed_of run) number placed no_placed there;
+          known = slice_get_within (placed_of run) number placed there;
+          covers = covered.covers;
+          is_grant = ap (grant_at (design_of inputs) channel) (covered.group ∙ group)
+              ∙ grant-own inputs.chip inputs.app inputs.plan accepted.design.plan_is.in_order grant has;
+        }
+
+    -- It goes on as the grant does.
+    grant-goes : (i m l start : ℕ) → slice_get (wires_along inputs.chip.links grant.path) i ≡ Some m
+        → slice_get (wires_along inputs.chip.links grant.path) (suc i) ≡ Some l
+        → Contains grant.slots.slots start
+        → (start + suc i) % inputs.chip.slots ≡ t % inputs.chip.slots
+        → HasPassing (fabric_of inputs) t m l
+    grant-goes i m l start here next starts time =
+        let placed = is_tabled.placed in
+        let same = sym is_tabled.is_grant in
+        let goes : Goes placed i m l = record {
+          since = entered run placed t is_tabled.covers;
+          unfinished = unfinished run placed t within is_tabled.covers;
+          here = subst (λ (g : Grant). slice_get (wires_along links g.path) i ≡ Some m) same here;
+          next = subst (λ (g : Grant). slice_get (wires_along links g.path) (suc i) ≡ Some l) same
+              next;
+          slot = start;
+          uses = subst (λ (g : Grant). list_any (λ own. eqb start own) g.slots.slots ≡ true) same
+              (list_any_at (λ own. eqb start own) grant.slots.slots starts.0 start starts.1
+              (rw starts.2 (eq-eqb start start refl)));
+          time = time;
+        } in
+        passing is_tabled.number i m l is_tabled.known
+        (subst (λ (p : Placed). Goes p i m l) (sym is_tabled.is_placed) goes)
+
+  -- Where a wire is sent on from another, a session that is in the tables goes so.
+  module _ (within : t < inputs.cycles) (m l r : ℕ)
+      (starts : start_of inputs.chip.links l ≡ AtRouter r)
+      (is : from_rows inputs.chip (rows_in_force inputs t) t l ≡ Some m) where
+    row-only : HasPassing (fabric_of inputs) t m l
+    row-only =
+        let router : RouterId = record { 0 = r } in
+        let port = port_of links (record { 0 = l }) in
+        let sends = sent l r starts in
+        let (link, found, last) = option_map-some
+        (λ (link : LinkId). last_wire inputs.chip.links link.0)
+        (link_in (rows_in_force inputs t) router port (t % inputs.chip.slots)) m
+        (sym (from-starts l r starts) ∙ is) in
+        let at = link-row router port (t % inputs.chip.slots) (rows_in_force inputs t) link found in
+        let entry = tables.entered at.row at.has in
+        let grant = entry.grant in
+        let enters = entry.enters in
+        let known = links_known grant entry.granted in
+        let size = (grant_is grant entry.granted).size in
+        let number : enters.link.0 ≡ l = same_Some enters.link.0 l (sym enters.port
+        ∙ (λ k. slice_get (sends_on (Router (record { 0 = at.router_is k })) links) (at.port_is k))
+        ∙ sends.port) in
+        let (i, here, next, index) = at-enters inputs.chip accepted.design.chip_is grant.path known
+        enters.place at.row.from enters.link enters.before enters.behind in
+        let wire : last_wire inputs.chip.links at.row.from.0 ≡ m =
+        ap (λ (x : LinkId). last_wire inputs.chip.links x.0) at.from ∙ last in
+        grant-goes within grant entry.granted entry.in_use i m l enters.start
+        (here ∙ ap (λ (n : ℕ). Some n) wire) (next ∙ ap (λ (n : ℕ). Some n) number) enters.starts
+        (ap (λ (n : ℕ). (enters.start + suc i) % n) (sym size)
+        ∙ ap (λ (n : ℕ). (enters.start + n) % grant.slots.size) (sym index)
+        ∙ enters.slot ∙ at.slot_is)
+
+  -- So the rows in force are the entries of just these sessions.
+  pub rows-route : t < inputs.cycles
+      → AreEntries (fabric_of inputs) t (from_rows inputs.chip (rows_in_force inputs t) t)
+  rows-route within = record {
+    all = λ c i m l r starts on goes. row-there c i m l r starts on goes;
+    only = λ m l r starts is. row-only within m l r starts is;
+  }
