@@ -66,7 +66,7 @@ module _ (run : Run) where
   }
 
   -- A session that is in the tables is so by the finishes of the switches that open and close it.
-  covered : (placed : Placed) (t : ℕ) → entered_by run placed.stay.opening ≤ t
+  pub covered : (placed : Placed) (t : ℕ) → entered_by run placed.stay.opening ≤ t
       → t < (flow_in run placed).server.finish
       → IsStayInTables run.design.groups run.spans placed.stay t
   covered placed t since unfinished =

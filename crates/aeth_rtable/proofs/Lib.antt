@@ -7,4 +7,5 @@ pub mod TableLaws
 mod SendingLaws
 mod InForce
 mod PathEntries
+mod RowRanges
 mod TabledSessions

@@ -38,7 +38,7 @@ use Rattle.aeth_fabric.specs.Fabric.{Placed, entered_by, fabric_of, flow_in, no_
 use Rattle.aeth_fabric.specs.Fabric.{placed_of, stays_in}
 use Rattle.aeth_fabric.specs.Paths.{wires_along}
 use Rattle.aeth_fabric.specs.Wiring.{start_of}
-use Rattle.aeth_fabric.proofs.ApartWires.{past, slot_place}
+use Rattle.aeth_fabric.proofs.ApartWires.{covered, past, slot_place}
 use Rattle.aeth_fabric.proofs.Numbers.{numbered, placed-there}
 use Rattle.aeth_fabric.proofs.PathWires.{wires-place}
 use Rattle.aeth_fabric.proofs.WiredLemmas.{port_at}
@@ -53,27 +53,7 @@ use Rattle.aeth_rtable.proofs.SendingLaws.{link-row, row-link}
 use Rattle.aeth_rtable.proofs.TableLaws.{design_tables}
 
 module _ (run : Run) (placed : Placed) (t : ℕ) where
-  -- A session is in the tables from the finish of the switch that opens it until that of the switch
-  -- that closes it, or that of the run.
-  covered : entered_by run placed.stay.opening ≤ t → t < (flow_in run placed).server.finish
-      → IsStayInTables run.design.groups run.spans placed.stay t
-  covered since unfinished =
-      let openings : (o : Option Switch) → entered_by run o ≤ t
-      → IfSome o (λ switch. finish_by run.design.groups run.spans switch ≤ t) = elim [
-        | None ↦ λ goes. tt
-        | Some switch ↦ λ goes. goes
-      ] in
-      let closings : (o : Option Switch)
-      → t < (unwrap_or (option_map (close_by run.spans) o) (past run placed)).fin
-      → IfSome o (λ switch. t < finish_by run.design.groups run.spans switch) = elim [
-        | None ↦ λ below. tt
-        | Some switch ↦ λ below. below
-      ] in
-      record {
-        opened_by = openings placed.stay.opening since;
-        closed_by = closings placed.stay.closing unfinished;
-      }
-
+  -- A session whose stay is in the tables is in them itself, until the end of the run at least.
   entered : IsStayInTables run.design.groups run.spans placed.stay t
       → entered_by run placed.stay.opening ≤ t
   entered covers =

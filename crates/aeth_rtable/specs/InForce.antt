@@ -12,8 +12,8 @@ use Rattle.aeth_accepted.specs.Inputs.{Inputs, run_of}
 use Rattle.aeth_rtable.specs.Rows.{router_rows}
 use Rattle.aeth_router.specs.declared.router_row.RouterRow.{RouterRow}
 
--- The use case in force in cycle t, from use case u on: it is until what the next row closes is
--- finished, and from that cycle on it is the use case that this row enters, or a later one.
+-- The use case in force in cycle t, where use case u is so at first. It is until what the first row
+-- closes is finished; from that cycle on it is the one that this row enters, or that a later one does.
 abbrev pub use_from : SpanData → ℕ → ℕ → List SwitchRow → ℕ
 use_from spans t u [] = u
 use_from spans t u (row ∷ rows) =

@@ -1,11 +1,14 @@
 // What holds of the tables of routers by an accepted plan, over the definitions alone.
 ghost use Rattle.aeth_accepted.specs.Inputs.{AreAccepted, Inputs};
 ghost use Rattle.aeth_app.specs.App.{AppData};
+ghost use Rattle.aeth_base.specs.declared.ids.RouterId.{RouterId};
 ghost use Rattle.aeth_chip.specs.Chip.{ChipData};
 ghost use Rattle.aeth_fabric.specs.Fabric.{fabric_of};
 ghost use Rattle.aeth_group.specs.Members.{groups_of};
 ghost use Rattle.aeth_plan.specs.Plan.{PlanData};
 ghost use Rattle.aeth_refinement.specs.Tables.{AreEntries};
+ghost use Rattle.aeth_router.specs.Rows.{AreRowsFor};
+ghost use Rattle.aeth_router.specs.TableRouter.{new_table_router};
 ghost use Rattle.aeth_rtable.specs.InForce.{rows_in_force};
 ghost use Rattle.aeth_rtable.specs.RouterTables.{AreTables};
 ghost use Rattle.aeth_rtable.specs.Rows.{router_rows};
@@ -18,6 +21,13 @@ ghost use Rattle.std.specs.Prelude.{◌<◌, ℕ};
 pub fn router_tables()
     ensures { (chip : ChipData) (app : AppData) (plan : PlanData) → IsDesign chip app plan → (u : ℕ)
         → AreTables chip (groups_of app) plan u (router_rows chip (groups_of app) plan u) }
+{}
+
+/// These rows are within the tables of the chip's routers, and the link of each enters its router.
+pub fn rows_fit()
+    ensures { (chip : ChipData) (app : AppData) (plan : PlanData) → IsDesign chip app plan → (u : ℕ)
+        (router : RouterId) → AreRowsFor (router_rows chip (groups_of app) plan u)
+        (new_table_router router chip) }
 {}
 
 /// In each cycle of a run of accepted inputs the rows of the use case in force are the entries of just
