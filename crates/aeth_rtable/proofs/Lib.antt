@@ -8,4 +8,5 @@ mod SendingLaws
 mod InForce
 mod PathEntries
 mod RowRanges
+mod RowsInForce
 mod TabledSessions

@@ -1,12 +1,11 @@
 -- The rows in force in a cycle are the entries of just the sessions that are in the tables.
-use Rattle.std.proofs.Common.{◌≡◌, ◌≤◌, ◌<◌, ◌+◌, ◌%◌, ◌∙◌, ℕ, suc, true, eqb, List, All}
+use Rattle.std.proofs.Common.{◌≡◌, ◌≤◌, ◌<◌, ◌+◌, ◌%◌, ◌∙◌, ℕ, suc, true, eqb, List}
 use Rattle.std.proofs.Common.{Contains, Option, Some, None, length, slice_get, refl, sym, ap, subst}
 use Rattle.std.proofs.Common.{arith}
 use Rattle.std.specs.Prelude.{IfSome, option_map, unwrap_or}
-use Rattle.std.specs.List.{list_any, position_or_len}
-use Rattle.std.proofs.lemmas.Bool.{and_from, and_parts, eq-eqb, eqb-true}
+use Rattle.std.specs.List.{list_any}
+use Rattle.std.proofs.lemmas.Bool.{and_parts, eq-eqb, eqb-true}
 use Rattle.aeth_base.proofs.Lists.{option_map-some}
-use Rattle.std.proofs.lemmas.List.Elements.{All-from_recursion}
 use Rattle.std.proofs.lemmas.List.Folds.{list_any_at}
 use Rattle.std.proofs.lemmas.Option.{get_or_from_slice_get, same_Some, slice_get_within}
 use Rattle.aeth_base.specs.declared.ids.LinkId.{LinkId}
@@ -14,21 +13,17 @@ use Rattle.aeth_base.specs.declared.ids.RouterId.{RouterId}
 use Rattle.aeth_chip.specs.Nodes.{sends_on}
 use Rattle.aeth_chip.specs.declared.node.Link.{Link}
 use Rattle.aeth_chip.specs.declared.node.Node.TheVariants.{Router}
-use Rattle.aeth_chip.proofs.WireLemmas.{HaveDelays, have_delays}
 use Rattle.aeth_group.specs.Members.{group_at, groups_of, has_at, has_unit}
 use Rattle.aeth_group.specs.declared.grant.Grant.{Grant}
 use Rattle.aeth_group.proofs.MemberLemmas.{connections-groups_of}
-use Rattle.aeth_plan.specs.Plan.{IsGrantOf}
 use Rattle.aeth_report.specs.Design.{grant_at}
 use Rattle.aeth_report.specs.Flows.{Run}
 use Rattle.aeth_report.specs.Routes.{port_of}
 use Rattle.aeth_report.specs.Sessions.{Switch, close_by}
-use Rattle.aeth_report.proofs.GrantLemmas.{grant_at-is}
 use Rattle.aeth_report.proofs.SessionMeetings.{IsInTables as IsStayInTables, finish_by}
-use Rattle.aeth_report.proofs.StaysAlone.{at-Contains}
-use Rattle.aeth_tables.proofs.ListLaws.{all_has_by, has_place, place_in}
-use Rattle.aeth_refinement.specs.Fabric.{AtRouter, IsInTables}
-use Rattle.aeth_refinement.specs.Tables.{AreEntries, HasPassing, IsPassing}
+use Rattle.aeth_tables.proofs.ListLaws.{place_in}
+use Rattle.aeth_refinement.specs.Fabric.{AtRouter}
+use Rattle.aeth_refinement.specs.Tables.{AreEntries, HasPassing}
 use Rattle.aeth_router.specs.Router.{last_wire}
 use Rattle.aeth_router.specs.Rows.{link_in}
 use Rattle.aeth_accepted.specs.Inputs.{AreAccepted, Inputs, design_of, run_of}
@@ -38,19 +33,15 @@ use Rattle.aeth_fabric.specs.Fabric.{Placed, entered_by, fabric_of, flow_in, no_
 use Rattle.aeth_fabric.specs.Fabric.{placed_of, stays_in}
 use Rattle.aeth_fabric.specs.Paths.{wires_along}
 use Rattle.aeth_fabric.specs.Wiring.{start_of}
-use Rattle.aeth_fabric.proofs.ApartWires.{covered, past, slot_place}
-use Rattle.aeth_fabric.proofs.Numbers.{numbered, placed-there}
-use Rattle.aeth_fabric.proofs.PathWires.{wires-place}
-use Rattle.aeth_fabric.proofs.WiredLemmas.{port_at}
-use Rattle.aeth_fabric.proofs.WireEnds.{starts_at-node}
+use Rattle.aeth_fabric.proofs.ApartWires.{past}
+use Rattle.aeth_fabric.proofs.Numbers.{numbered}
 use Rattle.aeth_rtable.specs.InForce.{rows_in_force, use_in_force}
-use Rattle.aeth_rtable.specs.RouterTables.{AreTables}
-use Rattle.aeth_rtable.specs.Sending.{from_at, from_rows}
-use Rattle.aeth_router.specs.declared.router_row.RouterRow.{RouterRow}
-use Rattle.aeth_rtable.proofs.InForce.{stay-used, used-covered}
-use Rattle.aeth_rtable.proofs.PathEntries.{at-enters, enters-at}
-use Rattle.aeth_rtable.proofs.SendingLaws.{link-row, row-link}
-use Rattle.aeth_rtable.proofs.TableLaws.{design_tables}
+use Rattle.aeth_rtable.specs.Sending.{from_rows}
+use Rattle.aeth_rtable.proofs.InForce.{used-covered}
+use Rattle.aeth_rtable.proofs.PathEntries.{at-enters}
+use Rattle.aeth_rtable.proofs.SendingLaws.{link-row}
+use Rattle.aeth_rtable.proofs.RowsInForce.{from-starts, grant_is, links_known, row-there, sent}
+use Rattle.aeth_rtable.proofs.RowsInForce.{tables}
 
 module _ (run : Run) (placed : Placed) (t : ℕ) where
   -- A session whose stay is in the tables is in them itself, until the end of the run at least.
@@ -83,111 +74,9 @@ module _ (inputs : Inputs) (accepted : AreAccepted inputs) (t : ℕ) where
   abbrev links : List Link
   links = inputs.chip.links
 
-  -- The use case in force, and that its rows are the tables of all routers.
+  -- The use case in force.
   abbrev used : ℕ
   used = use_in_force (run_of inputs).spans t inputs.switches
-
-  tables : AreTables inputs.chip (groups_of inputs.app) inputs.plan used (rows_in_force inputs t)
-  tables = design_tables inputs.chip inputs.app inputs.plan accepted.design used
-
-  -- A grant of the plan is one for its chip.
-  grant_is : (grant : Grant) → Contains inputs.plan.grants grant
-      → IsGrantOf inputs.chip inputs.app (groups_of inputs.app) grant
-  grant_is grant has = all_has_by (IsGrantOf inputs.chip inputs.app (groups_of inputs.app))
-      inputs.plan.grants grant accepted.design.plan_is.grants has
-
-  links_known : (grant : Grant) → Contains inputs.plan.grants grant
-      → All (λ (link : LinkId). link.0 < length inputs.chip.links) grant.path
-  links_known grant has =
-      All-from_recursion (λ (link : LinkId). link.0 < length inputs.chip.links) grant.path
-      (grant_is grant has).links
-
-  -- From which wire a wire is sent on that starts at a router.
-  from-starts : (l r : ℕ) → start_of inputs.chip.links l ≡ AtRouter r
-      → from_rows inputs.chip (rows_in_force inputs t) t l
-      ≡ option_map (λ (link : LinkId). last_wire inputs.chip.links link.0)
-      (link_in (rows_in_force inputs t) (record { 0 = r })
-      (port_of inputs.chip.links (record { 0 = l })) (t % inputs.chip.slots))
-  from-starts l r starts = ap (from_at inputs.chip (rows_in_force inputs t) t l) starts
-
-  -- Such a wire is the first one of a link, which stands at its port.
-  record IsSent (l r : ℕ) : Type 0 where
-    below : l < length inputs.chip.links
-    port : slice_get (sends_on (Router (record { 0 = r })) inputs.chip.links)
-        (port_of inputs.chip.links (record { 0 = l })) ≡ Some l
-
-  sent : (l r : ℕ) → start_of inputs.chip.links l ≡ AtRouter r → IsSent l r
-  sent l r starts =
-      let router : RouterId = record { 0 = r } in
-      let delays : HaveDelays inputs.chip.links = have_delays inputs.chip accepted.design.chip_is in
-      let found = starts_at-node links delays l (Router router) starts in
-      record {
-        below = slice_get_within links l found.link found.at;
-        port = port_at links l found.link router found.at found.from;
-      }
-
-  -- Where a session that is in the tables goes on to a wire, a grant of the use case enters the row of
-  -- the wire.
-  module _ (c i m l r : ℕ) (starts : start_of inputs.chip.links l ≡ AtRouter r)
-      (on : IsInTables (fabric_of inputs) c t) (goes : IsPassing (fabric_of inputs) t c i m l) where
-    abbrev own : Placed
-    own = placed_at (run_of inputs) c
-
-    abbrev granted : Grant
-    granted = grant_at (design_of inputs) own.channel own.stay.group
-
-    row-there : from_rows inputs.chip (rows_in_force inputs t) t l ≡ Some m
-    row-there =
-        let conn = own.channel.conn.0 in
-        let is = placed-there run c goes.known in
-        let of = stay-used (groups_of inputs.app) run.spans inputs.switches conn t
-        accepted.switches.apart own.stay
-        (at-Contains (stays_in run conn) own.place own.stay is.stay_at)
-        (covered run own t on.since on.unfinished) in
-        let router : RouterId = record { 0 = r } in
-        let port = port_of links (record { 0 = l }) in
-        let sends = sent l r starts in
-        let onto = wires-place links granted.path (suc i) l goes.next in
-        let some = grant_at-is (design_of inputs) own.channel own.stay.group onto.place onto.link onto.at
-        in
-        let known = links_known granted some.has in
-        let size = (grant_is granted some.has).size in
-        let enters = enters-at inputs.chip accepted.design.chip_is granted.path known i m l sends.below
-        goes.here goes.next in
-        let slots = granted.slots.slots in
-        let row : RouterRow = record {
-          router = router;
-          port = port;
-          slot = t % inputs.chip.slots;
-          from = enters.from;
-        } in
-        let in_use = and_from (has_at (groups_of inputs.app) used granted.unit.conn.0)
-        (eqb (group_at (groups_of inputs.app) used) granted.unit.group.0)
-        (ap (has_at (groups_of inputs.app) used) some.conn ∙ of.has)
-        (eq-eqb (group_at (groups_of inputs.app) used) granted.unit.group.0
-        (of.group ∙ sym some.group)) in
-        let has = tables.all row (record {
-          grant = granted;
-          granted = some.has;
-          in_use = in_use;
-          enters = record {
-            place = enters.place;
-            link = record { 0 = l };
-            start = goes.slot;
-            before = enters.before;
-            behind = enters.behind;
-            port = sends.port;
-            starts = has_place slots (position_or_len (λ own. eqb goes.slot own) slots) goes.slot
-                (slot_place slots goes.slot goes.uses);
-            slot = ap (λ (n : ℕ). (goes.slot + n) % granted.slots.size) enters.index
-                ∙ ap (λ (n : ℕ). (goes.slot + suc i) % n) size ∙ goes.time;
-          };
-        }) in
-        from-starts l r starts
-        ∙ ap (option_map (λ (link : LinkId). last_wire inputs.chip.links link.0))
-        (row-link router port (t % inputs.chip.slots) (rows_in_force inputs t) tables.ascends row has
-        refl refl refl)
-        ∙ ap (λ (n : ℕ). Some n) enters.last
 
   -- A session is in the tables, and goes on from a wire to the next.
   record Goes (placed : Placed) (i m l : ℕ) : Type 0 where
@@ -286,17 +175,17 @@ module _ (inputs : Inputs) (accepted : AreAccepted inputs) (t : ℕ) where
     row-only =
         let router : RouterId = record { 0 = r } in
         let port = port_of links (record { 0 = l }) in
-        let sends = sent l r starts in
+        let sends = sent inputs accepted t l r starts in
         let (link, found, last) = option_map-some
         (λ (link : LinkId). last_wire inputs.chip.links link.0)
         (link_in (rows_in_force inputs t) router port (t % inputs.chip.slots)) m
-        (sym (from-starts l r starts) ∙ is) in
+        (sym (from-starts inputs accepted t l r starts) ∙ is) in
         let at = link-row router port (t % inputs.chip.slots) (rows_in_force inputs t) link found in
-        let entry = tables.entered at.row at.has in
+        let entry = (tables inputs accepted t).entered at.row at.has in
         let grant = entry.grant in
         let enters = entry.enters in
-        let known = links_known grant entry.granted in
-        let size = (grant_is grant entry.granted).size in
+        let known = links_known inputs accepted t grant entry.granted in
+        let size = (grant_is inputs accepted t grant entry.granted).size in
         let number : enters.link.0 ≡ l = same_Some enters.link.0 l (sym enters.port
         ∙ (λ k. slice_get (sends_on (Router (record { 0 = at.router_is k })) links) (at.port_is k))
         ∙ sends.port) in
@@ -314,6 +203,6 @@ module _ (inputs : Inputs) (accepted : AreAccepted inputs) (t : ℕ) where
   pub rows-route : t < inputs.cycles
       → AreEntries (fabric_of inputs) t (from_rows inputs.chip (rows_in_force inputs t) t)
   rows-route within = record {
-    all = λ c i m l r starts on goes. row-there c i m l r starts on goes;
+    all = λ c i m l r starts on goes. row-there inputs accepted t c i m l r starts on goes;
     only = λ m l r starts is. row-only within m l r starts is;
   }
