@@ -1,6 +1,6 @@
 -- The lines of a log of links: its header, and that of a row.
 -- This project's own.
-use Rattle.std.specs.Prelude.{ℕ, List, [], ◌∷◌, codes, decimal, map}
+use Rattle.std.specs.Prelude.{◌*◌, ℕ, List, [], ◌∷◌, codes, decimal, map}
 use Rattle.std.specs.List.{join_with_byte}
 use Rattle.aeth_text.specs.Limits.{comma}
 use Rattle.aeth_text.specs.Spelling.{ended_line}
@@ -15,3 +15,10 @@ column_names =
 abbrev pub row_line : LinkRow → List ℕ
 row_line row = ended_line (join_with_byte comma (map decimal
     (row.cycle ∷ row.link.0 ∷ row.flit.header ∷ row.flit.first ∷ row.flit.second ∷ [])))
+
+-- The most bytes of a number of a row and the byte behind it, and of a line.
+abbrev pub field_room : ℕ
+field_room = 11
+
+abbrev pub line_room : ℕ
+line_room = 5 * field_room
