@@ -46,6 +46,7 @@ use Rattle.aeth_schedule.proofs.Places.{on-few}
 use Rattle.aeth_network.proofs.FewGoings.{over-two}
 use Rattle.aeth_network.proofs.FirstGoings.{fresh-goings}
 use Rattle.aeth_network.proofs.Passed.{passed-first}
+use Rattle.aeth_network.proofs.WindowLemmas.{over-none}
 
 -- The channels of connections have no more words than twice so often the most rows.
 with-few : (words : List WordRow) (c : ℕ) → length (values_with words c) ≤ 2 * length words
@@ -149,12 +150,13 @@ module _ (inputs : Inputs) (accepted : AreAccepted inputs)
 
 -- All places are the first.
 pub AreCursors-first : (cursors : Cursors) (all : Stimuli) → cursors.event ≡ 0 → cursors.going ≡ 0
-    → cursors.offer ≡ 0 → cursors.take ≡ 0 → AreCursors cursors 0 all
-AreCursors-first cursors all event going offer take = record {
+    → cursors.offer ≡ 0 → cursors.take ≡ 0 → cursors.window ≡ 0 → AreCursors cursors 0 all
+AreCursors-first cursors all event going offer take window = record {
   event_is = event ∙ sym (passed-first (λ (cycle : ℕ). cycle) all.schedule.cycles);
   going_is = going ∙ sym (passed-first (λ (one : Going). one.lane.go) all.schedule.goings);
   offer_is = offer ∙ sym (passed-first (λ (one : Offer). one.cycle) all.offers);
   take_is = take ∙ sym (passed-first (λ (one : Take). one.cycle) all.takes);
+  window_is = over-none cursors.window 0 all.schedule.windows window;
 }
 
 -- The components can do what is written before the first cycle.

@@ -23,3 +23,4 @@ mod Skipped
 mod Skipping
 mod Stepping
 mod TellingLemmas
+mod WindowLemmas

@@ -1,6 +1,6 @@
 -- Networks behind cycles that were passed over.
 use Rattle.std.proofs.Common.{◌≡◌, ◌≤◌, ◌<◌, ◌+◌, ◌-◌, ◌∙◌, ℕ, List, ap, arith}
-use Rattle.std.proofs.Common.{fold, refl, subst, sym, take}
+use Rattle.std.proofs.Common.{fold, refl, subst, sym}
 use Rattle.std.specs.Prelude.{slice_range, vec_capacity}
 use Rattle.aeth_components.specs.Components.{ComponentsState}
 use Rattle.aeth_stimuli.specs.Stimuli.{Stimuli, Take}

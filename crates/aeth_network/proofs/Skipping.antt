@@ -29,6 +29,7 @@ use Rattle.aeth_network.proofs.Playing.{cycles-of}
 use Rattle.aeth_network.proofs.Playing.{played-time}
 use Rattle.aeth_network.proofs.RestingLanes.{passed-rises}
 use Rattle.aeth_network.proofs.Stepping.{IsNetwork-behind, behind-is, length-in}
+use Rattle.aeth_network.proofs.WindowLemmas.{over-later}
 
 -- What holds of networks holds behind one more cycle, and behind so many.
 pub IsNetwork-stepped : (capacity : ℕ) (old : NetworkState) → IsNetwork capacity old
@@ -185,6 +186,8 @@ module _ (all : NetworkState) (order : AreInOrder all.stimuli) (k : ℕ) (still 
         going_is = at.going_is ∙ sym goings;
         offer_is = at.offer_is ∙ sym offers;
         take_is = is;
+        window_is = over-later cursors.window all.time (all.time + k) all.stimuli.schedule.windows
+            (omega arith) at.window_is;
       }
 
 -- A cycle that leaves a network of accepted inputs does just what it brings.

@@ -2,12 +2,14 @@
 --
 --   stimuli_with      what a network is given
 --   AreInOrder      what is given comes in the order of cycles
---   AreCursors      the places in the events, the sessions, the offered words and the receivers' rows
+--   AreCursors      the places in the events, the sessions, the offered words, the receivers' rows and the
+--       windows of switches
 -- This project's own.
 use Rattle.std.specs.Prelude.{◌≡◌, ℕ, length}
 use Rattle.std.specs.List.Sorted.{IsNonDecreasing, IsNonDecreasingBy}
 use Rattle.aeth_stimuli.specs.Stimuli.{Stimuli}
 use Rattle.aeth_network.specs.Behind.{passed}
+use Rattle.aeth_network.specs.Windows.{AreOver}
 use Rattle.aeth_network.specs.declared.given.Cursors.{Cursors}
 use Rattle.aeth_network.specs.declared.given.Given.{Given}
 
@@ -27,9 +29,10 @@ pub record AreInOrder (all : Stimuli) : Type 0 where
   pub offers : IsNonDecreasingBy (λ one. one.cycle) all.offers
   pub takes : IsNonDecreasingBy (λ one. one.cycle) all.takes
 
--- Each place is the number of rows that lie before a cycle.
+-- Each place is the number of rows that lie before a cycle; before that of the windows all are over.
 pub record AreCursors (cursors : Cursors) (time : ℕ) (all : Stimuli) : Type 0 where
   pub event_is : cursors.event ≡ passed (λ cycle. cycle) time all.schedule.cycles
   pub going_is : cursors.going ≡ passed (λ one. one.lane.go) time all.schedule.goings
   pub offer_is : cursors.offer ≡ passed (λ one. one.cycle) time all.offers
   pub take_is : cursors.take ≡ passed (λ one. one.cycle) time all.takes
+  pub window_is : AreOver cursors.window time all.schedule.windows

@@ -10,3 +10,4 @@ pub mod Next
 pub mod Records
 pub mod Runs
 pub mod Telling
+pub mod Windows

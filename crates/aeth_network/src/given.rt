@@ -5,13 +5,14 @@ ghost use Rattle.aeth_components.specs.First.{IsFirst};
 ghost use Rattle.aeth_events.specs.Events.{events_in};
 ghost use Rattle.aeth_running.specs.Network.{goings_in, offers_in, takes_in};
 ghost use Rattle.aeth_stimuli.specs.Stimuli.{stimuli_of};
-ghost use Rattle.aeth_network.specs.Behind.{passed};
 ghost use Rattle.aeth_network.specs.Cursors.{AreCursors, AreInOrder, stimuli_with};
 ghost use Rattle.aeth_network.specs.Next.{HasOffer, HasWindow};
+ghost use Rattle.aeth_network.specs.Windows.{AreAscending};
 
-use crate::next::{next_offer, next_window};
+use crate::next::next_offer;
 use crate::places::behind;
 use crate::rows::{Offered, Taking, offers_of, takes_of};
+use crate::windows::{next_window, place_behind};
 use aeth_accepted::RunInputs;
 use aeth_base::NoMemory;
 use aeth_components::Event;
@@ -26,13 +27,15 @@ pub(crate) struct Given {
     pub takes: Vec<Taking>,
 }
 
-// How far a network is in its events, its sessions, its words, and the rows of receivers.
+// How far a network is in its events, its sessions, its words, the rows of receivers, and the windows of
+// its switches.
 #[derive(Clone, Copy)]
 pub(crate) struct Cursors {
     pub event: usize,
     pub going: usize,
     pub offer: usize,
     pub take: usize,
+    pub window: usize,
 }
 
 // What a cycle brings, and the places behind it.
@@ -60,16 +63,17 @@ impl Given {
     }
 
     // The first cycle from one on, and below a limit, in which a word is offered or a switch does
-    // something. The words from this place on are those that are not before it.
-    pub(crate) fn next(&self, offer: usize, time: u32, to: u32) -> u32
+    // something. These are the places that were come to.
+    pub(crate) fn next(&self, from: Cursors, time: u32, to: u32) -> u32
         requires order { AreInOrder (stimuli_with self.now) }
-        requires offer { offer ≡ passed (λ one. one.cycle) time (stimuli_with self.now).offers }
+        requires windows { AreAscending (stimuli_with self.now).schedule.windows }
+        requires from { AreCursors from time (stimuli_with self.now) }
         requires to { time ≤ to }
         ensures { IsFirst (λ t. HasOffer (stimuli_with self.now).offers t
             ⊎ HasWindow (stimuli_with self.now).schedule.windows t) time to result }
     {
-        let next = next_offer(&self.offers, offer, time, to);
-        next_window(self.schedule.windows(), time, next)
+        let next = next_offer(&self.offers, from.offer, time, to);
+        next_window(self.schedule.windows(), from.window, time, next)
     }
 
     // What a cycle brings, from these places on.
@@ -87,6 +91,7 @@ impl Given {
         let going = behind(self.schedule.goings(), from.going, time);
         let offer = behind(&self.offers, from.offer, time);
         let take = behind(&self.takes, from.take, time);
+        let window = place_behind(self.schedule.windows(), from.window, time);
         CycleRows {
             events: self.schedule.events(from.event, event),
             goings: &self.schedule.goings()[from.going..going],
@@ -97,6 +102,7 @@ impl Given {
                 going,
                 offer,
                 take,
+                window,
             },
         }
     }

@@ -10,5 +10,6 @@ mod places;
 mod rows;
 mod state;
 mod telling;
+mod windows;
 
 pub use network::{RoutedNetwork, simulate, simulate_counted};

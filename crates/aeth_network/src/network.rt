@@ -17,7 +17,7 @@ ghost use Rattle.aeth_network.specs.Runs.{AreWiresOf, IsNetworkOf};
 use crate::given::{Cursors, Given};
 use crate::giving::take;
 use crate::logging::first_log;
-use crate::next::{next_taking, place_before};
+use crate::next::{next_own, next_taking, place_before};
 use crate::state::{State, run};
 use crate::telling::tell;
 use aeth_accepted::RunInputs;
@@ -162,10 +162,10 @@ impl RoutedNetwork {
         aeth_running::laws::quiet_cycles_are_still();
         let time = self.time();
         if self.state.components.are_wires_empty() {
-            let next = self.given.next(self.cursors.offer, time, self.cycles());
-            let lanes = self.state.components.lanes();
-            let next = next_taking(lanes, &self.given.takes, self.cursors.take, time, next);
-            self.state.components.next_sending(time, next)
+            let next = self.given.next(self.cursors, time, self.cycles());
+            let components = &self.state.components;
+            let next = next_taking(components, &self.given.takes, self.cursors.take, time, next);
+            next_own(components, time, next)
         } else {
             time
         }
@@ -355,6 +355,7 @@ fn with_state(
             going: 0,
             offer: 0,
             take: 0,
+            window: 0,
         },
         state,
         log,

@@ -2,14 +2,13 @@
 
 ghost use Rattle.std.specs.Prelude.{◌≡◌, ◌<◌, ◌≤◌, ◌+◌, ◌^◌, ◌↔◌, IsTrue, min, length};
 ghost use Rattle.std.specs.List.Sorted.{IsNonDecreasingBy};
-ghost use Rattle.aeth_components.specs.First.{IsFirst};
-ghost use Rattle.aeth_schedule.specs.Windows.{IsWithin};
+ghost use Rattle.aeth_components.specs.Channels.{AreStill};
+ghost use Rattle.aeth_components.specs.First.{HasSender, IsFirst};
 ghost use Rattle.aeth_network.specs.Behind.{passed};
-ghost use Rattle.aeth_network.specs.Next.{AsksIn, HasAsker, HasOffer, HasWindow};
+ghost use Rattle.aeth_network.specs.Next.{AsksIn, HasAsker, HasOffer};
 
 use crate::rows::{Offered, Taking};
-use aeth_components::Lane;
-use aeth_schedule::Window;
+use aeth_components::{Components, Lane};
 
 // The cycle of the first word that is offered from a place on, which lies behind the words before a
 // cycle, where that is below a limit; else the limit.
@@ -28,61 +27,57 @@ pub(crate) fn next_offer(offers: &[Offered], place: usize, time: u32, to: u32) -
     to
 }
 
-// The first cycle from one on, and below a limit, in which a switch does something.
-pub(crate) fn next_window(windows: &[Window], time: u32, to: u32) -> u32
-    requires { time ≤ to }
-    ensures { IsFirst (HasWindow windows.now) time to result }
+// The first cycle from one on, and below a limit, in which a receiver takes a word, where nothing else
+// happens up to then. The rows from a place on are those that are not before the cycle. Where nothing is
+// left below the limit no channel is looked at.
+pub(crate) fn next_taking(
+    components: &Components,
+    takes: &[Taking],
+    place: usize,
+    time: u32,
+    to: u32,
+) -> u32
+    requires order { IsNonDecreasingBy (λ one. one.cycle) takes.now }
+    requires place { place ≡ passed (λ one. one.cycle) time takes.now }
+    requires few { length components.now.lanes < 2 ^ 32 }
+    requires to { time ≤ to }
+    ensures { IsFirst (HasAsker components.now.lanes takes.now place) time to result }
 {
+    let lanes = components.lanes();
     let mut next = to;
-    for number in 0..windows.len() {
-        let window = &windows[number];
-        next = next_within(window, time, next);
+    let mut number = 0;
+    'channels: while number < lanes.len() && time < next {
+        next = next_asking(&lanes[number], number as u32, takes, place, time, next);
+        number = next_waiting(lanes, number + 1);
     }
     next
 }
 
-// The first of a window.
-fn next_within(window: &Window, time: u32, to: u32) -> u32
-    requires { time ≤ to }
-    ensures { IsFirst (IsWithin window.now) time to result }
+// The first channel from a number on of which words wait for their receiver.
+fn next_waiting(lanes: &[Lane], from: usize) -> usize
+    requires { from ≤ length lanes.now }
+    ensures from { from ≤ result }
+    ensures end { result ≤ length lanes.now }
+    ensures still { AreStill (λ lane. lane.landed ≤ lane.taken) lanes.now from result }
 {
-    let next = sooner(window.until, time, to);
-    let next = sooner(window.stop, time, next);
-    let writes = window.fin.max(u64::from(time));
-    if writes <= window.go {
-        sooner(writes, time, next)
-    } else {
-        next
+    let mut number = from;
+    'lanes: while number < lanes.len() && lanes[number].landed <= lanes[number].taken {
+        number += 1;
     }
+    number
 }
 
-// A cycle, where it is not before another one and below a limit; else the limit.
-fn sooner(cycle: u64, time: u32, to: u32) -> u32
+// The first cycle from one on, and below a limit, in which a component sends words of its own as it
+// stands. Where nothing is left below the limit no component is looked at.
+pub(crate) fn next_own(components: &Components, time: u32, to: u32) -> u32
     requires { time ≤ to }
-    ensures { IsFirst (λ t. cycle ≡ t) time to result }
+    ensures { IsFirst (HasSender components.now.parts) time to result }
 {
-    if u64::from(time) <= cycle && cycle < u64::from(to) {
-        cycle as u32
+    if time < to {
+        components.next_sending(time, to)
     } else {
         to
     }
-}
-
-// The first cycle from one on, and below a limit, in which a receiver takes a word, where nothing else
-// happens up to then. The rows from a place on are those that are not before the cycle.
-pub(crate) fn next_taking(lanes: &[Lane], takes: &[Taking], place: usize, time: u32, to: u32) -> u32
-    requires order { IsNonDecreasingBy (λ one. one.cycle) takes.now }
-    requires place { place ≡ passed (λ one. one.cycle) time takes.now }
-    requires few { length lanes.now < 2 ^ 32 }
-    requires to { time ≤ to }
-    ensures { IsFirst (HasAsker lanes.now takes.now place) time to result }
-{
-    let mut next = to;
-    for number in 0..lanes.len() {
-        let lane = &lanes[number];
-        next = next_asking(lane, number as u32, takes, place, time, next);
-    }
-    next
 }
 
 // The first of the channel of a number.

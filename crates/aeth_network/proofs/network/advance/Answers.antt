@@ -1,4 +1,4 @@
-use Rattle.std.proofs.Common.{◌≡◌, ◌<◌, ◌+◌, ◌∙◌, ap, arith, sym}
+use Rattle.std.proofs.Common.{◌∙◌, ap, arith, sym}
 use Rattle.aeth_running.specs.Network.{NetworkState}
 use Rattle.aeth_running.proofs.Played.{stepped-time}
 use Rattle.aeth_network.proofs.CarriedLemmas.{counts-on}

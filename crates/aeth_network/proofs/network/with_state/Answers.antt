@@ -45,7 +45,7 @@ invariant_of-result c =
     let capacity = vec_capacity c.args.state.replaced in (
       subst (IsNetwork capacity) (sym (same c)) (IsNetwork-first inputs accepted
           (c.stimuli_are_stimuli.ensures inputs accepted) capacity c.requires.state.capacity),
-      AreCursors-first _ _ refl refl refl refl,
+      AreCursors-first _ _ refl refl refl refl refl,
       record { inputs = inputs; of = first-of inputs accepted _ (same c) },
     )
 

@@ -1,8 +1,9 @@
-use Rattle.std.proofs.Common.{◌≡◌, ◌<◌, ◌∙◌, ℕ, List, ap, arith, get_or, inl, inr}
+use Rattle.std.proofs.Common.{◌≡◌, ◌≤◌, ◌<◌, ◌∙◌, ℕ, List, Some, ap, arith, get_or, inl, inr}
 use Rattle.std.proofs.Common.{length, slice_get}
 use Rattle.std.proofs.Common.{subst, sym}
 use Rattle.std.proofs.lemmas.Bool.{cases_lt}
 use Rattle.std.proofs.lemmas.Option.{get_or_from_slice_get, slice_get-get_or, slice_get_within}
+use Rattle.aeth_components.specs.First.{IsFirst}
 use Rattle.aeth_components.specs.declared.lane.Lane.{Lane}
 use Rattle.aeth_stimuli.specs.Stimuli.{Take}
 use Rattle.aeth_network.specs.Next.{AsksIn, HasAsker}
@@ -19,55 +20,89 @@ asker-at lanes takes place number t d within asks = record {
   asks = asks;
 }
 
+-- The first cycle is that of all channels, where none is left or no cycle is.
+all-asked : (lanes : List Lane) (takes : List Take) (place time to next number : ℕ) → time ≤ next
+    → next ≤ to
+    → ((i other : ℕ) (lane : Lane) → i < number → slice_get lanes i ≡ Some lane → time ≤ other
+    → other < next → AsksIn lane i takes place other → ⊥)
+    → (next < to → HasAsker lanes takes place next) → (time < next → length lanes ≤ number)
+    → IsFirst (HasAsker lanes takes place) time to next
+all-asked lanes takes place time to next number least most before holds end = record {
+  least = least;
+  most = most;
+  before = λ other since less has.
+      let inside = slice_get_within lanes has.number has.lane has.at in
+      let past = end (omega arith) in
+      before has.number other has.lane (omega arith) has.at since less has.asks;
+  holds = holds;
+}
+
 -- The cycle so far is not before the first one.
 pub next_asking-next-requires-clause-to : goal.next_asking-next-requires-clause-to
-next_asking-next-requires-clause-to c = c.loop-number.invariant.least
+next_asking-next-requires-clause-to c = c.channels.invariant.least
 
--- One channel more, up to the first cycle of those before it.
-pub loop-number-preserved : goal.loop-number-preserved
-loop-number-preserved c =
-    let lanes = c.args.lanes.now in
+-- Those up to the next of which words wait, up to the first cycle of those before them.
+pub channels-preserved : goal.channels-preserved
+channels-preserved c =
+    let lanes = c.lanes-lanes.result.now in
     let takes = c.args.takes.now in
     let place = c.args.place in
-    let number = c.loop-number.number in
-    let first = c.loop-number.invariant in
+    let number = c.channels.number in
+    let first = c.channels.invariant in
     let own = c.next_asking-next.ensures in
-    let test = c.loop-number-test.true in
+    let test = c.channels-test.true in
     let next = c.next_asking-next.result in
     let least = own.least in
     let most = own.most in
     let before_most = first.most in
+    let behind = c.next_waiting-number.ensures in
     record {
       least = least;
       most = omega arith;
+      end = behind.end;
       before = λ i other one within at_one since less asks. elim (cases_lt i number) [
         | inl earlier ↦ first.before i other one earlier at_one since (omega arith) asks
-        | inr last ↦
-            let same : i ≡ number = omega arith in
-            let there = ap (slice_get lanes) (sym same) ∙ at_one in
-            own.before other since less (subst (λ (l : Lane). AsksIn l number takes place other)
-            (sym (get_or_from_slice_get lanes number one _ there))
-            (subst (λ n. AsksIn one n takes place other) same asks))
+        | inr later ↦ elim (cases_lt number i) [
+          | inl idle ↦
+              let none = behind.still i one (omega arith) within at_one in
+              let waits = asks.waits in
+              absurd (omega arith)
+          | inr last ↦
+              let same : i ≡ number = omega arith in
+              let there = ap (slice_get lanes) (sym same) ∙ at_one in
+              own.before other since less (subst (λ (l : Lane). AsksIn l number takes place other)
+              (sym (get_or_from_slice_get lanes number one _ there))
+              (subst (λ n. AsksIn one n takes place other) same asks))
+        ]
       ];
-      holds = λ less. elim (cases_lt next c.loop-number.next) [
+      holds = λ less. elim (cases_lt next c.channels.next) [
         | inl sooner ↦ asker-at lanes takes place number next _ test (own.holds sooner)
         | inr same ↦
-            let is : c.loop-number.next ≡ next = omega arith in
+            let is : c.channels.next ≡ next = omega arith in
             subst (HasAsker lanes takes place) is (first.holds (omega arith))
       ];
     }
 
--- All of them.
-pub returns : goal.returns
-returns c =
-    let lanes = c.args.lanes.now in
-    let first = c.loop-number.invariant in
-    let end = c.loop-number-test.false in
-    record {
-      least = first.least;
-      most = first.most;
-      before = λ other since less has.
-          let inside = slice_get_within lanes has.number has.lane has.at in
-          first.before has.number other has.lane (omega arith) has.at since less has.asks;
-      holds = first.holds;
-    }
+-- No cycle is left.
+pub returns-else-time-next : goal.returns-else-time-next
+returns-else-time-next c =
+    let first = c.channels.invariant in
+    let none = c.if-time-next.false in
+    subst (λ (lanes : List Lane).
+    IsFirst (HasAsker lanes c.args.takes.now c.args.place) c.args.time c.args.to c.channels.next)
+    c.lanes-lanes.ensures
+    (all-asked c.lanes-lanes.result.now c.args.takes.now c.args.place c.args.time c.args.to
+    c.channels.next c.channels.number first.least first.most first.before first.holds
+    (λ some. absurd (omega arith)))
+
+-- No channel is.
+pub returns-after-channels : goal.returns-after-channels
+returns-after-channels c =
+    let first = c.channels.invariant in
+    let none = c.channels-test.false in
+    subst (λ (lanes : List Lane).
+    IsFirst (HasAsker lanes c.args.takes.now c.args.place) c.args.time c.args.to c.channels.next)
+    c.lanes-lanes.ensures
+    (all-asked c.lanes-lanes.result.now c.args.takes.now c.args.place c.args.time c.args.to
+    c.channels.next c.channels.number first.least first.most first.before first.holds
+    (λ some. none))

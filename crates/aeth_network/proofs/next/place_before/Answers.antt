@@ -1,4 +1,4 @@
-use Rattle.std.proofs.Common.{◌≡◌, ◌≤◌, ◌<◌, ◌+◌, ◌-◌, ◌∙◌, arith, inl, inr, length, sym}
+use Rattle.std.proofs.Common.{◌<◌, ◌+◌, ◌-◌, ◌∙◌, arith, inl, inr, length, sym}
 use Rattle.std.proofs.lemmas.Bool.{cases_lt}
 use Rattle.aeth_network.specs.Behind.{passed}
 use Rattle.aeth_network.proofs.Passed.{passed-few}

@@ -1,10 +1,16 @@
-use Rattle.std.proofs.Common.{◌∙◌, ◌+◌, ℕ, ap}
+use Rattle.std.proofs.Common.{◌∙◌, ◌+◌, ℕ, ap, subst, sym}
 use Rattle.std.specs.Prelude.{slice_range}
 use Rattle.aeth_schedule.specs.declared.going.Going.{Going}
 use Rattle.aeth_stimuli.specs.Stimuli.{Offer, Take}
 use Rattle.aeth_network.specs.Behind.{passed}
+use Rattle.aeth_network.specs.Windows.{AreOver}
 use Rattle.aeth_network.proofs.Cycling.{events-range, rows-behind}
 use Rattle.aeth_network.proofs.given.Given.rows.Goals as goal
+
+-- The windows before the place are over.
+pub place_behind-window-requires : goal.place_behind-window-requires
+place_behind-window-requires c =
+    subst (AreOver c.args.from.window c.args.time) (sym c.windows.ensures) c.requires.from.window_is
 
 -- The events are those of the cycle.
 pub returns-clause-events : goal.returns-clause-events
@@ -50,4 +56,6 @@ returns-clause-behind c =
           ∙ ap (passed (λ (one : Offer). one.cycle) next) c.deref.ensures.value;
       take_is = c.behind-take.ensures.place
           ∙ ap (passed (λ (one : Take). one.cycle) next) c.deref-2.ensures.value;
+      window_is = subst (AreOver c.place_behind-window.result next) c.windows.ensures
+          c.place_behind-window.ensures;
     }

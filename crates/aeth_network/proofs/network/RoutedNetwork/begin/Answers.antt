@@ -1,4 +1,4 @@
-use Rattle.std.proofs.Common.{◌≡◌, ◌<◌, ◌∙◌, ap, arith, length, subst, sym}
+use Rattle.std.proofs.Common.{◌<◌, ◌∙◌, ap, arith, length, subst, sym}
 use Rattle.aeth_components.specs.Components.{ComponentsState}
 use Rattle.aeth_running.specs.Network.{NetworkState, stepped}
 use Rattle.aeth_running.specs.Still.{IsStill}

@@ -1,14 +1,14 @@
 use Rattle.std.proofs.Common.{◌≡◌, ◌⊎◌, ◌∙◌, ℕ, List, ap, arith, subst, sym}
 use Rattle.aeth_components.specs.First.{HasSender, IsFirst}
-use Rattle.aeth_components.specs.declared.lane.Lane.{Lane}
 use Rattle.aeth_stimuli.specs.Stimuli.{Take}
 use Rattle.aeth_running.specs.Network.{NetworkState}
 use Rattle.aeth_running.specs.Quiet.{IsNextBusy}
-use Rattle.aeth_network.specs.Cursors.{stimuli_with}
+use Rattle.aeth_network.specs.Cursors.{AreCursors, stimuli_with}
 use Rattle.aeth_network.specs.Networks.{network_of}
 use Rattle.aeth_network.specs.Next.{HasAsker, HasOffer, HasWindow}
 use Rattle.aeth_network.proofs.NextBusy.{next-busy-is, now-busy}
 use Rattle.aeth_network.proofs.Playing.{cycles-of}
+use Rattle.aeth_network.proofs.WindowLemmas.{given-ascend}
 use Rattle.aeth_network.proofs.network.RoutedNetwork.next_busy.Goals as goal
 
 -- No more cycles are done than there are.
@@ -24,6 +24,21 @@ next-next-requires-clause-to c =
     let time_is = ap (λ (one : NetworkState). one.time) c.self.view_is in
     let end_is = ap (λ (one : NetworkState). one.log.cycles) c.self.view_is in
     omega arith
+
+-- The windows come in order, and the places are those of the cycle.
+pub next-next-requires-clause-windows : goal.next-next-requires-clause-windows
+next-next-requires-clause-windows c =
+    let has = c.self.invariant.2 in
+    let inside = c.self.inside in
+    given-ascend has.inputs
+    (network_of (stimuli_with inside.given) inside.state inside.log inside.time) has.of
+
+pub next-next-requires-clause-from : goal.next-next-requires-clause-from
+next-next-requires-clause-from c =
+    let inside = c.self.inside in
+    let time : inside.time ≡ c.time-time.result =
+    ap (λ (one : NetworkState). one.time) c.self.view_is ∙ sym c.time-time.ensures in
+    subst (λ n. AreCursors inside.cursors n (stimuli_with inside.given)) time c.self.invariant.1
 
 -- A wire has a flit.
 pub returns-else-are_wires_empty : goal.returns-else-are_wires_empty
@@ -53,7 +68,7 @@ returns-then-are_wires_empty c =
     let P = λ (t : ℕ). HasOffer stimuli.offers t ⊎ HasWindow stimuli.schedule.windows t in
     let b = c.next-next.result in
     let d = c.next_taking-next.result in
-    let e = c.next_sending.result in
+    let e = c.next_own.result in
     let row : IsFirst P all.time all.log.cycles b =
     subst (λ n. IsFirst P all.time n b) cycles
     (subst (λ n. IsFirst P n c.cycles.result b) time c.next-next.ensures) in
@@ -62,11 +77,9 @@ returns-then-are_wires_empty c =
     let ask = subst (λ n. IsFirst (λ t. HasAsker lanes takes n t) all.time b d) place
     (subst (λ n. IsFirst (HasAsker lanes takes inside.cursors.take) n b d) time
     (subst (λ (rows : List Take). IsFirst (HasAsker lanes rows inside.cursors.take) c.time-time.result b d)
-    c.deref.ensures.value
-    (subst (λ (list : List Lane). IsFirst (HasAsker list c.deref.result.now inside.cursors.take)
-    c.time-time.result b d) c.lanes-lanes.ensures c.next_taking-next.ensures))) in
+    c.deref.ensures.value c.next_taking-next.ensures)) in
     let send = subst (λ n. IsFirst (HasSender inside.state.components.parts) n d e) time
-    c.next_sending.ensures in
+    c.next_own.ensures in
     let empty = c.are_wires_empty.ensures.0 c.if-are_wires_empty.true in
     subst (λ (net : NetworkState). IsNextBusy net e) c.self.view_is
     (next-busy-is has.inputs

@@ -1,4 +1,4 @@
-use Rattle.std.proofs.Common.{◌≡◌, ◌≤◌, ◌<◌, ◌-◌, ◌∙◌, ap, arith, length}
+use Rattle.std.proofs.Common.{◌∙◌, ap, arith, length}
 use Rattle.aeth_running.specs.Network.{NetworkState}
 use Rattle.aeth_network.proofs.Skipped.{IsBegun, begun-first, begun-later, skipped-of}
 use Rattle.aeth_network.proofs.Skipped.{still-nothing}
