@@ -220,9 +220,9 @@ impl Components {
         self.step_from::<Brand>(order, cycle, events, Blank::new(1));
     }
 
-    /// The same, in which only components take a turn that have something to do: a flit is on a wire
-    /// where they send, a flit comes to them or came in the last cycle, or they send words of their
-    /// own. It counts a step for each component that drives, and one for each that latches.
+    /// The same, in which only components take a turn that have something to do: a flit comes to them or
+    /// came in the last cycle, or they send words of their own. It counts a step for each component that
+    /// drives, and one for each that latches.
     pub fn step_counted<L: Ledger>(
         &mut self,
         order: &Order,
