@@ -92,7 +92,7 @@ noted-still cycle parts landings lane still =
     ]
 
 -- So it is where all that was handed on has landed.
-brings-none : (parts : List Part) (lane : Lane) → lane.handed ≤ lane.landed
+pub brings-none : (parts : List Part) (lane : Lane) → lane.handed ≤ lane.landed
     → brings parts lane ≡ 0
 brings-none parts lane none = omega arith
 

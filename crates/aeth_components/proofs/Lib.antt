@@ -7,6 +7,7 @@ pub mod EnteringLemmas
 pub mod FrameLemmas
 mod FirstLemmas
 mod HalvesLemmas
+mod HomeLemmas
 pub mod HoldingLemmas
 pub mod KeptLemmas
 pub mod KindLemmas

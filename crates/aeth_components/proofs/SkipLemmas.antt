@@ -9,13 +9,12 @@ use Rattle.std.proofs.lemmas.Option.{get_or_from_slice_get, slice_get-get_or}
 use Rattle.aeth_base.proofs.Ranges.{range_with_len-more}
 use Rattle.aeth_router.specs.declared.part.Part.{Part}
 use Rattle.aeth_components.specs.declared.lane.Lane.{Lane}
-use Rattle.aeth_components.proofs.CountingLemmas.{IsLane-ahead, counted-none, map-more, noted-more}
-use Rattle.aeth_components.proofs.CountingLemmas.{noted-none}
+use Rattle.aeth_components.proofs.CountingLemmas.{IsLane-ahead, counted-still, map-more, noted-more}
+use Rattle.aeth_components.proofs.CountingLemmas.{noted-still}
 use Rattle.aeth_components.proofs.LaneLemmas.{length-with_lane, set-with_lane}
 use Rattle.aeth_components.proofs.TurnLemmas.{All-turns}
-use Rattle.aeth_components.specs.Busy.{IsIdle}
 use Rattle.aeth_components.specs.Channels.{AreStill, OfLane}
-use Rattle.aeth_components.specs.Counting.{counted, noted}
+use Rattle.aeth_components.specs.Counting.{brings, counted, noted}
 use Rattle.aeth_components.specs.Lanes.{IsLane, with_lane}
 use Rattle.aeth_components.specs.Phases.{Moment, in_turn, turned, turned_at, turned_by}
 
@@ -183,10 +182,10 @@ module _ (cycle : ℕ) (parts : List Part) (before : List Lane) (first : List �
         size = ap length did ∙ length-with_lane number (counted cycle parts) lanes ∙ are.size;
       }
 
-  -- Idle ones are counted as they are.
+  -- Those to which no words come are counted as they are.
   AreCounted-skipped : (lanes : List Lane) (landings : List ℕ) (number gap : ℕ)
       → AreCounted lanes landings number → number + gap ≤ length lanes
-      → AreStill IsIdle lanes number (number + gap) → AreCounted lanes landings (number + gap)
+      → AreStill (λ lane. brings parts lane ≡ 0) lanes number (number + gap) → AreCounted lanes landings (number + gap)
   AreCounted-skipped lanes landings number zero are within none =
       let same : number ≡ number + 0 = omega arith in subst (AreCounted lanes landings) same are
   AreCounted-skipped lanes landings number (suc gap) are within none =
@@ -195,22 +194,22 @@ module _ (cycle : ℕ) (parts : List Part) (before : List Lane) (first : List �
       let less = AreCounted-skipped lanes landings number gap are (omega arith)
       (λ other lane from below. none other lane from (omega arith)) in
       let there = lane_at lanes place (omega arith) in
-      let idle = none place there.0 (omega arith) (omega arith) there.1 in
+      let still = none place there.0 (omega arith) (omega arith) there.1 in
       let here : get_or lanes place there.0 ≡ there.0 =
       get_or_from_slice_get lanes place there.0 there.0 there.1 in
       let same : lanes ≡ with_lane place (counted cycle parts) lanes =
       sym (set-there lanes place there.0 there.1)
-      ∙ ap (set lanes place) (sym (counted-none cycle parts there.0 idle.landed)
+      ∙ ap (set lanes place) (sym (counted-still cycle parts there.0 still)
       ∙ ap (counted cycle parts) (sym here))
       ∙ set-with_lane lanes place (counted cycle parts) there.0 (omega arith) in
       subst (AreCounted lanes landings) next
       (AreCounted-more lanes lanes landings landings place less (omega arith) same
-      (λ lane at. sym (noted-none cycle parts landings lane
-      (none place lane (omega arith) (omega arith) at).landed)))
+      (λ lane at. sym (noted-still cycle parts landings lane
+      (none place lane (omega arith) (omega arith) at))))
 
   pub AreCounted-until : (lanes : List Lane) (landings : List ℕ) (number next : ℕ) → number ≤ next
       → AreCounted lanes landings number → next ≤ length lanes
-      → AreStill IsIdle lanes number next → AreCounted lanes landings next
+      → AreStill (λ lane. brings parts lane ≡ 0) lanes number next → AreCounted lanes landings next
   AreCounted-until lanes landings number next order are within none =
       let there : number + (next - number) ≡ next = omega arith in
       subst (AreCounted lanes landings) there

@@ -7,6 +7,8 @@
 -- This project's own.
 use Rattle.std.specs.Prelude.{◌≡◌, ◌≤◌, ◌<◌, ℕ, List, Some, length, slice_get}
 use Rattle.aeth_base.specs.Marks.{bit_of, room_of}
+use Rattle.aeth_components.specs.Homes.{AreHomes}
+use Rattle.aeth_components.specs.declared.homes.Homes.{Homes}
 use Rattle.aeth_components.specs.declared.lane.Lane.{Lane}
 
 -- All words that are accepted were handed on, have landed, and were taken.
@@ -26,7 +28,10 @@ pub record AreMarked (IsStill : Lane → Type 0) (masks : List ℕ) (lanes : Lis
   pub idle : (number : ℕ) (lane : Lane) → slice_get lanes number ≡ Some lane
       → bit_of masks number ≡ 0 → IsStill lane
 
--- What two masks mark: the channels that may not be idle, and those that may not be quiet.
-pub record AreNoted (busy active : List ℕ) (lanes : List Lane) : Type 0 where
+-- What two masks mark: the channels that may not be idle, and those that may not be quiet. Each
+-- channel is noted at its place, and there is a mark for it.
+pub record AreNoted (busy active told : List ℕ) (homes : Homes) (lanes : List Lane) : Type 0 where
   pub idle : AreMarked IsIdle busy lanes
   pub quiet : AreMarked IsQuiet active lanes
+  pub places : AreHomes homes lanes
+  pub room : length lanes < room_of told

@@ -9,6 +9,7 @@ pub mod Entering
 pub mod Events
 pub mod First
 pub mod Frames
+pub mod Homes
 pub mod Lanes
 pub mod Laws
 pub mod Making

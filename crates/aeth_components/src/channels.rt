@@ -6,10 +6,12 @@ ghost use Rattle.aeth_components.specs.Busy.{IsIdle, IsQuiet};
 ghost use Rattle.aeth_components.specs.Channels.{AreStill, OfLane};
 ghost use Rattle.aeth_components.specs.Counting.{counted, noted};
 ghost use Rattle.aeth_components.specs.Frames.{frame_of};
+ghost use Rattle.aeth_components.specs.Homes.{AreOthersSilent};
 ghost use Rattle.aeth_components.specs.Lanes.{IsLane, with_lane};
 ghost use Rattle.aeth_components.specs.Phases.{in_turn, pulled, refilled, turned};
 
-use crate::counting::count_one;
+use crate::counting::{count_one, count_told};
+use crate::homes::{Homes, tell};
 use crate::lane::Lane;
 use crate::phases::{hush, refill_one, settle, take_one};
 use aeth_base::{Marks, NoMemory};
@@ -26,6 +28,9 @@ pub(crate) struct Channels {
     // Marks of the channels that may not be idle, and of those that may not be quiet.
     busy: Marks,
     active: Marks,
+    // At which queues the words of channels land, and marks of those that may get words in a cycle.
+    homes: Homes,
+    told: Marks,
 }
 
 impl Model for Channels {
@@ -36,7 +41,7 @@ impl Model for Channels {
 
     ghost view = { λ all. record { lanes = all.lanes.items; words = all.words.items } };
 
-    ghost invariant = { λ all. AreNoted all.busy all.active all.lanes.items };
+    ghost invariant = { λ all. AreNoted all.busy all.active all.told all.homes all.lanes.items };
 }
 
 impl Channels {
@@ -50,11 +55,15 @@ impl Channels {
     {
         let busy = Marks::all(alloc, lanes.len())?;
         let active = Marks::all(alloc, lanes.len())?;
+        let told = Marks::none(alloc, lanes.len())?;
+        let homes = Homes::new(alloc, &lanes)?;
         Ok(Channels {
             lanes,
             words,
             busy,
             active,
+            homes,
+            told,
         })
     }
 
@@ -73,6 +82,7 @@ impl Channels {
         self.lanes[number] = lane;
         self.busy.mark(number);
         self.active.mark(number);
+        self.homes.note(number, &lane);
     }
 
     /// Each channel in its turn hands its accepted words to its source queue.
@@ -108,8 +118,41 @@ impl Channels {
         }
     }
 
-    /// Counts what has landed of each channel, and notes the cycle.
-    pub(crate) fn count(&mut self, parts: &[Part], landings: &mut [u32], cycle: u32)
+    /// Counts what has landed of each channel, and notes the cycle. Behind so many interfaces no
+    /// component gets words.
+    pub(crate) fn count(
+        &mut self,
+        parts: &[Part],
+        interfaces: u32,
+        landings: &mut [u32],
+        cycle: u32,
+    )
+        requires cycle { cycle + 1 < 2 ^ 32 }
+        requires lanes { All (IsLane (length landings.old) (length parts.now)) self.old.lanes }
+        requires within { interfaces ≤ length parts.now }
+        requires silent { AreOthersSilent interfaces parts.now }
+        ensures lanes { self.new.lanes ≡ map (counted cycle parts.now) self.old.lanes }
+        ensures words { self.new.words ≡ self.old.words }
+        ensures landings { landings.new ≡ fold (noted cycle parts.now) landings.old self.old.lanes }
+    {
+        if self.homes.is_apart {
+            let count = self.lanes.len();
+            tell(&mut self.told, &self.homes, parts, interfaces, count);
+            count_told(
+                &mut self.lanes,
+                &mut self.active,
+                &mut self.told,
+                parts,
+                landings,
+                cycle,
+            );
+        } else {
+            self.count_busy(parts, landings, cycle);
+        }
+    }
+
+    // The same, where it isn't known to which channels words come.
+    fn count_busy(&mut self, parts: &[Part], landings: &mut [u32], cycle: u32)
         requires cycle { cycle + 1 < 2 ^ 32 }
         requires lanes { All (IsLane (length landings.old) (length parts.now)) self.old.lanes }
         ensures lanes { self.new.lanes ≡ map (counted cycle parts.now) self.old.lanes }

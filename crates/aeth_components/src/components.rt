@@ -247,7 +247,9 @@ impl Components {
             events,
             steps,
         );
-        self.channels.count(&self.parts, &mut self.landings, cycle);
+        let interfaces = self.turns.ends.interfaces;
+        self.channels
+            .count(&self.parts, interfaces, &mut self.landings, cycle);
         tally(&mut self.flits, &self.wires);
     }
 

@@ -3,12 +3,15 @@
 ghost use Rattle.std.specs.Prelude.{◌≡◌, ◌<◌, ◌≤◌, ◌+◌, ◌^◌, ℕ, All, List, None, Some, false, fold};
 ghost use Rattle.std.specs.Prelude.{length, map, slice_get, take};
 ghost use Rattle.aeth_components.specs.Busy.{AreMarked, IsIdle, IsQuiet};
-ghost use Rattle.aeth_components.specs.Counting.{counted, flits_counted, noted, written_over};
-ghost use Rattle.aeth_components.specs.Lanes.{IsLane};
+ghost use Rattle.aeth_base.specs.Marks.{room_of};
+ghost use Rattle.aeth_components.specs.Channels.{OfLane};
+ghost use Rattle.aeth_components.specs.Counting.{brings, counted, flits_counted, noted};
+ghost use Rattle.aeth_components.specs.Counting.{written_over};
+ghost use Rattle.aeth_components.specs.Lanes.{IsLane, with_lane};
 
 use crate::lane::Lane;
 use crate::parts::{brought, is_silent};
-use aeth_base::LinkId;
+use aeth_base::{LinkId, Marks};
 use aeth_clocked::Wires;
 use aeth_router::Part;
 
@@ -35,6 +38,58 @@ pub(crate) fn count_one(parts: &[Part], lane: &mut Lane, landings: &mut [u32], c
         return true;
     }
     false
+}
+
+// Counts what has landed of the channel of a number. A channel of which words have landed is no
+// longer quiet.
+fn count_at(
+    lanes: &mut [Lane],
+    active: &mut Marks,
+    parts: &[Part],
+    number: usize,
+    landings: &mut [u32],
+    cycle: u32,
+)
+    requires cycle { cycle + 1 < 2 ^ 32 }
+    requires number { number < length lanes.old }
+    requires lane { OfLane lanes.old number (IsLane (length landings.old) (length parts.now)) }
+    requires active { AreMarked IsQuiet active.old lanes.old }
+    ensures lanes { lanes.new ≡ with_lane number (counted cycle parts.now) lanes.old }
+    ensures landings { OfLane lanes.old number
+        (λ lane. landings.new ≡ noted cycle parts.now landings.old lane) }
+    ensures active { AreMarked IsQuiet active.new lanes.new }
+{
+    if count_one(parts, &mut lanes[number], landings, cycle) {
+        active.mark(number);
+    }
+}
+
+// Counts what has landed of the marked channels, where no words come to any other. None is marked
+// behind it.
+pub(crate) fn count_told(
+    lanes: &mut [Lane],
+    active: &mut Marks,
+    told: &mut Marks,
+    parts: &[Part],
+    landings: &mut [u32],
+    cycle: u32,
+)
+    requires cycle { cycle + 1 < 2 ^ 32 }
+    requires few { length lanes.old < 2 ^ 63 }
+    requires lanes { All (IsLane (length landings.old) (length parts.now)) lanes.old }
+    requires active { AreMarked IsQuiet active.old lanes.old }
+    requires told { AreMarked (λ lane. brings parts.now lane ≡ 0) told.old lanes.old }
+    ensures lanes { lanes.new ≡ map (counted cycle parts.now) lanes.old }
+    ensures landings { landings.new ≡ fold (noted cycle parts.now) landings.old lanes.old }
+    ensures active { AreMarked IsQuiet active.new lanes.new }
+    ensures room { room_of told.new ≡ room_of told.old }
+{
+    let mut number = told.next(0, lanes.len());
+    'turns: while number < lanes.len() {
+        count_at(lanes, active, parts, number, landings, cycle);
+        told.unmark(number);
+        number = told.next(number + 1, lanes.len());
+    }
 }
 
 // Notes a cycle at so many places.

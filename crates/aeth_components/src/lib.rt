@@ -7,6 +7,7 @@ mod counting;
 mod cycle;
 mod ends;
 mod event;
+mod homes;
 mod lane;
 pub mod laws;
 mod making;

@@ -1,88 +1,73 @@
-use Rattle.std.proofs.Common.{◌+◌, ◌∙◌, ap, arith, length, refl, subst, sym}
+use Rattle.std.proofs.Common.{◌≡◌, ◌++◌, ◌∙◌, ap, arith, drop, length, map, subst, sym, take}
 use Rattle.std.specs.List.{All}
+use Rattle.std.proofs.lemmas.List.{length-map}
+use Rattle.aeth_base.proofs.Lists.{written_back}
 use Rattle.aeth_components.proofs.channels.Channels.count.Goals as goal
-use Rattle.aeth_components.proofs.LaneLemmas.{length-with_lane}
-use Rattle.aeth_components.proofs.SkipLemmas.{AreCounted-first, AreCounted-more, AreCounted-sound}
-use Rattle.aeth_components.proofs.SkipLemmas.{AreCounted-until, counted-all, noted-all}
-use Rattle.aeth_components.specs.Counting.{counted}
+use Rattle.aeth_components.proofs.channels.Channels.count.Goals.{After-count_told}
+use Rattle.aeth_components.proofs.HomeLemmas.{AreHomes-map, AreMarked-counted, AreMarked-told}
+use Rattle.aeth_components.proofs.HomeLemmas.{StaysAtHome-counted}
+use Rattle.aeth_components.specs.Busy.{AreMarked, IsIdle, IsQuiet}
+use Rattle.aeth_components.specs.Channels.{ChannelsState}
+use Rattle.aeth_components.specs.Counting.{brings, counted}
+use Rattle.aeth_components.specs.Homes.{AreHomes, AreTold}
 use Rattle.aeth_components.specs.Lanes.{IsLane}
 
--- The channels before the first one that is marked are idle.
-pub turns-init : goal.turns-init
-turns-init c =
-    let lanes = c.args.self.now.lanes in
-    let landings = c.args.landings.now in
-    let next = c.next_busy-number.ensures in
-    record {
-      are = AreCounted-until c.args.cycle c.args.parts.now lanes landings lanes landings 0
-          c.next_busy-number.result next.from
-          (AreCounted-first c.args.cycle c.args.parts.now lanes landings) next.end next.still;
-      words = refl;
-      within = next.end;
-    }
-
--- The next channel is sound.
-pub count_one-requires-clause-lane : goal.count_one-requires-clause-lane
-count_one-requires-clause-lane c =
-    let lanes = c.args.self.now.lanes in
-    let parts = c.args.parts.now in
-    let words = length c.turns.landings in
-    let test = c.turns-test.true in
-    let size = c.len.ensures in
-    AreCounted-sound c.args.cycle parts lanes c.args.landings.now words (length parts)
-    c.turns.self.lanes c.turns.landings c.turns.number c.turns.invariant.are (omega arith)
-    (subst (λ n. All (IsLane n (length parts)) lanes) (sym c.turns.auto.landings) c.requires.lanes)
-
--- There are as many behind its turn.
-pub next_busy-number-requires-in-turns : goal.next_busy-number-requires-in-turns
-next_busy-number-requires-in-turns c =
-    let test = c.turns-test.true in
-    let size = c.len.ensures in
-    let same = ap length c.count_one.ensures.lanes
-    ∙ length-with_lane c.turns.number (counted c.args.cycle c.args.parts.now) c.turns.self.lanes in
-    omega arith
-
-pub turns-smaller : goal.turns-smaller
-turns-smaller c =
-    let test = c.turns-test.true in
-    let size = c.len.ensures in
-    let from = c.next_busy-number-in-turns.ensures.from in
-    let same = ap length c.count_one.ensures.lanes
-    ∙ length-with_lane c.turns.number (counted c.args.cycle c.args.parts.now) c.turns.self.lanes in
-    omega arith
-
--- One channel more is counted, and those up to the next one that is marked are idle.
-pub turns-preserved : goal.turns-preserved
-turns-preserved c =
-    let lanes = c.args.self.now.lanes in
-    let landings = c.args.landings.now in
-    let parts = c.args.parts.now in
-    let next = c.next_busy-number-in-turns.ensures in
-    let test = c.turns-test.true in
-    let size = c.len.ensures in
-    record {
-      are = AreCounted-until c.args.cycle parts lanes landings c.count_one.new.self.lanes
-          c.count_one.new.landings (c.turns.number + 1) c.next_busy-number-in-turns.result next.from
-          (AreCounted-more c.args.cycle parts lanes landings c.turns.self.lanes
-          c.count_one.new.self.lanes c.turns.landings c.count_one.new.landings c.turns.number
-          c.turns.invariant.are (omega arith) c.count_one.ensures.lanes
-          c.count_one.ensures.landings)
-          next.end next.still;
-      words = c.count_one.ensures.words ∙ c.turns.invariant.words;
-      within = next.end;
-    }
+-- The channels, as they are written back.
+written : (c : goal.After-count_told)
+    → take c.self.inside.lanes.len (c.count_told.new.lanes
+    ++ drop (length c.count_told.new.lanes) c.self.inside.lanes.items) ≡ c.count_told.new.lanes
+written c =
+    written_back c.self.inside.lanes.items c.count_told.new.lanes c.self.inside.lanes.len
+    c.self.inside.lanes.ok.0 (c.count_told.auto.lanes ∙ ap length c.deref_mut.ensures.value)
 
 -- All are counted.
-pub returns-clause-lanes : goal.returns-clause-lanes
-returns-clause-lanes c =
-    let test = c.turns-test.false in
-    let size = c.len.ensures in
-    counted-all c.args.cycle c.args.parts.now c.args.self.now.lanes c.args.landings.now
-    c.turns.self.lanes c.turns.landings c.turns.number c.turns.invariant.are (omega arith)
+counts : (c : goal.After-count_told)
+    → c.count_told.new.lanes
+    ≡ map (counted c.args.cycle c.args.parts.now) c.self.inside.lanes.items
+counts c =
+    c.count_told.ensures.lanes
+    ∙ ap (map (counted c.args.cycle c.args.parts.now)) c.deref_mut.ensures.value
 
-pub returns-clause-landings : goal.returns-clause-landings
-returns-clause-landings c =
-    let test = c.turns-test.false in
-    let size = c.len.ensures in
-    noted-all c.args.cycle c.args.parts.now c.args.self.now.lanes c.args.landings.now
-    c.turns.self.lanes c.turns.landings c.turns.number c.turns.invariant.are (omega arith)
+-- No words come to any other channel.
+pub count_told-requires-clause-told : goal.count_told-requires-clause-told
+count_told-requires-clause-told c =
+    let all = c.self.inside in
+    let lanes = all.lanes.items in
+    let parts = c.args.parts.now in
+    let words = length c.args.landings.now in
+    let count = c.len-count.ensures in
+    let own = all.lanes.ok.0 in
+    let same : c.len-count.result ≡ length lanes = omega (arith, count, own) in
+    let room = c.self.invariant.room in
+    let told = c.tell.ensures.room in
+    subst (AreMarked (λ lane. brings parts lane ≡ 0) c.tell.new.told) (sym c.deref_mut.ensures.value)
+    (AreMarked-told all.homes lanes parts words c.args.interfaces c.tell.new.told
+    c.self.invariant.places c.if-self.true
+    (subst (λ (all : ChannelsState). All (IsLane words (length parts)) all.lanes) (sym c.self.view_is)
+    c.requires.lanes)
+    c.requires.silent
+    (subst (λ n. AreTold all.homes.numbers.items parts c.args.interfaces n c.tell.new.told) same
+    c.tell.ensures.told) (omega (arith, room, told)))
+
+-- What is noted of them stays so.
+pub invariant_of-self : goal.invariant_of-self
+invariant_of-self c =
+    let done = (goal.at.invariant_of-self c).After-count_told in
+    let all = c.self.inside in
+    let lanes = all.lanes.items in
+    let count = counted c.args.cycle c.args.parts.now in
+    let are = written done ∙ counts done in
+    let size = ap length are ∙ length-map lanes count in
+    let room = c.self.invariant.room in
+    let told = c.tell.ensures.room in
+    let kept = c.count_told.ensures.room in
+    record {
+      idle = subst (AreMarked IsIdle all.busy) (sym are)
+          (AreMarked-counted all.busy lanes c.args.cycle c.args.parts.now c.self.invariant.idle);
+      quiet = subst (AreMarked IsQuiet c.count_told.new.active) (sym (written done))
+          c.count_told.ensures.active;
+      places = subst (AreHomes all.homes) (sym are)
+          (AreHomes-map all.homes lanes count
+          (StaysAtHome-counted c.args.cycle c.args.parts.now) c.self.invariant.places);
+      room = omega (arith, size, room, told, kept);
+    }

@@ -1,4 +1,5 @@
-use Rattle.std.proofs.Common.{◌∙◌, ap, arith, length, set, slice_get, subst, sym}
+use Rattle.std.proofs.Common.{◌∙◌, ap, arith, length, length-set, set, slice_get, subst, sym}
+use Rattle.aeth_components.proofs.HomeLemmas.{AreHomes-kept, StaysAtHome, StaysAtHome-counted}
 use Rattle.std.proofs.lemmas.Option.{same_Some}
 use Rattle.aeth_components.proofs.channels.Channels.count_one.Goals as goal
 use Rattle.aeth_components.proofs.CountingLemmas.{counted-none}
@@ -20,6 +21,8 @@ invariant_of-self c =
     let size = ap (λ (all : ChannelsState). length all.lanes) c.self.view_is in
     let number = c.requires.number in
     let at = lane-there lanes c.args.number lane (omega arith) c.index_mut.ensures.value in
+    let set = length-set lanes c.args.number new in
+    let room = c.self.invariant.room in
     record {
       idle = AreMarked-set all.busy lanes c.args.number lane new at
           (λ idle. subst IsIdle (sym (c.count_one.ensures.lane
@@ -27,6 +30,10 @@ invariant_of-self c =
           c.self.invariant.idle;
       quiet = AreMarked-marked all.active c.mark.new.self lanes c.args.number new
           c.mark.ensures.room c.mark.ensures.here c.mark.ensures.away c.self.invariant.quiet;
+      places = AreHomes-kept all.homes lanes c.args.number lane new at
+          (subst (StaysAtHome lane) (sym c.count_one.ensures.lane)
+          (StaysAtHome-counted c.args.cycle c.args.parts.now lane)) c.self.invariant.places;
+      room = omega (arith, set, room);
     }
 
 -- The channel is counted.

@@ -1,4 +1,5 @@
-use Rattle.std.proofs.Common.{◌∙◌, ℕ, List, ap, arith, length}
+use Rattle.std.proofs.Common.{◌∙◌, ℕ, List, ap, arith, length, length-set, subst, sym}
+use Rattle.aeth_components.proofs.HomeLemmas.{AreHomes-kept, StaysAtHome, StaysAtHome-refilled}
 use Rattle.aeth_router.specs.declared.part.Part.{Part}
 use Rattle.aeth_components.specs.declared.lane.Lane.{Lane}
 use Rattle.aeth_components.proofs.channels.Channels.refill_one.Goals as goal
@@ -21,6 +22,8 @@ invariant_of-self c =
     let at = lane-there all.lanes.items c.args.number lane (omega arith) c.index_mut.ensures.value
     in
     let done : List Part × Lane = (c.refill_one.new.parts, c.refill_one.new.lane) in
+    let set = length-set all.lanes.items c.args.number c.refill_one.new.lane in
+    let room = c.self.invariant.room in
     record {
       idle = AreMarked-turned (refilled words cycle)
           (λ parts lane idle. refilled-none words cycle parts lane idle.handed) all.busy now
@@ -28,6 +31,11 @@ invariant_of-self c =
       quiet = AreMarked-turned (refilled words cycle)
           (λ parts lane quiet. refilled-none words cycle parts lane quiet.handed) all.active
           now c.args.number lane done at c.refill_one.ensures c.self.invariant.quiet;
+      places = AreHomes-kept all.homes all.lanes.items c.args.number lane c.refill_one.new.lane at
+          (subst (StaysAtHome lane)
+          (sym (ap (λ (pair : List Part × Lane). pair.1) c.refill_one.ensures))
+          (StaysAtHome-refilled words cycle c.args.parts.now lane)) c.self.invariant.places;
+      room = omega (arith, set, room);
     }
 
 -- The channel has had its turn.

@@ -1,4 +1,7 @@
-use Rattle.std.proofs.Common.{◌∙◌, ap, arith, length, subst, sym}
+use Rattle.std.proofs.Common.{◌∙◌, List, ap, arith, length, length-set, subst, sym}
+use Rattle.aeth_router.specs.declared.part.Part.{Part}
+use Rattle.aeth_components.specs.declared.lane.Lane.{Lane}
+use Rattle.aeth_components.proofs.HomeLemmas.{AreHomes-kept, StaysAtHome, StaysAtHome-pulled}
 use Rattle.aeth_components.proofs.channels.Channels.take_one.Goals as goal
 use Rattle.aeth_components.proofs.MarkLemmas.{AreMarked-turned}
 use Rattle.aeth_components.proofs.SkipLemmas.{lane-there, turned-there}
@@ -50,3 +53,24 @@ returns-clause-turn c =
     (c.take_one.new.parts, c.take_one.new.lane) at c.take_one.ensures
     ∙ ap (λ (all : ChannelsState). turned (pulled c.args.cycle)
     (record { parts = c.args.parts.now; lanes = all.lanes }) c.args.number) c.self.view_is
+
+-- The channel stays at its place.
+pub invariant_of-self : goal.invariant_of-self
+invariant_of-self c =
+    let all = c.self.inside in
+    let lane = c.index_mut.result.now in
+    let size = ap (λ (all : ChannelsState). length all.lanes) c.self.view_is in
+    let number = c.requires.number in
+    let at = lane-there all.lanes.items c.args.number lane (omega arith) c.index_mut.ensures.value
+    in
+    let set = length-set all.lanes.items c.args.number c.take_one.new.lane in
+    let room = c.self.invariant.room in
+    record {
+      idle = subst (AreMarked IsIdle c.settle.new.busy) c.deref.ensures.value c.settle.ensures;
+      quiet = subst (AreMarked IsQuiet c.hush.new.active) c.deref-2.ensures.value c.hush.ensures;
+      places = AreHomes-kept all.homes all.lanes.items c.args.number lane c.take_one.new.lane at
+          (subst (StaysAtHome lane)
+          (sym (ap (λ (pair : List Part × Lane). pair.1) c.take_one.ensures))
+          (StaysAtHome-pulled c.args.cycle c.args.parts.now lane)) c.self.invariant.places;
+      room = omega (arith, set, room);
+    }

@@ -7,7 +7,10 @@ use Rattle.aeth_components.proofs.components.Components.step_counted.Goals as go
 use Rattle.aeth_components.proofs.components.Components.step_counted.Goals.{After-count, After-run}
 use Rattle.aeth_components.proofs.components.Components.step_counted.Goals.{After-tally}
 use Rattle.aeth_components.proofs.CycleLemmas.{Cycle-from, IsComponents-from, components-same}
+use Rattle.std.proofs.lemmas.List.{length-map}
 use Rattle.aeth_components.proofs.FrameLemmas.{length-wires_driven}
+use Rattle.aeth_components.proofs.HomeLemmas.{AreOthersSilent-ends}
+use Rattle.aeth_components.specs.Homes.{AreOthersSilent}
 use Rattle.aeth_base.proofs.Lists.{written_back}
 use Rattle.aeth_components.specs.Components.{ComponentsState, Cycle, IsComponents, Runs}
 use Rattle.aeth_components.specs.Components.{components_of, ready_of}
@@ -56,6 +59,23 @@ count-requires-clause-lanes g c =
     (sym (ap length c.deref_mut-2.ensures.value ∙ notes))
     (subst (λ n. All (IsLane (length c.self.inside.channels.words) n) c.run.new.channels.lanes)
     (sym (ap length (c.deref.ensures.value ∙ run_parts g run))) (sound g run))
+
+-- The interfaces are the first components, and no others get words.
+pub count-requires-clause-within : goal.count-requires-clause-within
+count-requires-clause-within g c =
+    let run = (goal.at.count-requires-clause-within g c).After-run in
+    let ends = c.run.ensures.ready.ends in
+    let size = length-map c.run.new.parts frame_of in
+    let same = ap length (c.deref.ensures.value ∙ run_parts g run) in
+    omega (arith, ends.fits.interfaces, ends.count, size, same)
+
+pub count-requires-clause-silent : goal.count-requires-clause-silent
+count-requires-clause-silent g c =
+    let run = (goal.at.count-requires-clause-silent g c).After-run in
+    subst (AreOthersSilent c.run.new.turns.ends.interfaces)
+    (sym (c.deref.ensures.value ∙ run_parts g run))
+    (AreOthersSilent-ends c.run.new.parts (length c.run.new.wires) c.run.new.turns.ends
+    c.run.ensures.ready.ends)
 
 -- What is counted.
 counts : (g : given.Over) (c : goal.After-count g)

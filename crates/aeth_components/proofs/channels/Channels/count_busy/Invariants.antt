@@ -1,5 +1,5 @@
 use Rattle.std.proofs.Common.{◌≡◌, ◌≤◌, ◌-◌, length}
-use Rattle.aeth_components.proofs.channels.Channels.count.Given as goal
+use Rattle.aeth_components.proofs.channels.Channels.count_busy.Given as goal
 use Rattle.aeth_components.proofs.SkipLemmas.{AreCounted}
 
 -- The channels so far are counted.

@@ -1,0 +1,212 @@
+-- Laws of the places at which channels are noted.
+use Rattle.std.proofs.Common.{ℕ, ◌≡◌, ◌<◌, ◌^◌, ◌∙◌, sym, ap, arith, subst, inl, inr, true}
+use Rattle.std.proofs.Common.{List, length, length-set, map, slice_get, Some, None, Option, false}
+use Rattle.std.proofs.Common.{refl}
+use Rattle.std.specs.List.{All}
+use Rattle.std.specs.Option.{option_map_or}
+use Rattle.std.specs.List.{slice_set}
+use Rattle.std.proofs.lemmas.Bool.{cases_Bool, cases_eq, cases_lt}
+use Rattle.std.proofs.lemmas.List.{length-map}
+use Rattle.std.proofs.lemmas.Option.{get_or_from_slice_get, same_Some, slice_get_within}
+use Rattle.aeth_base.proofs.Lists.{slice_get-slice_set_other, slice_get-slice_set_same}
+use Rattle.aeth_base.specs.Marks.{bit_of, room_of}
+use Rattle.aeth_router.specs.declared.part.Part.{Part}
+use Rattle.aeth_router.specs.declared.part.Part.TheVariants.{Interface, Router, Stage, TableRouter}
+use Rattle.aeth_components.specs.declared.ends.Ends.{Ends}
+use Rattle.aeth_components.specs.Ends.{AreEnds, is_interface}
+use Rattle.aeth_components.specs.Frames.{frame_of}
+use Rattle.aeth_components.proofs.UnlistedLemmas.{seen-at}
+use Rattle.aeth_components.specs.declared.homes.Homes.{Homes}
+use Rattle.aeth_components.specs.declared.lane.ChannelEnd.{ChannelEnd}
+use Rattle.aeth_components.specs.declared.lane.Lane.{Lane}
+use Rattle.aeth_components.specs.Busy.{AreMarked, IsIdle}
+use Rattle.aeth_components.specs.Counting.{brings, brought_at, counted}
+use Rattle.aeth_components.specs.Homes.{AreHomes, AreOthersSilent, AreTold, home_at}
+use Rattle.aeth_components.specs.Lanes.{IsLane, is_open}
+use Rattle.aeth_components.specs.Phases.{pulled, refilled}
+use Rattle.aeth_components.specs.Queues.{brought_by}
+use Rattle.aeth_components.proofs.CountingLemmas.{brings-none, brings-silent, counted-none}
+use Rattle.aeth_components.proofs.FrameLemmas.{from-map}
+
+-- Whether a channel is noted at its place.
+abbrev pub IsAtHome : List ℕ → ℕ → Lane → Type 0
+IsAtHome numbers number lane =
+    slice_get numbers (home_at lane.receiver.ni.0 lane.receiver.queue) ≡ Some number
+
+-- A channel has changed that is noted at its place, if words are still to land.
+pub home-changed : (homes : Homes) (lanes : List Lane) (number : ℕ) (lane : Lane) (numbers : List ℕ)
+    → AreHomes homes lanes → homes.is_apart ≡ true → number < length lanes
+    → (lane.landed < lane.accepted → IsAtHome numbers number lane)
+    → ((other n : ℕ) → slice_get homes.numbers.items other ≡ Some n → n < 2 ^ 63
+    → slice_get numbers other ≡ Some n)
+    → (n : ℕ) (found : Lane) → slice_get (slice_set lanes number lane) n ≡ Some found
+    → found.landed < found.accepted → IsAtHome numbers n found
+home-changed homes lanes number lane numbers are apart within own kept n found at waits =
+    elim (cases_eq n number) [
+      | inl same ↦
+          let is : lane ≡ found =
+          same_Some lane found
+          (sym (slice_get-slice_set_same lanes number lane within)
+          ∙ ap (slice_get (slice_set lanes number lane)) (sym same) ∙ at) in
+          subst (λ (lane : Lane). IsAtHome numbers n lane) is
+          (own (subst (λ (lane : Lane). lane.landed < lane.accepted) (sym is) waits)
+          ∙ ap (λ (n : ℕ). Some n) (sym same))
+      | inr other ↦
+          let before = sym (slice_get-slice_set_other lanes number n lane other) ∙ at in
+          let below = slice_get_within lanes n found before in
+          let few = are.few in
+          kept (home_at found.receiver.ni.0 found.receiver.queue) n
+          (are.at apart n found before waits) (omega (arith, below, few))
+    ]
+
+-- So with the same places.
+pub AreHomes-set : (homes : Homes) (lanes : List Lane) (number : ℕ) (lane : Lane)
+    → number < length lanes
+    → (homes.is_apart ≡ true → lane.landed < lane.accepted
+    → IsAtHome homes.numbers.items number lane)
+    → AreHomes homes lanes → AreHomes homes (slice_set lanes number lane)
+AreHomes-set homes lanes number lane within own are = record {
+  size = are.size;
+  few = (
+      let size = length-set lanes number lane in
+      let few = are.few in
+      omega (arith, size, few));
+  at = λ apart.
+      home-changed homes lanes number lane homes.numbers.items are apart within (own apart)
+      (λ other n at below. at);
+}
+
+-- A channel's receiver stays, and words are still to land only if they were.
+pub record StaysAtHome (old new : Lane) : Type 0 where
+  pub same : new.receiver ≡ old.receiver
+  pub less : new.landed < new.accepted → old.landed < old.accepted
+
+-- So is what hands words on, takes them, or is counted.
+pub StaysAtHome-refilled : (words : List ℕ) (cycle : ℕ) (parts : List Part) (lane : Lane)
+    → StaysAtHome lane (refilled words cycle parts lane).1
+StaysAtHome-refilled words cycle parts lane =
+    elim (cases_Bool (is_open lane cycle)) [
+      | inl opened ↦ rw opened (record { same = refl; less = λ waits. waits })
+      | inr closed ↦ rw closed (record { same = refl; less = λ waits. waits })
+    ]
+
+pub StaysAtHome-pulled : (cycle : ℕ) (parts : List Part) (lane : Lane)
+    → StaysAtHome lane (pulled cycle parts lane).1
+StaysAtHome-pulled cycle parts lane =
+    elim (cases_Bool (is_open lane cycle)) [
+      | inl opened ↦ rw opened (record { same = refl; less = λ waits. waits })
+      | inr closed ↦ rw closed (record { same = refl; less = λ waits. waits })
+    ]
+
+pub StaysAtHome-counted : (cycle : ℕ) (parts : List Part) (lane : Lane)
+    → StaysAtHome lane (counted cycle parts lane)
+StaysAtHome-counted cycle parts lane =
+    elim (cases_Bool (is_open lane cycle)) [
+      | inl opened ↦ rw opened (record { same = refl; less = λ waits. omega (arith, waits) })
+      | inr closed ↦ rw closed (record { same = refl; less = λ waits. waits })
+    ]
+
+-- Such a channel is noted as before.
+pub AreHomes-kept : (homes : Homes) (lanes : List Lane) (number : ℕ) (old new : Lane)
+    → slice_get lanes number ≡ Some old → StaysAtHome old new
+    → AreHomes homes lanes → AreHomes homes (slice_set lanes number new)
+AreHomes-kept homes lanes number old new at stays are =
+    AreHomes-set homes lanes number new (slice_get_within lanes number old at)
+    (λ apart waits.
+    ap (λ (end : ChannelEnd). slice_get homes.numbers.items (home_at end.ni.0 end.queue)) stays.same
+    ∙ are.at apart number old at (stays.less waits)) are
+
+-- So of all channels.
+pub AreHomes-map : (homes : Homes) (lanes : List Lane) (change : Lane → Lane)
+    → ((lane : Lane) → StaysAtHome lane (change lane))
+    → AreHomes homes lanes → AreHomes homes (map change lanes)
+AreHomes-map homes lanes change stays are = record {
+  size = are.size;
+  few = (
+      let size = length-map lanes change in
+      let few = are.few in
+      omega (arith, size, few));
+  at = λ apart number lane at waits.
+      let found = from-map change lanes number lane at in
+      let old = found.0 in
+      ap (λ (lane : Lane). slice_get homes.numbers.items (home_at lane.receiver.ni.0 lane.receiver.queue))
+      found.2
+      ∙ ap (λ (end : ChannelEnd). slice_get homes.numbers.items (home_at end.ni.0 end.queue))
+      (stays old).same
+      ∙ are.at apart number old found.1
+      ((stays old).less (subst (λ (lane : Lane). lane.landed < lane.accepted) found.2 waits));
+}
+
+-- No words come to a channel of which none are to land, or that isn't marked.
+module _ (homes : Homes) (lanes : List Lane) (parts : List Part) (words interfaces : ℕ)
+    (marks : List ℕ) (are : AreHomes homes lanes) (apart : homes.is_apart ≡ true)
+    (sound : All (IsLane words (length parts)) lanes)
+    (silent : AreOthersSilent interfaces parts)
+    (told : AreTold homes.numbers.items parts interfaces (length lanes) marks) where
+  brings-unmarked : (number : ℕ) (lane : Lane) → slice_get lanes number ≡ Some lane
+      → lane.landed < lane.accepted → bit_of marks number ≡ 0
+      → (found : Option Part) → slice_get parts lane.receiver.ni.0 ≡ found → brings parts lane ≡ 0
+  brings-unmarked number lane at waits bit None there =
+      let none : brought_at lane.receiver parts ≡ 0 =
+      ap (λ (found : Option Part). option_map_or (brought_by lane.receiver.queue) found 0) there in
+      omega (arith, none)
+  brings-unmarked number lane at waits bit (Some part) there =
+      let i = lane.receiver.ni.0 in
+      let home = are.at apart number lane at waits in
+      let within = slice_get_within lanes number lane at in
+      brings-silent parts lane part there (elim (cases_lt i interfaces) [
+        | inl below ↦ elim (cases_lt 0 (brought_by lane.receiver.queue part)) [
+          | inl some ↦
+              let one = told i lane.receiver.queue number part below there some home within in
+              absurd (omega (arith, one, bit))
+          | inr none ↦ (let zero : brought_by lane.receiver.queue part ≡ 0 = omega (arith, none) in zero)
+        ]
+        | inr over ↦ silent i part over there lane.receiver.queue
+      ])
+
+  lane-sound : (number : ℕ) (lane : Lane) → slice_get lanes number ≡ Some lane
+      → IsLane words (length parts) lane
+  lane-sound number lane at =
+      subst (IsLane words (length parts)) (get_or_from_slice_get lanes number lane lane at)
+      (sound number lane (slice_get_within lanes number lane at))
+
+  pub AreMarked-told : length lanes < room_of marks
+      → AreMarked (λ lane. brings parts lane ≡ 0) marks lanes
+  AreMarked-told room = record {
+    size = room;
+    idle = λ number lane at bit. elim (cases_lt lane.landed lane.accepted) [
+      | inl waits ↦
+          brings-unmarked number lane at waits bit (slice_get parts lane.receiver.ni.0) refl
+      | inr none ↦
+          let handed = (lane-sound number lane at).handed in
+          brings-none parts lane (omega (arith, none, handed))
+    ];
+  }
+
+-- Counting leaves idle channels so.
+pub AreMarked-counted : (busy : List ℕ) (lanes : List Lane) (cycle : ℕ) (parts : List Part)
+    → AreMarked IsIdle busy lanes → AreMarked IsIdle busy (map (counted cycle parts) lanes)
+AreMarked-counted busy lanes cycle parts marked = record {
+  size = (
+      let size = length-map lanes (counted cycle parts) in
+      let room = marked.size in
+      omega (arith, size, room));
+  idle = λ number lane at bit.
+      let found = from-map (counted cycle parts) lanes number lane at in
+      let idle = marked.idle number found.0 found.1 bit in
+      subst IsIdle (sym (found.2 ∙ counted-none cycle parts found.0 idle.landed)) idle;
+}
+
+-- Just interfaces get words, which are the first components.
+silent-part : (part : Part) → is_interface (frame_of part) ≡ false
+    → (queue : ℕ) → brought_by queue part ≡ 0
+silent-part (Interface ni) is queue = absurd (cc is)
+silent-part (Router router) is queue = refl
+silent-part (TableRouter router) is queue = refl
+silent-part (Stage stage) is queue = refl
+
+pub AreOthersSilent-ends : (parts : List Part) (wires : ℕ) (ends : Ends)
+    → AreEnds (map frame_of parts) wires ends → AreOthersSilent ends.interfaces parts
+AreOthersSilent-ends parts wires ends are number part from at =
+    silent-part part
+    (are.others number (frame_of part) (seen-at frame_of parts number part at) from)

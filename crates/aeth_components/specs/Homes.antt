@@ -1,0 +1,43 @@
+-- For each queue of an interface the channel of which words may land there.
+--
+--   home_at, home_count        the place of a queue
+--   AreHomes                   what is noted of channels
+--   AreTold, AreOthersSilent   the channels to which flits may have brought words
+--
+-- This project's own.
+use Rattle.std.specs.Prelude.{◌≡◌, ◌≤◌, ◌<◌, ◌+◌, ◌*◌, ◌%◌, ◌^◌, ℕ, true, List, Some, length, slice_get}
+use Rattle.aeth_base.specs.Marks.{bit_of}
+use Rattle.aeth_router.specs.declared.part.Part.{Part}
+use Rattle.aeth_components.specs.declared.homes.Homes.{Homes}
+use Rattle.aeth_components.specs.declared.lane.Lane.{Lane}
+use Rattle.aeth_components.specs.Queues.{brought_by}
+
+-- There are so many places.
+abbrev pub home_count : ℕ
+home_count = 2048
+
+-- The place of a queue of an interface: 64 interfaces with 32 queues have each their own.
+abbrev pub home_at : ℕ → ℕ → ℕ
+home_at interface queue = (interface % 64) * 32 + queue % 32
+
+-- Where no two channels came to one place, each channel of which words are still to land is noted at
+-- its own.
+pub record AreHomes (homes : Homes) (lanes : List Lane) : Type 0 where
+  pub size : length homes.numbers.items ≡ home_count
+  pub few : length lanes < 2 ^ 63
+  pub at : homes.is_apart ≡ true → (number : ℕ) (lane : Lane) → slice_get lanes number ≡ Some lane
+      → lane.landed < lane.accepted
+      → slice_get homes.numbers.items (home_at lane.receiver.ni.0 lane.receiver.queue) ≡ Some number
+
+-- Of the first so many components each that got words has its channel marked.
+abbrev pub AreTold : List ℕ → List Part → ℕ → ℕ → List ℕ → Type 0
+AreTold numbers parts to count marks =
+    (i queue number : ℕ) (part : Part) → i < to → slice_get parts i ≡ Some part
+    → 0 < brought_by queue part → slice_get numbers (home_at i queue) ≡ Some number
+    → number < count → bit_of marks number ≡ 1
+
+-- From a number on no component got words.
+abbrev pub AreOthersSilent : ℕ → List Part → Type 0
+AreOthersSilent from parts =
+    (number : ℕ) (part : Part) → from ≤ number → slice_get parts number ≡ Some part
+    → (queue : ℕ) → brought_by queue part ≡ 0

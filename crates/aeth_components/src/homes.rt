@@ -1,0 +1,130 @@
+// Which channel the words are of that land in a queue.
+
+ghost use Rattle.std.specs.Prelude.{◌≡◌, ◌≤◌, ◌<◌, ◌^◌, ℕ, IfOk, List, Some, false, length, slice_get};
+ghost use Rattle.std.specs.Prelude.{slice_set, true};
+ghost use Rattle.aeth_base.specs.Marks.{bit_of, room_of};
+ghost use Rattle.aeth_components.specs.Homes.{AreHomes, AreTold, home_at, home_count};
+ghost use Rattle.aeth_components.specs.Queues.{brought_by};
+ghost use Rattle.aeth_components.specs.Turns.{StayMarked};
+
+use crate::lane::Lane;
+use aeth_base::{Marks, NoMemory};
+use aeth_router::Part;
+use std::alloc::Global;
+
+// The interfaces, and the queues of each, that have places of their own.
+const INTERFACES: usize = 64;
+
+const QUEUES: usize = 32;
+
+// What stands at the place of no channel.
+const NOBODY: usize = usize::MAX;
+
+// For each queue of an interface the channel of which words may land there.
+#[derive(Drop)]
+pub(crate) struct Homes {
+    pub numbers: Vec<usize>,
+    // Whether no two channels came to one place.
+    pub is_apart: bool,
+}
+
+impl Homes {
+    // Those of these channels. Later calls take no memory.
+    pub(crate) fn new(alloc: Global, lanes: &[Lane]) -> Result<Homes, NoMemory>
+        requires { length lanes.now < 2 ^ 63 }
+        ensures { IfOk result (λ homes. AreHomes homes lanes.now) }
+    {
+        Ok(Homes {
+            numbers: vec![in alloc; NOBODY; INTERFACES * QUEUES]?,
+            is_apart: await_none(lanes),
+        })
+    }
+
+    // A channel has changed.
+    pub(crate) fn note(&mut self, number: usize, lane: &Lane)
+        requires { length self.old.numbers.items ≡ home_count }
+        ensures { (lanes : List Lane) → AreHomes self.old lanes → number < length lanes
+            → AreHomes self.new (slice_set lanes number lane.now) }
+    {
+        if lane.landed < lane.accepted {
+            let home = place_of(lane.receiver.ni.0, lane.receiver.queue);
+            let is_own = come_to(&mut self.numbers, home, number);
+            self.is_apart = self.is_apart && is_own;
+        }
+    }
+}
+
+// Whether no words are still to land of any channel.
+fn await_none(lanes: &[Lane]) -> bool
+    ensures { result ≡ true → (number : ℕ) (lane : Lane) → slice_get lanes.now number ≡ Some lane
+        → lane.accepted ≤ lane.landed }
+{
+    for place in 0..lanes.len() {
+        if lanes[place].landed < lanes[place].accepted {
+            return false;
+        }
+    }
+    true
+}
+
+// The place of a queue.
+fn place_of(interface: u32, queue: u8) -> usize
+    ensures place { result ≡ home_at interface queue }
+    ensures below { result < home_count }
+{
+    (interface as usize % INTERFACES) * QUEUES + queue as usize % QUEUES
+}
+
+// Notes a channel at a place where none is, and tells whether it is the one there.
+fn come_to(numbers: &mut [usize], place: usize, number: usize) -> bool
+    requires { place < length numbers.old }
+    ensures own { result ≡ true → slice_get numbers.new place ≡ Some number }
+    ensures kept { (other n : ℕ) → slice_get numbers.old other ≡ Some n → n < 2 ^ 63
+        → slice_get numbers.new other ≡ Some n }
+{
+    if numbers[place] == NOBODY {
+        numbers[place] = number;
+    }
+    numbers[place] == number
+}
+
+// Marks of so many channels those to which the last flits may have brought words.
+pub(crate) fn tell(told: &mut Marks, homes: &Homes, parts: &[Part], interfaces: u32, count: usize)
+    requires size { length homes.now.numbers.items ≡ home_count }
+    requires within { interfaces ≤ length parts.now }
+    requires room { count < room_of told.old }
+    ensures room { room_of told.new ≡ room_of told.old }
+    ensures told { AreTold homes.now.numbers.items parts.now interfaces count told.new }
+{
+    for number in 0..interfaces {
+        tell_one(told, homes, &parts[number as usize], number, count);
+    }
+}
+
+// Marks the channel to which the last flit of one component may have brought words.
+fn tell_one(told: &mut Marks, homes: &Homes, part: &Part, number: u32, count: usize)
+    requires size { length homes.now.numbers.items ≡ home_count }
+    requires room { count < room_of told.old }
+    ensures room { room_of told.new ≡ room_of told.old }
+    ensures kept { StayMarked told.old told.new }
+    ensures own { (queue channel : ℕ) → 0 < brought_by queue part.now
+        → slice_get homes.now.numbers.items (home_at number queue) ≡ Some channel
+        → channel < count → bit_of told.new channel ≡ 1 }
+{
+    if let Some(queue) = told_queue(part) {
+        let channel = homes.numbers[place_of(number, queue)];
+        if channel < count {
+            told.mark(channel);
+        }
+    }
+}
+
+// The queue to which the last flit brought words, if to any.
+fn told_queue(part: &Part) -> Option<u8>
+    ensures { (queue : ℕ) → 0 < brought_by queue part.now → result ≡ Some queue }
+{
+    match part {
+        Part::Interface(ni) => Some(ni.last()?.0),
+        _ => None,
+    }
+}
