@@ -19,6 +19,7 @@ use Rattle.aeth_components.specs.Frames.{Frame, IsWired, frame_of}
 use Rattle.aeth_components.specs.Lanes.{IsLane}
 use Rattle.aeth_components.specs.Making.{new_parts}
 use Rattle.aeth_components.specs.declared.event.Event.{Event}
+use Rattle.aeth_components.specs.declared.making.RouterKind.TheVariants.{ByHeader}
 use Rattle.aeth_components.proofs.MadeLemmas.{IsWired-new, length-new_parts}
 use Rattle.aeth_components.proofs.PartLemmas.{frames-switched}
 use Rattle.aeth_stimuli.specs.Loaded.{no_lane}
@@ -41,18 +42,18 @@ IsLane-none words parts some = record {
 module _ (chip : ChipData) (is_chip : IsChip chip) (rooms : List ℕ) (count : ℕ) (words : List ℕ)
     (events : List Event) where
   abbrev pub made : ComponentsState
-  made = first_components chip rooms (replicate count no_lane) words
+  made = first_components chip ByHeader rooms (replicate count no_lane) words
 
   abbrev pub with_loaded : ComponentsState
   with_loaded = record made { parts = switched events made.parts }
 
-  pub loaded-frames : frames_of with_loaded ≡ map frame_of (new_parts chip rooms)
-  loaded-frames = frames-switched events (new_parts chip rooms)
+  pub loaded-frames : frames_of with_loaded ≡ map frame_of (new_parts chip ByHeader rooms)
+  loaded-frames = frames-switched events (new_parts chip ByHeader rooms)
 
   pub loaded-size : length with_loaded.parts ≡ part_count chip
   loaded-size =
-      sym (length-map (switched events (new_parts chip rooms)) frame_of)
-      ∙ ap length loaded-frames ∙ length-map (new_parts chip rooms) frame_of
+      sym (length-map (switched events (new_parts chip ByHeader rooms)) frame_of)
+      ∙ ap length loaded-frames ∙ length-map (new_parts chip ByHeader rooms) frame_of
       ∙ length-new_parts chip rooms
 
   pub IsComponents-loaded : IsComponents with_loaded
@@ -68,7 +69,7 @@ module _ (chip : ChipData) (is_chip : IsChip chip) (rooms : List ℕ) (count : �
       record {
         wired = subst (λ (frames : List Frame). IsWired frames (length with_loaded.wires))
             (sym loaded-frames)
-            (subst (IsWired (map frame_of (new_parts chip rooms))) (sym wires)
+            (subst (IsWired (map frame_of (new_parts chip ByHeader rooms))) (sym wires)
             (IsWired-new chip is_chip rooms));
         lanes = All-replicate (IsLane (length words) (length with_loaded.parts)) count no_lane
             (IsLane-none (length words) (length with_loaded.parts) (omega arith));

@@ -9,6 +9,7 @@ ghost use Rattle.aeth_components.specs.Events.{IsDoable};
 ghost use Rattle.aeth_components.specs.Frames.{frame_of};
 ghost use Rattle.aeth_components.specs.Making.{new_parts};
 ghost use Rattle.aeth_components.specs.Turns.{flits_on};
+ghost use Rattle.aeth_components.specs.declared.making.RouterKind.TheVariants.{ByHeader};
 ghost use Rattle.aeth_schedule.specs.Schedule.{schedule_of};
 ghost use Rattle.aeth_schedule.specs.Values.{values_of};
 ghost use Rattle.aeth_stimuli.specs.Loaded.{no_lane};
@@ -22,7 +23,7 @@ use aeth_app::App;
 use aeth_base::{NiId, NoMemory, Steps};
 use aeth_chip::Chip;
 use aeth_clocked::Order;
-use aeth_components::{ChannelEnd, Components, Lane};
+use aeth_components::{ChannelEnd, Components, Lane, RouterKind};
 use aeth_schedule::{Schedule, values};
 use aeth_trace::Words;
 use std::alloc::Global;
@@ -110,9 +111,9 @@ fn loaded(
 ) -> Result<Components, NoMemory>
     requires rooms { length schedule.now.rooms ≡ queues_of_interface * length chip.now.nis }
     requires some { 0 < length chip.now.nis }
-    requires loaded { All (IsDoable (map frame_of (new_parts chip.now schedule.now.rooms)))
+    requires loaded { All (IsDoable (map frame_of (new_parts chip.now ByHeader schedule.now.rooms)))
         schedule.now.loaded }
-    ensures { IfOk result (λ components. let made = first_components chip.now schedule.now.rooms
+    ensures { IfOk result (λ components. let made = first_components chip.now ByHeader schedule.now.rooms
         (replicate (2 * length app.now.connections) no_lane)
         (values_of words.now (length app.now.connections)) in
         components ≡ record made { parts = switched schedule.now.loaded made.parts }) }
@@ -120,7 +121,8 @@ fn loaded(
     let channels = 2 * app.connections() as usize;
     let lanes = vec![in alloc; no_lane(); channels]?;
     let values = values(alloc, app, words)?;
-    let mut components = Components::new(alloc, chip, schedule.rooms(), lanes, values)?;
+    let kind = RouterKind::ByHeader;
+    let mut components = Components::new(alloc, chip, kind, schedule.rooms(), lanes, values)?;
     components.prepare(schedule.loaded());
     Ok(components)
 }

@@ -1,5 +1,6 @@
-use Rattle.std.proofs.Common.{◌∙◌, ap, length}
+use Rattle.std.proofs.Common.{◌≡◌, ◌∙◌, ap, length, refl, rules}
 use Rattle.aeth_schedule.specs.Schedule.{ScheduleData}
+use Rattle.aeth_stimuli.specs.Loaded.{loaded_components}
 use Rattle.aeth_events.proofs.FittingEvents.{rooms-counted}
 use Rattle.aeth_network.proofs.FirstNetwork.{loaded-doable}
 use Rattle.aeth_network.proofs.state.State.of.Goals as goal
@@ -22,3 +23,17 @@ loaded-requires-clause-loaded c =
     let accepted = c.are_accepted.ensures in
     rw (c.chip.ensures, c.requires) (loaded-doable inputs accepted
     (c.stimuli_are_stimuli.ensures inputs accepted).loaded)
+
+-- All is as it is before the first cycle.
+pub returns : goal.returns
+returns c =
+    let components : c.in_ok-loaded.field-0 ≡ loaded_components c.args.inputs.now =
+    c.in_ok-loaded.ensures
+    ∙ rw (c.chip.ensures, c.app-app.ensures, c.words.ensures, c.requires) refl in
+    record {
+      components = components;
+      untils = search rules;
+      outside = search rules;
+      replaced = search rules;
+      capacity = search rules;
+    }
