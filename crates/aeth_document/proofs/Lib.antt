@@ -4,4 +4,5 @@ mod TextLemmas
 pub mod Least
 pub mod WalkLemmas
 pub mod ChainLemmas
+mod KeysInOrder
 pub mod KeyLemmas

@@ -10,6 +10,7 @@ ghost use Rattle.aeth_document.specs.Keys.{is_expected, is_missing, is_optional}
 ghost use Rattle.aeth_document.specs.Keys.{first_of, least, least_wrong_key, lesser_where};
 ghost use Rattle.aeth_document.specs.Keys.{missing_keys, misfit_keys};
 ghost use Rattle.aeth_document.specs.Keys.{wrong_key};
+ghost use Rattle.aeth_document.specs.KeysInOrder.{are_optional, fields_behind, fits_in_order};
 
 use crate::values::value_at;
 use aeth_base::{Shown, shown_text};
@@ -157,10 +158,63 @@ fn first_misfit<'a>(table: &'a Table, fields: &[Field]) -> Option<&'a str>
     None
 }
 
+fn are_optional(fields: &[Field]) -> bool
+    ensures { result ≡ are_optional (fields_view fields.now) }
+{
+    for field in fields {
+        if !is_optional(field.1) {
+            return false;
+        }
+    }
+    true
+}
+
+// The fields behind the one that stands at a key and that the value fits. Only optional ones of
+// lesser keys may come before it.
+fn fields_behind<'a>(fields: &'a [Field], key: &str, value: &Value) -> Option<&'a [Field]>
+    ensures { option_map (λ s. fields_view s.now) result
+        ≡ fields_behind (fields_view fields.now) (key.now, view value.now) }
+{
+    let mut left = fields;
+    while let Some((field, others)) = left.split_first() {
+        if field.0 == key {
+            return if has_kind(field.1, value) {
+                Some(others)
+            } else {
+                None
+            };
+        }
+        if !is_optional(field.1) || field.0 >= key {
+            return None;
+        }
+        left = others;
+    }
+    None
+}
+
+// Whether the keys of a table are its fields in their order, as far as one pass over both tells.
+fn fits_in_order(table: &Table, fields: &[Field]) -> bool
+    ensures fits { result ≡ fits_in_order (fields_view fields.now)
+        (entries_of (table_view table.now)) }
+    ensures ordered { IsOrdered string_cmp table.now }
+{
+    let mut left = fields;
+    for (key, value) in table {
+        match fields_behind(left, key.as_str(), value) {
+            Some(others) => left = others,
+            None => return false,
+        }
+    }
+    are_optional(left)
+}
+
 fn least_wrong_key<'a>(table: &'a Table, fields: &[Field]) -> Option<&'a str>
     ensures { option_map (λ s. s.now) result
         ≡ least_wrong_key (fields_view fields.now) (table_view table.now) }
 {
+    if fits_in_order(table, fields) {
+        return None;
+    }
     let missing = missing_key(table, fields);
     match first_misfit(table, fields) {
         None => missing,

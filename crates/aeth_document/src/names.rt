@@ -28,7 +28,7 @@ pub fn names_of(alloc: Global, texts: Texts<'_>) -> Result<IndexSet<Name>, NoMem
     ensures { IfOk result (λ names. names.keys
         ≡ fold (insert_key bytes_eq) [] (filter_map name_of (texts_in texts.entry))) }
 {
-    let mut names = IndexSet::new(alloc);
+    let mut names = IndexSet::with_capacity(alloc, texts.count_left())?;
     for text in texts {
         if let Some(name) = Name::new(text.as_bytes()) {
             add_name(&mut names, name)?;

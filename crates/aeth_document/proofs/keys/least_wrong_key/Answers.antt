@@ -1,9 +1,20 @@
-use Rattle.std.proofs.Common.{◌∙◌, sym}
+use Rattle.std.proofs.Common.{◌∙◌, ◌≡◌, sym, true}
 use Rattle.toml.specs.View.{table_view}
 use Rattle.aeth_document.specs.Keys.{fields_view, missing_keys, misfit_keys, entries_of}
 use Rattle.aeth_document.specs.Keys.{least_wrong_key}
+use Rattle.aeth_document.specs.KeysInOrder.{fits_in_order}
+use Rattle.aeth_document.proofs.KeysInOrder.{none_wrong}
 use Rattle.aeth_document.proofs.Least.{ascending, least-append_none, least-append_misfits}
 use Rattle.aeth_document.proofs.keys.least_wrong_key.Goals as goal
+
+-- The fields are in order, so no key is wrong.
+pub returns-then-fits_in_order : goal.returns-then-fits_in_order
+returns-then-fits_in_order c =
+    let fields = fields_view c.args.fields.now in
+    let fits : fits_in_order fields (entries_of (table_view c.args.table.now)) ≡ true =
+    sym c.fits_in_order.ensures.fits ∙ c.if-fits_in_order.true in
+    none_wrong fields (table_view c.args.table.now)
+    (ascending _ c.fits_in_order.ensures.ordered) fits
 
 -- No key fits badly, so the least missing one is the least.
 pub returns-in-None : goal.returns-in-None
