@@ -14,5 +14,6 @@ pub mod PathTests
 pub mod Paths
 pub mod Summary
 pub mod Told
+pub mod NamedEnds
 pub mod Versions
 pub mod Wires

@@ -47,9 +47,11 @@ impl Distances {
         let places = routers as usize + chip.nis() as usize;
         let links = links_of(alloc, chip)?;
         let origins = origins_of(alloc, &links, routers, places)?;
-        let mut rows = Vec::new(alloc);
+        let mut rows = Vec::with_capacity(alloc, chip.nis() as usize)?;
+        let mut frontier = Vec::with_capacity(alloc, routers as usize)?;
+        let mut next = Vec::with_capacity(alloc, routers as usize)?;
         for goal in routers as usize..places {
-            let levels = levels_to(alloc, &origins, routers, goal)?;
+            let levels = levels_to(alloc, &origins, routers, goal, &mut frontier, &mut next)?;
             rows.push(levels)?;
         }
         Ok(Distances {
@@ -96,7 +98,7 @@ fn links_of(alloc: Global, chip: &Chip) -> Result<Vec<Link>, NoMemory>
     ensures places { IfOk result (λ links. HasPlaces links.items (length chip.now.routers)
         (length chip.now.routers + length chip.now.nis)) }
 {
-    let mut links = Vec::new(alloc);
+    let mut links = Vec::with_capacity(alloc, chip.links() as usize)?;
     for l in 0..chip.links() {
         links.push(chip.link(LinkId(l)))?;
     }

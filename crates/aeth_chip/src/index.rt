@@ -79,7 +79,7 @@ pub(crate) fn further_of(alloc: Global, links: &[Link]) -> Result<(Vec<u32>, u32
         HasEntries (IsFurther links.now) (length links.now) made.0.items) }
     ensures wires { IfOk result (λ made. made.1 ≡ wires_of links.now) }
 {
-    let mut further = Vec::new(alloc);
+    let mut further = Vec::with_capacity(alloc, links.len())?;
     let mut before = 0;
     let mut wires = 0;
     for link in links {
@@ -118,7 +118,7 @@ pub(crate) fn ends_of(alloc: Global, nis: u32, listed: &ListedLinks) -> Result<V
     requires single { (ni : NiId) → ni.0 < nis → IsSingle listed.now.links.items ni }
     ensures { IfOk result (λ ends. HasEntries (IsEnds listed.now.links.items) nis ends.items) }
 {
-    let mut ends = Vec::new(alloc);
+    let mut ends = Vec::with_capacity(alloc, nis as usize)?;
     for ni in 0..nis {
         ends.push(ends_at(&listed.nis, ni))?;
     }

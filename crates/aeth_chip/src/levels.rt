@@ -4,6 +4,7 @@ ghost use Rattle.std.specs.Prelude.{length};
 ghost use Rattle.aeth_chip.specs.Levels.{AreLevels, AreOrigins, Enters, HasPlaces, IsOrigin};
 ghost use Rattle.aeth_chip.specs.Levels.{SpreadsLevel, items_at, node_place};
 
+use crate::chip::MAX_PORTS;
 use crate::node::{Link, Node};
 use aeth_base::NoMemory;
 use std::alloc::Global;
@@ -52,14 +53,14 @@ fn enter(origins: &mut Vec<Vec<usize>>, link: &Link, routers: u32) -> Result<(),
     Ok(())
 }
 
-// So many empty lists.
+// So many empty lists, with room for as many places in each as a router has ports.
 fn empty_lists(alloc: Global, count: usize) -> Result<Vec<Vec<usize>>, NoMemory>
     ensures size { IfOk result (λ lists. length lists.items ≡ count) }
     ensures empty { IfOk result (λ lists. (place : ℕ) → items_at lists.items place ≡ []) }
 {
-    let mut lists = Vec::new(alloc);
+    let mut lists = Vec::with_capacity(alloc, count)?;
     for _ in 0..count {
-        lists.push(Vec::new(alloc))?;
+        lists.push(Vec::with_capacity(alloc, MAX_PORTS as usize)?)?;
     }
     Ok(lists)
 }
@@ -78,12 +79,15 @@ fn add(lists: &mut Vec<Vec<usize>>, place: usize, item: usize) -> Result<(), NoM
 }
 
 /// The level of each place before a goal: the least number of links from there to the goal,
-/// through routers alone. `None` where the goal isn't reached.
+/// through routers alone. `None` where the goal isn't reached. The lists are room for the search,
+/// whatever they have.
 pub(crate) fn levels_to(
     alloc: Global,
     origins: &[Vec<usize>],
     routers: u32,
     goal: usize,
+    frontier: &mut Vec<usize>,
+    next: &mut Vec<usize>,
 ) -> Result<Vec<Option<u32>>, NoMemory>
     requires goal { goal < length origins.now }
     requires routers { routers ≤ goal }
@@ -94,13 +98,13 @@ pub(crate) fn levels_to(
 {
     let mut levels = vec![in alloc; None; origins.len()]?;
     let mut level = 0;
-    let mut frontier = Vec::with_capacity(alloc, routers as usize)?;
+    frontier.clear();
     frontier.push(goal)?;
-    let mut next = Vec::with_capacity(alloc, routers as usize)?;
+    next.clear();
     'rounds: while !frontier.is_empty() {
         level += 1;
-        spread_all(origins, &frontier, level, routers, &mut levels, &mut next)?;
-        swap(&mut frontier, &mut next);
+        spread_all(origins, frontier, level, routers, &mut levels, next)?;
+        swap(frontier, next);
         next.clear();
     }
     Ok(levels)

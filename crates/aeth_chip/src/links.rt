@@ -1,9 +1,11 @@
 // The links of a file, from the names of their ends.
-ghost use Rattle.std.specs.Prelude.{◌≡◌, ◌<◌, ◌^◌, length, map, IfOk};
+ghost use Rattle.std.specs.Prelude.{◌≡◌, ◌<◌, ◌^◌, codes, false, length, map, pos, IfOk};
 ghost use Rattle.std.specs.List.{AllByRecursion};
 ghost use Rattle.aeth_chip.specs.ChipFile.{unknown_end};
+ghost use Rattle.aeth_chip.specs.NamedEnds.{AreNamed, IsNamed};
 ghost use Rattle.aeth_chip.specs.Told.{HasDelay, delay_at, known, link_of, node_of};
 ghost use Rattle.aeth_document.specs.Arrays.{tables_in};
+ghost use Rattle.aeth_document.specs.Values.{text_at};
 ghost use Rattle.aeth_document.specs.Walks.{first_broken};
 ghost use Rattle.toml.specs.View.{table_view};
 
@@ -21,6 +23,20 @@ pub(crate) struct Names {
     pub nis: IndexSet<Name>,
 }
 
+// A text of a file, and the node that it names.
+#[derive(Clone, Copy)]
+pub(crate) struct NamedEnd<'a> {
+    pub text: &'a str,
+    pub node: Option<Node>,
+}
+
+// The two ends of a link.
+#[derive(Clone, Copy)]
+pub(crate) struct NamedEnds<'a> {
+    pub from: NamedEnd<'a>,
+    pub to: NamedEnd<'a>,
+}
+
 // The delay of a link, 1 where none stands there.
 pub(crate) fn delay_at(link: &Table) -> i64
     ensures { result ≡ delay_at (table_view link.now) }
@@ -29,6 +45,14 @@ pub(crate) fn delay_at(link: &Table) -> i64
         Some(delay) => delay,
         None => 1,
     }
+}
+
+// The same, which is 1 for each link where they have no delays.
+fn told_delay(link: &Table, has_delays: bool) -> i64
+    requires { has_delays ≡ false → delay_at (table_view link.now) ≡ pos 1 }
+    ensures { result ≡ delay_at (table_view link.now) }
+{
+    if has_delays { delay_at(link) } else { 1 }
 }
 
 #[tactic(auto, unfolding(crate::specs::Told::node_of))]
@@ -56,45 +80,101 @@ fn known(node: Option<Node>) -> Node
     }
 }
 
-// The link of a table, and the first of its ends that names no node.
-fn told_link(names: &Names, table: &Table) -> (Link, Option<Shown>)
+// The ends before the first link: the empty text, and what it names.
+fn no_ends(names: &Names) -> NamedEnds<'static>
     requires routers { length names.now.routers.keys < 2 ^ 32 }
     requires nis { length names.now.nis.keys < 2 ^ 32 }
+    ensures { AreNamed names.now.routers.keys names.now.nis.keys result }
+{
+    let end = NamedEnd {
+        text: "",
+        node: node_of(names, ""),
+    };
+    NamedEnds { from: end, to: end }
+}
+
+// The node that a text names, as it was found for an end before where the text is the same.
+fn named_end<'a>(names: &Names, text: &'a str, before: NamedEnd<'a>) -> NamedEnd<'a>
+    requires routers { length names.now.routers.keys < 2 ^ 32 }
+    requires nis { length names.now.nis.keys < 2 ^ 32 }
+    requires before { IsNamed names.now.routers.keys names.now.nis.keys before }
+    ensures text { result.text.now ≡ text.now }
+    ensures node { IsNamed names.now.routers.keys names.now.nis.keys result }
+{
+    if text == before.text {
+        return before;
+    }
+    NamedEnd {
+        text,
+        node: node_of(names, text),
+    }
+}
+
+// The ends of a table's link, after those of the link before: links often stand in pairs, one for
+// each way, so one begins where the one before ends, and ends where that begins.
+fn ends_in<'a>(names: &Names, table: &'a Table, before: NamedEnds<'a>) -> NamedEnds<'a>
+    requires routers { length names.now.routers.keys < 2 ^ 32 }
+    requires nis { length names.now.nis.keys < 2 ^ 32 }
+    requires before { AreNamed names.now.routers.keys names.now.nis.keys before }
+    ensures from { result.from.text.now ≡ text_at (codes "from") (table_view table.now) }
+    ensures to { result.to.text.now ≡ text_at (codes "to") (table_view table.now) }
+    ensures named { AreNamed names.now.routers.keys names.now.nis.keys result }
+{
+    NamedEnds {
+        from: named_end(names, text_at(table, "from"), before.to),
+        to: named_end(names, text_at(table, "to"), before.from),
+    }
+}
+
+// The link of a table, after one with these ends; the first of its own ends that names no node; and
+// its ends.
+fn told_link<'a>(
+    names: &Names,
+    table: &'a Table,
+    before: NamedEnds<'a>,
+    has_delays: bool,
+) -> (Link, Option<Shown>, NamedEnds<'a>)
+    requires routers { length names.now.routers.keys < 2 ^ 32 }
+    requires nis { length names.now.nis.keys < 2 ^ 32 }
+    requires before { AreNamed names.now.routers.keys names.now.nis.keys before }
     requires delay { HasDelay (table_view table.now) }
+    requires none { has_delays ≡ false → delay_at (table_view table.now) ≡ pos 1 }
     ensures link { result.0
         ≡ link_of names.now.routers.keys names.now.nis.keys (table_view table.now) }
     ensures unknown { result.1
         ≡ unknown_end names.now.routers.keys names.now.nis.keys (table_view table.now) }
+    ensures ends { AreNamed names.now.routers.keys names.now.nis.keys result.2 }
 {
-    let from = text_at(table, "from");
-    let to = text_at(table, "to");
-    let begins = node_of(names, from);
-    let ends = node_of(names, to);
-    let unknown = if begins.is_none() {
-        Some(shown_text(from))
-    } else if ends.is_none() {
-        Some(shown_text(to))
+    let ends = ends_in(names, table, before);
+    let unknown = if ends.from.node.is_none() {
+        Some(shown_text(ends.from.text))
+    } else if ends.to.node.is_none() {
+        Some(shown_text(ends.to.text))
     } else {
         None
     };
     let link = Link {
-        from: known(begins),
-        to: known(ends),
-        delay: size(delay_at(table)) as u32,
+        from: known(ends.from.node),
+        to: known(ends.to.node),
+        delay: size(told_delay(table, has_delays)) as u32,
     };
-    (link, unknown)
+    (link, unknown, ends)
 }
 
-/// The links of the tables, and the first of their ends that names no node.
+/// The links of the tables, which may have delays or have none, and the first of their ends that
+/// names no node.
 #[tactic(auto, using(aeth_document::proofs::WalkLemmas::walk_laws), unfolding(aeth_document::specs::Walks::walked))]
 pub(crate) fn links_of(
     alloc: Global,
     names: &Names,
     tables: Tables<'_>,
+    has_delays: bool,
 ) -> Result<(Vec<Link>, Option<Broken>), NoMemory>
     requires routers { length names.now.routers.keys < 2 ^ 32 }
     requires nis { length names.now.nis.keys < 2 ^ 32 }
     requires delays { AllByRecursion HasDelay (tables_in tables) }
+    requires none { has_delays ≡ false
+        → AllByRecursion (λ link. delay_at link ≡ pos 1) (tables_in tables) }
     ensures links { IfOk result (λ told. told.0.items
         ≡ map (link_of names.now.routers.keys names.now.nis.keys) (tables_in tables.entry)) }
     ensures unknown { IfOk result (λ told. told.1 ≡ first_broken 0
@@ -102,8 +182,10 @@ pub(crate) fn links_of(
 {
     let mut links = Vec::new(alloc);
     let mut walk = Walk::from(0);
+    let mut before = no_ends(names);
     for table in tables {
-        let (link, unknown) = told_link(names, table);
+        let (link, unknown, ends) = told_link(names, table, before, has_delays);
+        before = ends;
         links.push(link)?;
         walk = walk.check(unknown);
     }

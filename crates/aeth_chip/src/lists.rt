@@ -9,6 +9,7 @@ ghost use Rattle.aeth_chip.specs.Limits.{max_links};
 ghost use Rattle.aeth_chip.specs.Nodes.{IsBelow, IsNiBelow, router_of};
 ghost use Rattle.aeth_chip.specs.declared.node.Link.{Link};
 
+use crate::chip::MAX_PORTS;
 use crate::node::{Link, Node};
 use aeth_base::{LinkId, NoMemory};
 use std::alloc::Global;
@@ -73,14 +74,14 @@ pub(crate) fn listed_links(
     })
 }
 
-// So many empty lists.
-fn empty_lists(alloc: Global, count: u32) -> Result<Vec<Vec<LinkId>>, NoMemory>
+// So many empty lists, with room for so many links in each.
+fn empty_lists(alloc: Global, count: u32, room: usize) -> Result<Vec<Vec<LinkId>>, NoMemory>
     ensures size { IfOk result (λ lists. length lists.items ≡ count) }
     ensures empty { IfOk result (λ lists. (place : ℕ) → list_at lists.items place ≡ []) }
 {
-    let mut lists = Vec::new(alloc);
+    let mut lists = Vec::with_capacity(alloc, count as usize)?;
     for _ in 0..count {
-        lists.push(Vec::new(alloc))?;
+        lists.push(Vec::with_capacity(alloc, room)?)?;
     }
     Ok(lists)
 }
@@ -139,9 +140,9 @@ fn router_links(alloc: Global, routers: u32, links: &[Link]) -> Result<RouterLin
         → IsBelow routers link.from × IsBelow routers link.to }
     ensures { IfOk result (λ its. AreRouterLinks links.now routers its) }
 {
-    let mut outgoing = empty_lists(alloc, routers)?;
-    let mut incoming = empty_lists(alloc, routers)?;
-    let mut ports = Vec::new(alloc);
+    let mut outgoing = empty_lists(alloc, routers, MAX_PORTS as usize)?;
+    let mut incoming = empty_lists(alloc, routers, MAX_PORTS as usize)?;
+    let mut ports = Vec::with_capacity(alloc, links.len())?;
     for (number, link) in links.iter().enumerate() {
         let number = LinkId(number as u32);
         ports.push(enter(&mut outgoing, link.from, number)?)?;
@@ -161,8 +162,8 @@ fn ni_links(alloc: Global, nis: u32, links: &[Link]) -> Result<NiLinks, NoMemory
         → IsNiBelow nis link.from × IsNiBelow nis link.to }
     ensures { IfOk result (λ its. AreNiLinks links.now nis its) }
 {
-    let mut outgoing = empty_lists(alloc, nis)?;
-    let mut incoming = empty_lists(alloc, nis)?;
+    let mut outgoing = empty_lists(alloc, nis, 1)?;
+    let mut incoming = empty_lists(alloc, nis, 1)?;
     for (number, link) in links.iter().enumerate() {
         let number = LinkId(number as u32);
         enter_ni(&mut outgoing, link.from, number)?;

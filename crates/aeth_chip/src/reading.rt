@@ -87,7 +87,7 @@ fn repeated_name(alloc: Global, root: &Table) -> Result<Option<Broken>, NoMemory
     ensures { IfOk result (λ found. found ≡ first_broken 0
         (repeats [] (routers_of (table_view root.now) ++ nis_of (table_view root.now)))) }
 {
-    let mut seen = IndexSet::new(alloc);
+    let mut seen = IndexSet::with_capacity(alloc, (MAX_ROUTERS + MAX_NIS) as usize)?;
     let walk = repeats(Walk::from(0), &mut seen, routers_of(root))?;
     let walk = repeats(walk, &mut seen, nis_of(root))?;
     Ok(walk.found())
@@ -130,7 +130,7 @@ fn known_links(alloc: Global, root: &Table, names: &Names) -> Result<Vec<Link>, 
     ensures gives { Reads rule_of (λ _. tt) result (ends_are_known (table_view root.now)) }
     ensures links { IfOk result (λ links. links.items ≡ told_links (table_view root.now)) }
 {
-    let (links, unknown) = links_of(alloc, names, link_tables(root))?;
+    let (links, unknown) = links_of(alloc, names, link_tables(root), allows_delays(root))?;
     match unknown {
         None => Ok(links),
         Some(broken) => Err(ChipFault::UnknownName(broken)),

@@ -16,7 +16,7 @@ rounds-init c =
     let start = found-start (IsOrigin origins) c.args.routers c.args.goal (length origins) in
     let goal_alone : c.push.new.self.items ≡ c.args.goal ∷ [] =
     c.in_ok-push.ensures.items
-    ∙ ap (λ (xs : List ℕ). xs ++ c.args.goal ∷ []) c.in_ok-frontier.ensures.items in
+    ∙ ap (λ (xs : List ℕ). xs ++ c.args.goal ∷ []) c.clear.ensures.items in
     let placed = subst (λ (xs : List ℕ).
     Found (IsOrigin origins) c.args.routers c.args.goal (length origins) 0 xs
     (replicate (length origins) None)) (sym goal_alone) start in
@@ -25,7 +25,7 @@ rounds-init c =
       found = subst (λ (xs : List (Option ℕ)).
           Found (IsOrigin origins) c.args.routers c.args.goal (length origins) 0
           c.push.new.self.items xs) (sym none) placed;
-      empty = c.in_ok-next.ensures.items;
+      empty = c.clear-2.ensures.items;
     }
 
 -- The places to go on from are the goal or routers.
@@ -68,7 +68,7 @@ rounds-preserved c =
     c.spread_all.new.next.items xs)
     (sym (written_back c.rounds.levels.items new c.rounds.levels.len (omega arith) same_length))
     round in
-    record { found = rw c.swap.ensures.x_after written; empty = c.clear.ensures.items }
+    record { found = rw c.swap.ensures.x_after written; empty = c.clear-in-rounds.ensures.items }
 
 -- Nothing is left to go on from.
 pub returns : goal.returns

@@ -11,6 +11,11 @@ told_link-unknown-requires-clause-delay c =
     let before = rw c.in-Some.ensures.steps at c.loop-table.invariant in
     before.delays.0
 
+pub told_link-unknown-requires-clause-none : goal.told_link-unknown-requires-clause-none
+told_link-unknown-requires-clause-none c = λ no_delays.
+    let before = rw c.in-Some.ensures.steps at c.loop-table.invariant in
+    (before.none no_delays).0
+
 -- One more table.
 pub loop-table-preserved : goal.loop-table-preserved
 loop-table-preserved c =
@@ -22,5 +27,7 @@ loop-table-preserved c =
       unknown = rw (c.check-walk.ensures, c.told_link-unknown.ensures.unknown)
           (walked-append c.loop-table.walk (shown (table_view c.in-Some.table.now) ∷ [])
           (map shown (tables_in c.next.new.self)) ∙ before.unknown);
+      ends = c.told_link-unknown.ensures.ends;
       delays = before.delays.1;
+      none = λ no_delays. (before.none no_delays).1;
     }

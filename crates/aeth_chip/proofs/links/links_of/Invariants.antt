@@ -1,7 +1,8 @@
-use Rattle.std.proofs.Common.{◌≡◌, ◌++◌, map}
+use Rattle.std.proofs.Common.{◌≡◌, ◌++◌, false, map, pos}
 use Rattle.std.specs.List.{AllByRecursion}
 use Rattle.aeth_chip.specs.ChipFile.{unknown_end}
-use Rattle.aeth_chip.specs.Told.{HasDelay, link_of}
+use Rattle.aeth_chip.specs.NamedEnds.{AreNamed}
+use Rattle.aeth_chip.specs.Told.{HasDelay, delay_at, link_of}
 use Rattle.aeth_document.specs.Arrays.{tables_in}
 use Rattle.aeth_document.specs.Walks.{walked}
 use Rattle.aeth_document.specs.declared.walk.Walk.TheVariants.{At}
@@ -16,5 +17,8 @@ invariant-loop-table l = record {
       (map (unknown_end l.names.routers.keys l.names.nis.keys) (tables_in l.table-iterator))
       ≡ walked (At 0)
       (map (unknown_end l.names.routers.keys l.names.nis.keys) (tables_in l.fn.tables));
+  ends : AreNamed l.names.routers.keys l.names.nis.keys l.before;
   delays : AllByRecursion HasDelay (tables_in l.table-iterator);
+  none : l.has_delays ≡ false
+      → AllByRecursion (λ link. delay_at link ≡ pos 1) (tables_in l.table-iterator);
 }

@@ -26,9 +26,9 @@ returns c =
     let root = table_view c.args.root.now in
     let seen = map (λ t. t.now) c.repeats.new.seen.keys in
     let first : c.in_ok-walk.walk ≡ walked (At 0) (repeats [] (routers_of root)) =
-    rw (c.new-seen.ensures.empty, c.from.ensures, c.routers_of.ensures)
+    rw (c.in_ok-seen.ensures.empty, c.from.ensures, c.routers_of.ensures)
     at c.in_ok-walk.ensures.walk in
-    let all = rw (c.new-seen.ensures.empty, c.routers_of.ensures) at c.in_ok-walk.ensures.seen in
+    let all = rw (c.in_ok-seen.ensures.empty, c.routers_of.ensures) at c.in_ok-walk.ensures.seen in
     let second = rw c.nis_of.ensures at c.in_ok-walk-2.ensures.walk in
     let both = second
     ∙ behind c.in_ok-walk.walk (At 0) (routers_of root) (nis_of root) seen first all in
