@@ -8,6 +8,7 @@ pub mod GroupLemmas
 pub mod MemberLemmas
 mod MakingLemmas
 pub mod UnitLemmas
+pub mod RowLemmas
 pub mod AppGroupsLemmas
 pub mod ListLemmas
 pub mod OccupationLemmas

@@ -3,6 +3,7 @@ pub mod Numbering
 pub mod Groups
 pub mod Marks
 pub mod Members
+pub mod Rows
 pub mod AppGroups
 pub mod Occupation
 pub mod Conflict

@@ -1,54 +1,21 @@
 // The groups of an application.
 ghost use Rattle.std.specs.Prelude.{◌≡◌, ◌<◌, ◌≤◌, IfOk, count_by, length, map};
 ghost use Rattle.std.specs.List.{range_with_len};
-ghost use Rattle.aeth_app.specs.App.{has_connection, is_marked};
+ghost use Rattle.aeth_app.specs.App.{has_connection};
 ghost use Rattle.aeth_app.specs.Limits.{max_uses};
 ghost use Rattle.aeth_group.specs.AppGroups.{IsGroupsOf};
 ghost use Rattle.aeth_group.specs.Members.{IsGroups, are_together, group_at, groups_of, has_at};
 ghost use Rattle.aeth_group.specs.Members.{has_unit, is_kept, is_member, units_of};
+ghost use Rattle.aeth_group.specs.Rows.{uses_of};
 
 use crate::closing::chained;
 use crate::numbering::{class_of, firsts_below};
+use crate::rows::rows_of;
+use crate::use_group::UseGroup;
 use aeth_app::App;
 use aeth_base::{ConnId, GroupId, NoMemory, Unit, UseId};
 use std::alloc::Global;
 use std::marker::Model;
-
-/// A use case's group, and for each connection whether the use case has it.
-#[derive(Drop)]
-struct UseGroup {
-    group: u32,
-    has: Vec<bool>,
-}
-
-impl Model for UseGroup {
-    ghost use Rattle.aeth_group.specs.Members.{UseGroupData};
-
-    ghost Value = { UseGroupData };
-
-    ghost view = { λ one. record { group = one.group; has = one.has.items } };
-}
-
-impl UseGroup {
-    fn copy(&self) -> Result<UseGroup, NoMemory>
-        ensures { IfOk result (λ one. one ≡ self.now) }
-    {
-        let has = self.has.clone()?;
-        Ok(UseGroup {
-            group: self.group,
-            has,
-        })
-    }
-
-    fn has(&self, connection: ConnId) -> bool
-        ensures { result ≡ is_marked self.now.has connection.0 }
-    {
-        match self.has.get(connection.0 as usize) {
-            Some(mark) => *mark,
-            None => false,
-        }
-    }
-}
 
 /// The groups of an application's use cases: chains of smooth switches join the use cases of one. A
 /// switch within a group keeps the reservations of the connections that both use cases have.
@@ -59,10 +26,14 @@ pub struct Groups {
     connections: u32,
     count: u32,
     uses: Vec<UseGroup>,
+
+    // For each group its use cases.
+    rows: Vec<Vec<u32>>,
 }
 
 impl Model for Groups {
     ghost use Rattle.aeth_group.specs.Members.{GroupsData, IsGroups};
+    ghost use Rattle.aeth_group.specs.Rows.{AreRows};
 
     ghost Value = { GroupsData };
 
@@ -76,7 +47,7 @@ impl Model for Groups {
       connections = groups.connections;
       count = groups.count;
       uses = groups.uses.items;
-    }) };
+    }) × AreRows groups.uses.items groups.count groups.rows.items };
 }
 
 impl Groups {
@@ -94,10 +65,13 @@ impl Groups {
             let group = class_of(&marks, count, u);
             uses.push(UseGroup { group, has })?;
         }
+        let groups = firsts_below(&marks, count, count);
+        let rows = rows_of(alloc, &uses, groups)?;
         Ok(Groups {
             connections: app.connections(),
-            count: firsts_below(&marks, count, count),
+            count: groups,
             uses,
+            rows,
         })
     }
 
@@ -109,10 +83,12 @@ impl Groups {
         for one in &self.uses {
             uses.push(one.copy()?)?;
         }
+        let rows = rows_of(alloc, &uses, self.count)?;
         Ok(Groups {
             connections: self.connections,
             count: self.count,
             uses,
+            rows,
         })
     }
 
@@ -159,11 +135,27 @@ impl Groups {
         self.uses[u.0 as usize].has(c)
     }
 
+    /// The use cases of a group, ascending; none where there is no such group.
+    pub fn uses_of(&self, g: GroupId) -> &[u32]
+        ensures { result.now ≡ uses_of self.now g.0 }
+    {
+        match self.rows.get(g.0 as usize) {
+            Some(row) => row.as_slice(),
+            None => &[],
+        }
+    }
+
     /// Whether some use case of a group has a connection.
     pub fn member(&self, g: GroupId, c: ConnId) -> bool
         ensures { result ≡ is_member self.now g.0 c.0 }
     {
-        self.uses.iter().any(|one| one.group == g.0 && one.has(c))
+        let unit = Unit { conn: c, group: g };
+        for u in self.uses_of(g) {
+            if self.has_unit(UseId(*u), unit) {
+                return true;
+            }
+        }
+        false
     }
 
     /// Whether one use case of a group has both connections: their reservations in the group must

@@ -7,6 +7,8 @@ mod grant;
 mod groups;
 pub mod laws;
 mod numbering;
+mod rows;
+mod use_group;
 
 pub use grant::{Grant, SeatLine};
 pub use groups::Groups;

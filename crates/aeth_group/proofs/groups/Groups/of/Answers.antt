@@ -1,7 +1,9 @@
-use Rattle.std.proofs.Common.{◌≡◌, ◌∙◌, length, map, ap, subst, sym, arith}
+use Rattle.std.proofs.Common.{◌≡◌, ◌∙◌, List, length, map, ap, subst, sym, arith}
 use Rattle.std.specs.List.{range_with_len}
+use Rattle.std.proofs.lemmas.List.FromFn.{length-map-range_with_len}
 use Rattle.aeth_group.specs.AppGroups.{IsGroupsOf}
-use Rattle.aeth_group.specs.Members.{IsGroups, use_group}
+use Rattle.aeth_group.specs.Members.{IsGroups, UseGroupData, use_group}
+use Rattle.aeth_group.specs.Rows.{AreRows}
 use Rattle.aeth_group.proofs.AppGroupsLemmas.{is_groups_of}
 use Rattle.aeth_group.proofs.GroupLemmas.{class_of-marked, firsts_below-marked}
 use Rattle.aeth_group.proofs.MakingLemmas.{groups_are, uses-more}
@@ -27,7 +29,7 @@ returns-clause-groups c =
     let uses = c.uses-count.ensures.uses in
     let all : c.loop-u.u ≡ length app.uses = omega arith in
     groups_are app _ c.connections.ensures.connections
-    (c.firsts_below.ensures.firsts
+    (c.firsts_below-groups.ensures.firsts
     ∙ firsts_below-marked app.uses c.chained-marks.result c.uses-count.result
     c.chained-marks.ensures uses)
     (c.loop-u.invariant ∙ ap (λ n. map (use_group app) (range_with_len 0 n)) all)
@@ -43,6 +45,17 @@ invariant_of-result c =
     let uses = c.uses-count.ensures.uses in
     let few = c.uses-count.ensures.most in
     let connections = c.connections.ensures.connections in
-    let most = c.connections.ensures.most in
-    subst IsGroups (sym (returns-clause-groups c))
-    (is_groups-groups_of c.args.app.now (omega arith) (omega arith))
+    let most = c.connections.ensures.most in (
+      subst IsGroups (sym (returns-clause-groups c))
+          (is_groups-groups_of c.args.app.now (omega arith) (omega arith)),
+      subst (λ us. AreRows us c.firsts_below-groups.result c.in_ok-rows.rows.items)
+          c.deref.ensures.value c.in_ok-rows.ensures,
+    )
+
+-- There are at most 16 use cases.
+pub rows_of-requires : goal.rows_of-requires
+rows_of-requires c =
+    let size = length-map-range_with_len (use_group c.args.app.now) 0 c.loop-u.u in
+    let uses = ap (λ (us : List UseGroupData). length us)
+    (c.deref.ensures.value ∙ c.loop-u.invariant) in
+    omega (arith, size, uses, c.loop-u.auto.u-end, c.uses-count.ensures.most)
