@@ -4,6 +4,7 @@ mod SlotLaws
 mod TakenLaws
 mod MeetLaws
 mod TouchLaws
+mod UseLaws
 mod ConflictLaws
 mod HoldLaws
 mod MeetingLaws

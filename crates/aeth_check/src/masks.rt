@@ -97,8 +97,8 @@ pub(crate) fn meets(
         → IsTable chip.now.slots (length chip.now.links) test masks.now
         → result ≡ touches chip.now.links groups.now test grant.now }
 {
-    for u in 0..groups.uses() {
-        if groups.has_unit(UseId(u), grant.unit) && meets_row(chip, u, grant, sets, masks) {
+    for u in groups.uses_of(grant.unit.group) {
+        if groups.has_unit(UseId(*u), grant.unit) && meets_row(chip, *u, grant, sets, masks) {
             return true;
         }
     }
@@ -138,9 +138,9 @@ pub(crate) fn put(
         (hits_uses grant.now.slots chip.now.links groups.now grant.now.unit grant.now.path
         (length groups.now.uses)) true masks.old masks.new }
 {
-    for u in 0..groups.uses() {
-        if groups.has_unit(UseId(u), grant.unit) {
-            put_row(chip, u, grant, sets, masks);
+    for u in groups.uses_of(grant.unit.group) {
+        if groups.has_unit(UseId(*u), grant.unit) {
+            put_row(chip, *u, grant, sets, masks);
         }
     }
 }

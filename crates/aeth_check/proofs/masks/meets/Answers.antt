@@ -1,21 +1,39 @@
-use Rattle.std.proofs.Common.{◌<◌, ◌&&◌, ◌∙◌, ℕ, Bool, length, sym, arith}
+use Rattle.std.proofs.Common.{◌&&◌, ◌∙◌, ℕ, Bool, length, sym, ap, arith}
+use Rattle.std.specs.List.{list_any}
 use Rattle.std.proofs.lemmas.Bool.{and_from, and_left, and_right}
 use Rattle.aeth_group.specs.Members.{has_unit}
+use Rattle.aeth_group.proofs.RowLemmas.{walk_end, walk_here, walk_on}
 use Rattle.aeth_check.specs.Meetings.{meets}
-use Rattle.aeth_check.proofs.MeetLaws.{any_first, any_next, any_none}
+use Rattle.aeth_check.proofs.UseLaws.{has_row, touches-uses_of}
 use Rattle.aeth_check.proofs.masks.meets.Goals.{else-has_unit-via-else-has_unit}
 use Rattle.aeth_check.proofs.masks.meets.Goals.{else-has_unit-via-then-has_unit+else-meets_row}
 use Rattle.aeth_check.proofs.masks.meets.Goals as goal
+
+-- All use cases of the group decide it.
+pub loop-u-init : goal.loop-u-init
+loop-u-init c = λ test table.
+    let passes : ℕ → Bool = λ v. has_unit c.args.groups.now c.args.grant.now.unit v
+    && meets (test v) c.args.grant.now.slots c.args.chip.now.links 0 c.args.grant.now.path in
+    ap (list_any passes) c.uses_of-u-items.ensures
+    ∙ touches-uses_of c.args.chip.now.links c.args.groups.now test c.args.grant.now
+
+-- The use case has a row.
+pub meets_row-requires-clause-row : goal.meets_row-requires-clause-row
+meets_row-requires-clause-row c =
+    omega (
+      arith,
+      c.requires.rows,
+      has_row c.args.groups.now c.args.grant.now.unit _
+          (length c.args.chip.now.links) (sym c.has_unit.ensures ∙ c.if-has_unit.true),
+    )
 
 -- Flits meet in this use case.
 pub returns-then-meets_row : goal.returns-then-meets_row
 returns-then-meets_row c = λ test table.
     let passes : ℕ → Bool = λ v. has_unit c.args.groups.now c.args.grant.now.unit v
     && meets (test v) c.args.grant.now.slots c.args.chip.now.links 0 c.args.grant.now.path in
-    let within : c.loop-u.u < length c.args.groups.now.uses =
-    omega (arith, c.loop-u-test.true, c.uses-u-end.ensures.uses) in
-    any_first passes c.loop-u.u (length c.args.groups.now.uses) within _
-    (c.loop-u.invariant test table)
+    walk_here passes c.uses_of-u-items.result.now c.loop-u.u-index _
+    (c.loop-u.invariant test table) c.loop-u-test.true
     (and_from _ _ (sym c.has_unit.ensures ∙ c.if-has_unit.true)
     (sym (c.meets_row.ensures test table) ∙ c.if-meets_row.true))
 
@@ -24,10 +42,8 @@ pub loop-u-preserved : goal.loop-u-preserved
 loop-u-preserved c = λ test table.
     let passes : ℕ → Bool = λ v. has_unit c.args.groups.now c.args.grant.now.unit v
     && meets (test v) c.args.grant.now.slots c.args.chip.now.links 0 c.args.grant.now.path in
-    let within : c.loop-u.u < length c.args.groups.now.uses =
-    omega (arith, c.loop-u-test.true, c.uses-u-end.ensures.uses) in
-    any_next passes c.loop-u.u (length c.args.groups.now.uses) within _
-    (c.loop-u.invariant test table) (elim c.else-has_unit.branch [
+    walk_on passes c.uses_of-u-items.result.now c.loop-u.u-index _
+    (c.loop-u.invariant test table) c.loop-u-test.true (elim c.else-has_unit.branch [
       | else-has_unit-via-then-has_unit+else-meets_row w ↦
           and_right _ _ (sym (w.meets_row.ensures test table) ∙ w.if-meets_row.false)
       | else-has_unit-via-else-has_unit w ↦
@@ -37,7 +53,7 @@ loop-u-preserved c = λ test table.
 -- No use case is left.
 pub returns : goal.returns
 returns c = λ test table.
-    any_none (λ v. has_unit c.args.groups.now c.args.grant.now.unit v
+    walk_end (λ v. has_unit c.args.groups.now c.args.grant.now.unit v
     && meets (test v) c.args.grant.now.slots c.args.chip.now.links 0 c.args.grant.now.path)
-    c.loop-u.u (length c.args.groups.now.uses) _
-    (omega (arith, c.loop-u-test.false, c.uses-u-end.ensures.uses)) (c.loop-u.invariant test table)
+    c.uses_of-u-items.result.now c.loop-u.u-index _ (c.loop-u.invariant test table)
+    (omega (arith, c.loop-u-test.false))

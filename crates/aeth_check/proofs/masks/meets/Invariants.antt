@@ -1,16 +1,15 @@
-use Rattle.std.proofs.Common.{◌≡◌, ◌-◌, ◌&&◌, ℕ, Bool, length}
-use Rattle.std.specs.List.{list_any, range_with_len}
+use Rattle.std.proofs.Common.{◌≡◌, ◌&&◌, ℕ, Bool, drop, length}
+use Rattle.std.specs.List.{list_any}
 use Rattle.aeth_group.specs.Members.{has_unit}
-use Rattle.aeth_check.specs.Meetings.{meets}
 use Rattle.aeth_group.specs.Tables.{IsTable}
-use Rattle.aeth_check.specs.Meetings.{touches}
+use Rattle.aeth_check.specs.Meetings.{meets, touches}
 use Rattle.aeth_check.proofs.masks.meets.Given as goal
 
--- Whether flits meet is decided by the use cases that are left.
+-- Whether flits meet is decided by the use cases of the group that are left.
 abbrev pub invariant-loop-u : goal.invariant-loop-u
 invariant-loop-u l = (test : ℕ → ℕ → ℕ → Bool)
     → IsTable l.chip.slots (length l.chip.links) test l.masks
     → list_any (λ u. has_unit l.groups l.grant.unit u
     && meets (test u) l.grant.slots l.chip.links 0 l.grant.path)
-    (range_with_len l.u (length l.groups.uses - l.u))
+    (drop l.u-index l.u-items)
     ≡ touches l.chip.links l.groups test l.grant
