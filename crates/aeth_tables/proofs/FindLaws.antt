@@ -1,6 +1,6 @@
 -- What `find` finds.
-use Rattle.std.proofs.Common.{◌≡◌, ◌∙◌, Bool, true, false, cond, List, [], ◌∷◌, Some}
-use Rattle.std.proofs.Common.{Contains, refl, sym, ap, inl, inr, subst}
+use Rattle.std.proofs.Common.{◌≡◌, ◌∙◌, ◌<◌, ℕ, zero, suc, Bool, true, false, cond, List, [], ◌∷◌}
+use Rattle.std.proofs.Common.{Some, None, Contains, slice_get, refl, sym, ap, inl, inr, subst, arith}
 use Rattle.std.specs.Prelude.{find}
 use Rattle.std.proofs.lemmas.Bool.{false≢true}
 use Rattle.std.proofs.lemmas.Option.{none-some, same_Some}
@@ -37,3 +37,22 @@ found_some {X} test (y ∷ xs) x has passes =
       ]
     ]
     in cases (test y) refl
+
+-- Where no item passes, none is found.
+pub find-none : {X : Type 0} (test : X → Bool) (xs : List X)
+    → ((k : ℕ) (x : X) → slice_get xs k ≡ Some x → test x ≡ false) → find test xs ≡ None
+find-none test [] fails = refl
+find-none test (x ∷ xs) fails =
+    ap (λ (b : Bool). cond b (Some x) (find test xs)) (fails 0 x refl)
+    ∙ find-none test xs (λ k. fails (suc k))
+
+-- The first that passes is found.
+pub find-at : {X : Type 0} (test : X → Bool) (xs : List X) (n : ℕ) (x : X)
+    → ((k : ℕ) (y : X) → k < n → slice_get xs k ≡ Some y → test y ≡ false)
+    → slice_get xs n ≡ Some x → test x ≡ true → find test xs ≡ Some x
+find-at test [] n x fails at passes = absurd (cc at)
+find-at test (y ∷ ys) zero x fails at passes =
+    ap (λ (b : Bool). cond b (Some y) (find test ys)) (ap test (same_Some y x at) ∙ passes) ∙ at
+find-at test (y ∷ ys) (suc n) x fails at passes =
+    ap (λ (b : Bool). cond b (Some y) (find test ys)) (fails 0 y (omega arith) refl)
+    ∙ find-at test ys n x (λ k z less. fails (suc k) z (omega arith)) at passes

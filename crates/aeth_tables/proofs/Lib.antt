@@ -1,6 +1,6 @@
 pub mod ListLaws
 pub mod FindLaws
-mod FoundGrants
+mod SearchLaws
 pub mod SentLinks
 pub mod PortLaws
 mod CreditNeeds
@@ -17,3 +17,4 @@ pub mod GridLaws
 mod TextLaws
 mod GrantedLists
 mod ChangeLaws
+mod OwnRows

@@ -1,6 +1,11 @@
 -- Elements of lists, by their places and as they are contained.
-use Rattle.std.proofs.Common.{◌≡◌, ℕ, List, All, Contains, Some, slice_get, subst}
+use Rattle.std.proofs.Common.{◌≡◌, ◌∙◌, ◌<◌, ◌+◌, ◌++◌, ℕ, List, [], ◌∷◌, All, Contains, Some, get_or}
+use Rattle.std.proofs.Common.{length, slice_get, take, ap, subst, sym}
+use Rattle.std.specs.Prelude.{flat_map}
 use Rattle.std.specs.List.{AllByRecursion}
+use Rattle.std.proofs.lemmas.Grind.{flat_map-append}
+use Rattle.std.proofs.lemmas.List.{append-nil, take_more}
+use Rattle.std.proofs.lemmas.List.Concat.{flat_map-cons}
 use Rattle.std.proofs.lemmas.List.Elements.{All-from_recursion}
 use Rattle.std.proofs.lemmas.Option.{slice_get-get_or}
 pub use Rattle.aeth_base.proofs.Members.{Contains-slice_get as has_place}
@@ -20,3 +25,13 @@ all_has P xs x all (place, within, at) = subst P at (all place x within)
 pub all_has_by : {X : Type 0} (P : X → Type 0) (xs : List X) (x : X) → AllByRecursion P xs
     → Contains xs x → P x
 all_has_by P xs x all has = all_has P xs x (All-from_recursion P xs all) has
+
+-- What is given of one item more.
+pub flat_map-next : {X Y : Type 0} (f : X → List Y) (xs : List X) (i : ℕ) (x : X)
+    (before after : List Y) → i < length xs → x ≡ get_or xs i x → before ≡ flat_map f (take i xs)
+    → after ≡ before ++ f x → after ≡ flat_map f (take (i + 1) xs)
+flat_map-next f xs i x before after within at so_far more =
+    more ∙ ap (λ ys. ys ++ f x) so_far
+    ∙ sym (ap (flat_map f) (take_more xs i x within ∙ ap (λ y. take i xs ++ y ∷ []) (sym at))
+    ∙ flat_map-append f (take i xs) (x ∷ [])
+    ∙ ap (λ ys. flat_map f (take i xs) ++ ys) (flat_map-cons f x [] ∙ append-nil (f x)))

@@ -183,10 +183,10 @@ module _ (chip : ChipData) (app : AppData) (groups : GroupsData) (plan : PlanDat
 -- ---- Switch by switch
 
 -- The changes of a use case are those at its place.
-pub changes_are : (all : List (List Change)) (u : ℕ) (list one : List Change) → u < length all
-    → one ≡ get_or all u one → list ≡ one → list ≡ changes_at all u
-changes_are all u list one within at is =
-    is ∙ sym (get_or_from_slice_get all u one [] (slice_get-get_or all u one within
+pub changes_are : (all : List (List Change)) (u : ℕ) (one : List Change) → u < length all
+    → one ≡ get_or all u one → one ≡ changes_at all u
+changes_are all u one within at =
+    sym (get_or_from_slice_get all u one [] (slice_get-get_or all u one within
     ∙ ap (λ (xs : List Change). Some xs) (sym at)))
 
 -- One more span.

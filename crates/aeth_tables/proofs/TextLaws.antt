@@ -1,9 +1,11 @@
 -- Lines that are printed one after the other.
 use Rattle.std.proofs.Common.{◌≡◌, ◌∙◌, ◌+◌, ◌++◌, ℕ, List, [], ◌∷◌, All, append_assoc, sym, ap, arith}
 use Rattle.std.proofs.Common.{◌<◌, Bool, true, false, cond, add-one, drop, filter, get_or, length, map}
-use Rattle.std.proofs.Common.{zero-add}
+use Rattle.std.proofs.Common.{zero-add, refl}
 use Rattle.std.specs.Prelude.{flat_map}
-use Rattle.std.specs.List.{range_with_len}
+use Rattle.std.specs.Prelude.{◌||◌}
+use Rattle.std.specs.List.{list_any, range_with_len}
+use Rattle.std.proofs.lemmas.Bool.{false≢true}
 use Rattle.std.proofs.lemmas.Grind.{flat_map-append}
 use Rattle.std.proofs.lemmas.List.{append-nil, drop_more}
 use Rattle.std.proofs.lemmas.List.Elements.{All-cons, All-head, All-tail}
@@ -59,6 +61,10 @@ lines_more_of f name told rows own i start out new named same so_far more =
 
 -- ---- Rows that pass a test
 
+or_fails : (a b : Bool) → (a || b) ≡ false → (a ≡ false) × (b ≡ false)
+or_fails true b none = absurd (false≢true (sym none))
+or_fails false b none = (refl, none)
+
 module _ {X : Type 0} (test : X → Bool) (line : X → List ℕ) where
   -- The lines of those that pass.
   abbrev pub printed : List X → List ℕ
@@ -106,3 +112,27 @@ all_promised P (row ∷ rows) [] all = λ place default within. absurd (omega ar
 all_promised P (row ∷ rows) (shape ∷ shapes) all =
     All-cons (λ (one : PromisedRow). P one.row) (promised (row, shape)) (promised_of rows shapes)
     (All-head P row rows all) (all_promised P rows shapes (All-tail P row rows all))
+
+-- Where no row passes, none is printed.
+pub printed-none : {X : Type 0} (test : X → Bool) (line : X → List ℕ) (rows : List X)
+    → list_any test rows ≡ false → text_of_lines (map line (filter test rows)) ≡ []
+printed-none test line [] none = refl
+printed-none {X} test line (row ∷ rows) none =
+    let (here, later) = or_fails (test row) (list_any test rows) none in
+    ap (λ (b : Bool). text_of_lines (map line (cond b (row ∷ filter test rows) (filter test rows))))
+    here ∙ printed-none test line rows later
+
+-- A line, others, and a last one, as they are printed.
+pub text-all : (head last : List ℕ) (entries queues : List (List ℕ))
+    → text_of_lines (head ∷ (entries ++ (queues ++ last ∷ [])))
+    ≡ ((ended_line head ++ text_of_lines entries) ++ text_of_lines queues) ++ ended_line last
+text-all head last entries queues =
+    flat_map-cons ended_line head (entries ++ (queues ++ last ∷ []))
+    ∙ ap (λ text. ended_line head ++ text) (text-append entries (queues ++ last ∷ [])
+    ∙ ap (λ text. text_of_lines entries ++ text) (text-append queues (last ∷ [])
+    ∙ ap (λ text. text_of_lines queues ++ text) (flat_map-cons ended_line last []
+    ∙ append-nil (ended_line last))))
+    ∙ sym (append_assoc (ended_line head ++ text_of_lines entries) (text_of_lines queues)
+    (ended_line last)
+    ∙ append_assoc (ended_line head) (text_of_lines entries)
+    (text_of_lines queues ++ ended_line last))

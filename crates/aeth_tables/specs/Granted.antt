@@ -1,12 +1,11 @@
 -- The connections of a use case, each with the seats of its cores and the grants of its two sides.
 --
---   line_of, unit_in, is_in, grant_of, AreFound      the seats of cores, and the grants of units
+--   line_of, unit_in, grant_of      the seats of cores, and the grants of units
 --   Granted, granted_of, granted_in      a connection with seats and grants, and those of a use case
 --   sending_seat, receiving_seat, grant_on      the two sides of such a connection
 --   channels_of      the channels of a use case
 -- Connections with a channel each way: after Æthereal (2005). Seats: this project's own.
-use Rattle.std.specs.Prelude.{◌≡◌, ◌<◌, ℕ, ◌==◌, ◌&&◌, Bool, List, Option, Some, None}
-use Rattle.std.specs.Prelude.{filter, find, flat_map, length, slice_get}
+use Rattle.std.specs.Prelude.{ℕ, ◌==◌, List, Option, Some, None, filter, find, flat_map, slice_get}
 use Rattle.std.specs.Option.{option_and_then}
 use Rattle.std.specs.List.{filter_map, range_with_len}
 pub use Rattle.aeth_base.specs.Sides.{channels_with, other_side}
@@ -21,7 +20,7 @@ use Rattle.aeth_group.specs.Members.{GroupsData, group_at, has_at}
 use Rattle.aeth_group.specs.declared.grant.Grant.{Grant}
 use Rattle.aeth_group.specs.declared.grant.SeatLine.{SeatLine}
 use Rattle.aeth_plan.specs.Plan.{PlanData}
-use Rattle.aeth_check.specs.Channels.{is_for, same_side}
+use Rattle.aeth_check.specs.Channels.{is_for}
 use Rattle.aeth_tables.specs.declared.granted.GrantedConnection.{GrantedConnection}
 
 -- The line that seats a core, if one does.
@@ -32,18 +31,9 @@ line_of seats core = find (λ line. line.core.0 == core.0) seats
 abbrev pub unit_in : ℕ → ℕ → GroupUnit
 unit_in group conn = record { conn = record { 0 = conn }; group = record { 0 = group } }
 
--- Whether a grant is for a side in a group.
-abbrev pub is_in : ℕ → Side → Grant → Bool
-is_in group side grant = grant.unit.group.0 == group && same_side grant.side side
-
 -- The grant for a side of a unit, if it has one.
 abbrev pub grant_of : List Grant → Side → GroupUnit → Option Grant
 grant_of grants side unit = find (is_for unit side) grants
-
--- These are the grants of all connections for a side in a group, among some grants.
-abbrev pub AreFound : ℕ → Side → List Grant → List (Option Grant) → Type 0
-AreFound group side grants found = (conn : ℕ) → conn < length found
-    → slice_get found conn ≡ Some (grant_of grants side (unit_in group conn))
 
 -- A connection with its seats and grants.
 abbrev pub Granted : Type 0

@@ -2,14 +2,17 @@
 --
 --   promised_of      the rows, each with what its channel is promised
 --   rows_at      the rows of an interface
---   lines_of_slot, entries_at, entry_lines      the lines of entries
---   lines_of_queue, queues_at, queue_lines      the lines of queues
+--   list_at, AreOwn      a list for each interface
+--   lines_of_slot, entries_with, entries_at, entry_lines, listed_entries      the lines of entries
+--   lines_of_queue, queues_with, queues_at, queue_lines, listed_queues      the lines of queues
 --   table_text      the text
 --   HasTableOf, NamesConnection, IsRowOf, HasNumbers      what a row names
 --   IsPrintable      tables that can be printed
 -- This project's own.
 use Rattle.std.specs.Prelude.{◌≡◌, ◌<◌, ℕ, ◌==◌, List, [], ◌∷◌, ◌++◌, All, codes, filter, flat_map}
-use Rattle.std.specs.Prelude.{length, map}
+use Rattle.std.specs.Prelude.{length, map, None, Option, slice_get, Some}
+use Rattle.std.specs.declared.alloc.Global.{Global}
+use Rattle.std.specs.declared.vec.Vec.{Vec}
 use Rattle.std.specs.List.{range_with_len, zip}
 use Rattle.aeth_text.specs.Spelling.{text_of_lines}
 use Rattle.aeth_slots.specs.SlotSet.{has_slot}
@@ -42,6 +45,19 @@ promised_of rows shapes = map promised (zip rows shapes)
 abbrev pub rows_at : ℕ → List PromisedRow → List PromisedRow
 rows_at ni rows = filter (λ one. one.row.ni.0 == ni) rows
 
+-- The rows of a list that may be missing.
+abbrev pub rows_in_list : Option (Vec PromisedRow Global) → List PromisedRow
+rows_in_list None = []
+rows_in_list (Some list) = list.items
+
+-- Those of an interface, where these are the lists of all.
+abbrev pub list_at : List (Vec PromisedRow Global) → ℕ → List PromisedRow
+list_at lists ni = rows_in_list (slice_get lists ni)
+
+-- The lists of so many interfaces have the rows of each.
+abbrev pub AreOwn : ℕ → List PromisedRow → List (Vec PromisedRow Global) → Type 0
+AreOwn nis rows lists = (ni : ℕ) → ni < nis → list_at lists ni ≡ rows_at ni rows
+
 -- The lines of a slot, of these rows of an interface that has this name.
 abbrev pub lines_of_slot : List ℕ → List PromisedRow → ℕ → List (List ℕ)
 lines_of_slot name rows slot = map (λ one. entry_line name slot one.row.queue)
@@ -53,15 +69,23 @@ lines_of_queue app name rows queue =
     map (λ one. queue_line name (name_at (connection_names app) one.row.channel.conn.0) one)
     (filter (λ one. one.row.queue == queue) rows)
 
--- The `entry` lines of an interface, in the order of slots.
-abbrev pub entries_at : ChipData → List PromisedRow → ℕ → List (List ℕ)
-entries_at chip rows ni = flat_map (lines_of_slot (name_at chip.nis ni) (rows_at ni rows))
-    (range_with_len 0 chip.slots)
+-- The `entry` lines of an interface that has these rows, in the order of slots.
+abbrev pub entries_with : ChipData → List PromisedRow → ℕ → List (List ℕ)
+entries_with chip own ni =
+    flat_map (lines_of_slot (name_at chip.nis ni) own) (range_with_len 0 chip.slots)
 
--- The `queue` lines of an interface, in the order of queues.
-unfoldable pub queues_at : ChipData → AppData → List PromisedRow → ℕ → List (List ℕ)
-queues_at chip app rows ni = flat_map (lines_of_queue app (name_at chip.nis ni) (rows_at ni rows))
+-- Those of an interface.
+abbrev pub entries_at : ChipData → List PromisedRow → ℕ → List (List ℕ)
+entries_at chip rows ni = entries_with chip (rows_at ni rows) ni
+
+-- The `queue` lines of an interface that has these rows, in the order of queues.
+unfoldable pub queues_with : ChipData → AppData → List PromisedRow → ℕ → List (List ℕ)
+queues_with chip app own ni = flat_map (lines_of_queue app (name_at chip.nis ni) own)
     (range_with_len 0 queues_of_interface)
+
+-- Those of an interface.
+abbrev pub queues_at : ChipData → AppData → List PromisedRow → ℕ → List (List ℕ)
+queues_at chip app rows ni = queues_with chip app (rows_at ni rows) ni
 
 -- The `entry` lines, in the order of interfaces and slots.
 abbrev pub entry_lines : ChipData → List PromisedRow → List (List ℕ)
@@ -70,6 +94,15 @@ entry_lines chip rows = flat_map (entries_at chip rows) (range_with_len 0 (lengt
 -- The `queue` lines, in the order of interfaces and queues.
 abbrev pub queue_lines : ChipData → AppData → List PromisedRow → List (List ℕ)
 queue_lines chip app rows = flat_map (queues_at chip app rows) (range_with_len 0 (length chip.nis))
+
+-- The `entry` lines of the interfaces that have these lists, and the `queue` lines.
+abbrev pub listed_entries : ChipData → List (Vec PromisedRow Global) → List (List ℕ)
+listed_entries chip lists =
+    flat_map (λ ni. entries_with chip (list_at lists ni) ni) (range_with_len 0 (length chip.nis))
+
+abbrev pub listed_queues : ChipData → AppData → List (Vec PromisedRow Global) → List (List ℕ)
+listed_queues chip app lists =
+    flat_map (λ ni. queues_with chip app (list_at lists ni) ni) (range_with_len 0 (length chip.nis))
 
 -- The lines of these rows of a use case.
 abbrev pub lines_with : ChipData → AppData → ℕ → List PromisedRow → List (List ℕ)

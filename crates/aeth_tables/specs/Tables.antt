@@ -4,7 +4,7 @@
 --   queue_at      the queue number of a connection at a seat
 --   shape_on, row_on      of a channel
 --   rows_on, shapes_on      of the two channels of a connection
---   TablesData, tables_of      of all channels of a use case
+--   TablesData, tables_with, tables_of      of all channels of a use case
 -- Slot tables in network interfaces: after Æthereal (2005). Queue numbers and buffers: this
 -- project's own.
 use Rattle.std.specs.Prelude.{ℕ, List, [], ◌∷◌, flat_map}
@@ -70,10 +70,14 @@ pub record TablesData : Type 0 where
   pub rows : List ChannelRow
   pub shapes : List ChannelShape
 
+-- The tables of a use case that has these connections.
+abbrev pub tables_with : ChipData → AppData → UseId → List GrantedConnection → TablesData
+tables_with chip app u connections = record {
+  uses = u;
+  rows = flat_map (rows_on chip app) connections;
+  shapes = flat_map (shapes_on chip app) connections;
+}
+
 -- The tables of a use case by a plan.
 unfoldable pub tables_of : ChipData → AppData → GroupsData → PlanData → UseId → TablesData
-tables_of chip app groups plan u = record {
-  uses = u;
-  rows = flat_map (rows_on chip app) (granted_in app groups plan u.0);
-  shapes = flat_map (shapes_on chip app) (granted_in app groups plan u.0);
-}
+tables_of chip app groups plan u = tables_with chip app u (granted_in app groups plan u.0)

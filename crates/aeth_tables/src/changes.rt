@@ -2,7 +2,8 @@
 ghost use Rattle.aeth_app.specs.Limits.{max_connections};
 ghost use Rattle.aeth_group.specs.Members.{groups_of};
 ghost use Rattle.aeth_plan.specs.Plan.{IsPlanOf};
-ghost use Rattle.aeth_tables.specs.Changes.{AreFew, HasPaths, change_of, most_writes};
+ghost use Rattle.aeth_tables.specs.Changes.{AreFew, HasPaths, change_of, lag_in, most_writes};
+ghost use Rattle.aeth_tables.specs.Changes.{writes_in};
 ghost use Rattle.aeth_tables.specs.Granted.{granted_in};
 ghost use Rattle.std.specs.List.{range_with_len};
 ghost use Rattle.std.specs.Prelude.{◌≡◌, ◌<◌, ◌≤◌, All, IfOk, length, map};
@@ -25,22 +26,26 @@ pub(crate) struct Change {
     pub writes: u32,
 }
 
-/// What the connections of a use case add.
+/// What the connections of a use case add, one by one and all together.
 #[derive(Drop)]
 pub(crate) struct Changes {
     list: Vec<Change>,
+    lag: u32,
+    writes: u32,
 }
 
 impl Model for Changes {
-    ghost use Rattle.aeth_tables.specs.Changes.{AreFew};
+    ghost use Rattle.aeth_tables.specs.Changes.{AreFew, lag_in, writes_in};
     ghost use Rattle.aeth_tables.specs.declared.changes.Change.{Change};
-    ghost use Rattle.std.specs.Prelude.{List};
+    ghost use Rattle.std.specs.Prelude.{◌≡◌, List};
 
     ghost Value = { List Change };
 
     ghost view = { λ changes. changes.list.items };
 
-    ghost invariant = { λ changes. AreFew changes.list.items };
+    ghost invariant = { λ changes. AreFew changes.list.items
+        × (changes.lag ≡ lag_in changes.list.items)
+        × (changes.writes ≡ writes_in changes.list.items) };
 }
 
 impl Changes {
@@ -50,6 +55,21 @@ impl Changes {
         ensures few { AreFew self.now }
     {
         &self.list
+    }
+
+    /// The greatest lag of all.
+    pub fn lag(&self) -> u32
+        ensures { result ≡ lag_in self.now }
+    {
+        self.lag
+    }
+
+    /// The writes of all.
+    pub fn writes(&self) -> u32
+        ensures writes { result ≡ writes_in self.now }
+        ensures few { AreFew self.now }
+    {
+        self.writes
     }
 }
 
@@ -79,10 +99,15 @@ fn changes_with(
     ensures { IfOk result (λ changes. changes ≡ map (change_of chip.now) connections.now) }
 {
     let mut list = Vec::new(alloc);
+    let mut lag = 0;
+    let mut writes = 0;
     for one in connections {
-        list.push(change_of(chip, one))?;
+        let change = change_of(chip, one);
+        lag = lag.max(change.lag);
+        writes += change.writes;
+        list.push(change)?;
     }
-    Ok(Changes { list })
+    Ok(Changes { list, lag, writes })
 }
 
 /// What the connections of a use case add.

@@ -4,6 +4,7 @@
 
 mod changes;
 mod entries;
+mod finding;
 mod granted;
 pub mod laws;
 mod lines;

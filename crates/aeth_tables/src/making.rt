@@ -7,7 +7,7 @@ ghost use Rattle.aeth_tables.specs.Tables.{tables_of};
 ghost use Rattle.std.specs.Prelude.{◌≡◌, ◌<◌, IfOk, length};
 
 use crate::granted::granted_in;
-use crate::rows::{rows_in, shapes_in};
+use crate::rows::tables_with;
 use crate::table::Tables;
 use aeth_app::App;
 use aeth_base::{NoMemory, UseId};
@@ -37,11 +37,5 @@ pub fn tables(
     let _chip_slots = chip.slots();
     let _app_slots = app.slots();
     let connections = granted_in(alloc, app, groups, plan, u)?;
-    let rows = rows_in(alloc, chip, app, &connections)?;
-    let shapes = shapes_in(alloc, chip, app, &connections)?;
-    Ok(Tables {
-        uses: u,
-        rows,
-        shapes,
-    })
+    tables_with(alloc, chip, app, u, &connections)
 }

@@ -9,7 +9,7 @@ ghost use Rattle.std.specs.Prelude.{◌≡◌, ◌<◌, ◌++◌, All, IfOk, OnO
 
 use crate::entries::push_entries;
 use crate::lines::push_head;
-use crate::promised::{PromisedRow, promised_of};
+use crate::promised::{PromisedRow, promised_of, rows_by_interface};
 use crate::queues::push_queues;
 use crate::table::Tables;
 use aeth_app::App;
@@ -41,10 +41,11 @@ fn text_of_rows(
     ensures { IfOk result (λ text. text.items
         ≡ text_of_lines (lines_with chip.now app.now u.0 rows.now)) }
 {
+    let lists = rows_by_interface(alloc, rows, chip.nis())?;
     let mut out = Vec::new(alloc);
     push_use(&mut out, app, u)?;
-    push_entries(alloc, &mut out, chip, rows)?;
-    push_queues(alloc, &mut out, chip, app, rows)?;
+    push_entries(&mut out, chip, &lists)?;
+    push_queues(&mut out, chip, app, &lists)?;
     out.extend_from_slice(b"end\n")?;
     Ok(out)
 }

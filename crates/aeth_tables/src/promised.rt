@@ -1,9 +1,9 @@
 // Rows with what their channels are promised.
 ghost use Rattle.aeth_server.specs.ChannelShape.{IsShapeInRange};
-ghost use Rattle.aeth_tables.specs.TableText.{promised, promised_of, rows_at};
-ghost use Rattle.std.specs.Prelude.{◌≡◌, All, IfOk, length};
+ghost use Rattle.aeth_tables.specs.TableText.{AreOwn, list_at, promised, promised_of, rows_at};
+ghost use Rattle.std.specs.Prelude.{◌≡◌, ◌<◌, ◌++◌, ◌∷◌, [], ℕ, All, IfOk, length};
 
-use aeth_base::{NiId, NoMemory};
+use aeth_base::NoMemory;
 use aeth_ni::ChannelRow;
 use aeth_server::ChannelShape;
 use std::alloc::Global;
@@ -46,19 +46,43 @@ pub(crate) fn promised_of(
     Ok(all)
 }
 
-/// The rows of an interface.
-pub(crate) fn rows_at(
+/// No rows for each of so many interfaces.
+fn no_rows(alloc: Global, nis: u32) -> Result<Vec<Vec<PromisedRow>>, NoMemory>
+    ensures size { IfOk result (λ lists. length lists.items ≡ nis) }
+    ensures empty { IfOk result (λ lists. (ni : ℕ) → list_at lists.items ni ≡ []) }
+{
+    let mut lists = Vec::new(alloc);
+    for _ni in 0..nis {
+        lists.push(Vec::new(alloc))?;
+    }
+    Ok(lists)
+}
+
+/// Puts a row at the end of those of its interface, where there is a list for it.
+fn put_row(lists: &mut Vec<Vec<PromisedRow>>, one: &PromisedRow) -> Result<(), NoMemory>
+    ensures size { length lists.new.items ≡ length lists.old.items }
+    ensures rows { IfOk result (λ _. (ni : ℕ) → ni < length lists.old.items
+        → list_at lists.new.items ni ≡ list_at lists.old.items ni ++ rows_at ni (one.now ∷ [])) }
+{
+    let place = one.row.ni.0 as usize;
+    if place < lists.len() {
+        lists[place].push(*one)?;
+    }
+    Ok(())
+}
+
+/// The rows of each of so many interfaces.
+pub(crate) fn rows_by_interface(
     alloc: Global,
     rows: &[PromisedRow],
-    ni: NiId,
-) -> Result<Vec<PromisedRow>, NoMemory>
-    ensures { IfOk result (λ own. own.items ≡ rows_at ni.0 rows.now) }
+    nis: u32,
+) -> Result<Vec<Vec<PromisedRow>>, NoMemory>
+    ensures size { IfOk result (λ lists. length lists.items ≡ nis) }
+    ensures own { IfOk result (λ lists. AreOwn nis rows.now lists.items) }
 {
-    let mut own = Vec::new(alloc);
+    let mut lists = no_rows(alloc, nis)?;
     for one in rows {
-        if one.row.ni.0 == ni.0 {
-            own.push(*one)?;
-        }
+        put_row(&mut lists, one)?;
     }
-    Ok(own)
+    Ok(lists)
 }

@@ -1,18 +1,17 @@
 // The lines of queues, in the order of interfaces and queues.
 ghost use Rattle.aeth_plan.specs.Plan.{connection_names, name_at};
 ghost use Rattle.aeth_tables.specs.Lines.{queue_line};
-ghost use Rattle.aeth_tables.specs.TableText.{NamesConnection, lines_of_queue, queue_lines};
-ghost use Rattle.aeth_tables.specs.TableText.{queues_at};
+ghost use Rattle.aeth_tables.specs.TableText.{NamesConnection, lines_of_queue, list_at};
+ghost use Rattle.aeth_tables.specs.TableText.{listed_queues, queues_with};
 ghost use Rattle.aeth_text.specs.Spelling.{ended_line, text_of_lines};
-ghost use Rattle.std.specs.Prelude.{◌≡◌, ◌<◌, ◌++◌, All, OnOk, length};
+ghost use Rattle.std.specs.Prelude.{◌≡◌, ◌<◌, ◌++◌, ℕ, All, OnOk, length};
 
 use crate::lines::push_queue;
-use crate::promised::{PromisedRow, rows_at};
+use crate::promised::PromisedRow;
 use aeth_app::App;
 use aeth_base::{NiId, NoMemory};
 use aeth_chip::Chip;
 use aeth_ni::QUEUES_OF_INTERFACE;
-use std::alloc::Global;
 
 /// Appends the line of a row, of an interface that has this name.
 fn push_row(out: &mut Vec<u8>, app: &App, name: &[u8], one: &PromisedRow) -> Result<(), NoMemory>
@@ -44,42 +43,40 @@ fn push_queue_of(
     Ok(())
 }
 
-/// Appends the lines of the queues of an interface.
+/// Appends the lines of the queues of an interface that has these rows.
 fn push_queues_at(
-    alloc: Global,
     out: &mut Vec<u8>,
     chip: &Chip,
     app: &App,
-    rows: &[PromisedRow],
+    own: &[PromisedRow],
     ni: NiId,
 ) -> Result<(), NoMemory>
     requires ni { ni.0 < length chip.now.nis }
-    requires rows { All (NamesConnection app.now) rows.now }
+    requires rows { All (NamesConnection app.now) own.now }
     ensures { OnOk result (out.new.items
-        ≡ out.old.items ++ text_of_lines (queues_at chip.now app.now rows.now ni.0)) }
+        ≡ out.old.items ++ text_of_lines (queues_with chip.now app.now own.now ni.0)) }
 {
-    let own = rows_at(alloc, rows, ni)?;
     let name = chip.ni_name(ni);
     for queue in 0..QUEUES_OF_INTERFACE as u32 {
-        push_queue_of(out, app, name.as_bytes(), &own, queue)?;
+        push_queue_of(out, app, name.as_bytes(), own, queue)?;
     }
     Ok(())
 }
 
-/// Appends the lines of all queues.
+/// Appends the lines of all queues, of interfaces that have these lists of rows.
 pub(crate) fn push_queues(
-    alloc: Global,
     out: &mut Vec<u8>,
     chip: &Chip,
     app: &App,
-    rows: &[PromisedRow],
+    lists: &[Vec<PromisedRow>],
 ) -> Result<(), NoMemory>
-    requires { All (NamesConnection app.now) rows.now }
+    requires count { length lists.now ≡ length chip.now.nis }
+    requires rows { (ni : ℕ) → ni < length chip.now.nis → All (NamesConnection app.now) (list_at lists.now ni) }
     ensures { OnOk result (out.new.items
-        ≡ out.old.items ++ text_of_lines (queue_lines chip.now app.now rows.now)) }
+        ≡ out.old.items ++ text_of_lines (listed_queues chip.now app.now lists.now)) }
 {
     for ni in 0..chip.nis() {
-        push_queues_at(alloc, out, chip, app, rows, NiId(ni))?;
+        push_queues_at(out, chip, app, &lists[ni as usize], NiId(ni))?;
     }
     Ok(())
 }

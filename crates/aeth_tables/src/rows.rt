@@ -4,12 +4,15 @@ ghost use Rattle.aeth_app.specs.Limits.{seats_per_ni};
 ghost use Rattle.aeth_chip.specs.Chip.{IsChip};
 ghost use Rattle.aeth_tables.specs.Reserved.{IsReserved};
 ghost use Rattle.aeth_tables.specs.Tables.{queue_at, row_on, rows_on, shape_on, shapes_on};
-ghost use Rattle.std.specs.Prelude.{◌≡◌, ◌<◌, All, IfOk, IsSomeAnd, IsTrue, flat_map, slice_get};
+ghost use Rattle.aeth_tables.specs.Tables.{tables_with};
+ghost use Rattle.std.specs.Prelude.{◌≡◌, ◌<◌, ◌++◌, ◌∷◌, [], All, IfOk, IsSomeAnd, IsTrue, OnOk};
+ghost use Rattle.std.specs.Prelude.{slice_get};
 
 use crate::granted::{GrantedConnection, other_side};
 use crate::route::route_along;
+use crate::table::Tables;
 use aeth_app::{App, MAX_CORE_CONNECTIONS};
-use aeth_base::{Channel, ConnId, NoMemory, Side};
+use aeth_base::{Channel, ConnId, NoMemory, Side, UseId};
 use aeth_chip::Chip;
 use aeth_group::SeatLine;
 use aeth_ni::ChannelRow;
@@ -47,11 +50,18 @@ fn shape_on(chip: &Chip, app: &App, granted: &GrantedConnection, side: Side) -> 
     }
 }
 
-/// The row of the channel of a side, at its sending interface.
-fn row_on(chip: &Chip, app: &App, granted: &GrantedConnection, side: Side) -> ChannelRow
+/// The row of the channel of a side that has this shape, at its sending interface.
+fn row_on(
+    chip: &Chip,
+    app: &App,
+    granted: &GrantedConnection,
+    side: Side,
+    shape: &ChannelShape,
+) -> ChannelRow
     requires chip { IsChip chip.now }
     requires app { IsApp app.now }
     requires granted { IsReserved chip.now app.now granted.now }
+    requires shape { shape.now ≡ shape_on chip.now app.now granted.now side }
     ensures { result ≡ row_on chip.now app.now granted.now side }
 {
     let grant = granted.grant_on(side);
@@ -67,46 +77,75 @@ fn row_on(chip: &Chip, app: &App, granted: &GrantedConnection, side: Side) -> Ch
         slots: grant.slots,
         route: route_along(chip, &grant.path),
         remote: queue_at(app, granted.conn, &receiver),
-        credits: buffer(&shape_on(chip, app, granted, side)),
+        credits: buffer(shape),
     }
 }
 
-/// The rows of the channels of some connections.
-pub(crate) fn rows_in(
+/// Appends the row and the shape of the channel of a side.
+fn push_channel(
+    rows: &mut Vec<ChannelRow>,
+    shapes: &mut Vec<ChannelShape>,
+    chip: &Chip,
+    app: &App,
+    granted: &GrantedConnection,
+    side: Side,
+) -> Result<(), NoMemory>
+    requires chip { IsChip chip.now }
+    requires app { IsApp app.now }
+    requires granted { IsReserved chip.now app.now granted.now }
+    ensures rows { OnOk result (rows.new.items
+        ≡ rows.old.items ++ row_on chip.now app.now granted.now side ∷ []) }
+    ensures shapes { OnOk result (shapes.new.items
+        ≡ shapes.old.items ++ shape_on chip.now app.now granted.now side ∷ []) }
+{
+    let shape = shape_on(chip, app, granted, side);
+    rows.push(row_on(chip, app, granted, side, &shape))?;
+    shapes.push(shape)?;
+    Ok(())
+}
+
+/// Appends the rows and the shapes of the two channels of a connection.
+fn push_connection(
+    rows: &mut Vec<ChannelRow>,
+    shapes: &mut Vec<ChannelShape>,
+    chip: &Chip,
+    app: &App,
+    granted: &GrantedConnection,
+) -> Result<(), NoMemory>
+    requires chip { IsChip chip.now }
+    requires app { IsApp app.now }
+    requires granted { IsReserved chip.now app.now granted.now }
+    ensures rows { OnOk result (rows.new.items
+        ≡ rows.old.items ++ rows_on chip.now app.now granted.now) }
+    ensures shapes { OnOk result (shapes.new.items
+        ≡ shapes.old.items ++ shapes_on chip.now app.now granted.now) }
+{
+    push_channel(rows, shapes, chip, app, granted, Side::Fwd)?;
+    push_channel(rows, shapes, chip, app, granted, Side::Back)
+}
+
+/// The tables of a use case that has these connections.
+pub(crate) fn tables_with(
     alloc: Global,
     chip: &Chip,
     app: &App,
+    u: UseId,
     connections: &[GrantedConnection],
-) -> Result<Vec<ChannelRow>, NoMemory>
+) -> Result<Tables, NoMemory>
     requires chip { IsChip chip.now }
     requires app { IsApp app.now }
     requires connections { All (IsReserved chip.now app.now) connections.now }
-    ensures { IfOk result (λ rows. rows.items
-        ≡ flat_map (rows_on chip.now app.now) connections.now) }
+    ensures { IfOk result (λ tables. tables
+        ≡ tables_with chip.now app.now u connections.now) }
 {
     let mut rows = Vec::new(alloc);
-    for granted in connections {
-        rows.push(row_on(chip, app, granted, Side::Fwd))?;
-        rows.push(row_on(chip, app, granted, Side::Back))?;
-    }
-    Ok(rows)
-}
-
-/// The shapes of the channels of some connections.
-pub(crate) fn shapes_in(
-    alloc: Global,
-    chip: &Chip,
-    app: &App,
-    connections: &[GrantedConnection],
-) -> Result<Vec<ChannelShape>, NoMemory>
-    requires { All (IsReserved chip.now app.now) connections.now }
-    ensures { IfOk result (λ shapes. shapes.items
-        ≡ flat_map (shapes_on chip.now app.now) connections.now) }
-{
     let mut shapes = Vec::new(alloc);
     for granted in connections {
-        shapes.push(shape_on(chip, app, granted, Side::Fwd))?;
-        shapes.push(shape_on(chip, app, granted, Side::Back))?;
+        push_connection(&mut rows, &mut shapes, chip, app, granted)?;
     }
-    Ok(shapes)
+    Ok(Tables {
+        uses: u,
+        rows,
+        shapes,
+    })
 }

@@ -50,22 +50,19 @@ fn writes_in(groups: &Groups, u: UseId, v: UseId, changes: &[Change]) -> u32
 }
 
 /// The span of a switch, by the changes of the use case that is left, and of the one that is entered.
-fn span_in(
-    groups: &Groups,
-    u: UseId,
-    v: UseId,
-    closing: &[Change],
-    opening: &[Change],
-) -> (u32, u32)
+/// A switch between two groups makes all of them.
+fn span_in(groups: &Groups, u: UseId, v: UseId, closing: &Changes, opening: &Changes) -> (u32, u32)
     requires u { u.0 < length groups.now.uses }
     requires v { v.0 < length groups.now.uses }
-    requires closing { AreFew closing.now }
-    requires opening { AreFew opening.now }
     ensures { result ≡ span_in groups.now u.0 v.0 closing.now opening.now }
 {
-    let lag = lag_in(groups, u, v, closing);
-    let writes = writes_in(groups, u, v, closing) + writes_in(groups, u, v, opening);
-    (lag, writes)
+    if groups.group_of(u).0 != groups.group_of(v).0 {
+        return (closing.lag(), closing.writes() + opening.writes());
+    }
+    let lag = lag_in(groups, u, v, closing.list());
+    let closed = writes_in(groups, u, v, closing.list());
+    let opened = writes_in(groups, u, v, opening.list());
+    (lag, closed + opened)
 }
 
 /// Appends the spans of all switches from a use case.
@@ -80,9 +77,9 @@ fn push_spans(
     ensures { OnOk result (pairs.new.items
         ≡ pairs.old.items ++ spans_in groups.now all.now u.0) }
 {
-    let closing = all[u.0 as usize].list();
+    let closing = &all[u.0 as usize];
     for v in 0..groups.uses() {
-        let opening = all[v as usize].list();
+        let opening = &all[v as usize];
         pairs.push(span_in(groups, u, UseId(v), closing, opening))?;
     }
     Ok(())

@@ -1,13 +1,16 @@
-use Rattle.std.proofs.Common.{◌∙◌, ◌≤◌, ◌++◌, ◌∷◌, [], length, map, take, sym, ap, subst, arith, All}
+use Rattle.std.proofs.Common.{◌∙◌, ◌≤◌, ◌+◌, ◌++◌, ◌∷◌, [], ℕ, length, map, max, take, sym, ap, subst}
+use Rattle.std.proofs.Common.{arith, All}
+use Rattle.aeth_base.proofs.ExtremeLemmas.{ord_max-nat}
 use Rattle.std.proofs.lemmas.List.{length-map, length-take, map-append, take_more}
 use Rattle.std.proofs.lemmas.List.Elements.{All-push}
-use Rattle.aeth_tables.specs.Changes.{HasPaths, change_of, most_writes}
+use Rattle.aeth_tables.specs.Changes.{HasPaths, change_of, lag_in, most_writes, writes_in}
 use Rattle.aeth_tables.specs.declared.changes.Change.{Change}
 use Rattle.aeth_tables.specs.declared.granted.GrantedConnection.{GrantedConnection}
+use Rattle.aeth_tables.proofs.ChangeLaws.{lag_in-push, writes_in-push}
 use Rattle.aeth_tables.proofs.changes.changes_with.Goals as goal
 
-pub change_of-requires : goal.change_of-requires
-change_of-requires c =
+pub change_of-change-requires : goal.change_of-change-requires
+change_of-change-requires c =
     subst (λ (g : GrantedConnection). HasPaths c.args.chip.now g) (sym c.one-item.is)
     (c.requires.paths c.loop-one.one-index c.one-item.result c.loop-one-test.true)
 
@@ -21,12 +24,18 @@ loop-one-preserved c =
     let next = take_more connections i one c.loop-one-test.true
     ∙ ap (λ (g : GrantedConnection). take i connections ++ g ∷ []) (sym c.one-item.is) in
     let items = c.in_ok-push.ensures.items in record {
-      changes = items ∙ ap (λ xs. xs ++ c.change_of.result ∷ []) c.loop-one.invariant.changes
-          ∙ ap (λ (x : Change). map change (take i connections) ++ x ∷ []) c.change_of.ensures.change
+      changes = items ∙ ap (λ xs. xs ++ c.change_of-change.result ∷ []) c.loop-one.invariant.changes
+          ∙ ap (λ (x : Change). map change (take i connections) ++ x ∷ []) c.change_of-change.ensures.change
           ∙ sym (ap (map change) next ∙ map-append change (take i connections) (one ∷ []));
       few = subst (λ xs. All (λ (x : Change). x.writes ≤ most_writes) xs) (sym items)
           (All-push (λ (x : Change). x.writes ≤ most_writes) c.loop-one.list.items
-          c.change_of.result c.loop-one.invariant.few c.change_of.ensures.few);
+          c.change_of-change.result c.loop-one.invariant.few c.change_of-change.ensures.few);
+      lag = c.max-lag.ensures ∙ ord_max-nat c.loop-one.lag _
+          ∙ ap (λ (n : ℕ). max n c.change_of-change.result.lag) c.loop-one.invariant.lag
+          ∙ sym (ap lag_in items ∙ lag_in-push c.loop-one.list.items c.change_of-change.result);
+      writes = ap (λ (n : ℕ). n + c.change_of-change.result.writes) c.loop-one.invariant.writes
+          ∙ sym (ap writes_in items ∙ writes_in-push c.loop-one.list.items c.change_of-change.result);
+      most = omega (arith, c.loop-one.invariant.most, c.change_of-change.ensures.few);
     }
 
 -- There are as many as connections.
@@ -34,7 +43,11 @@ pub invariant_of-result : goal.invariant_of-result
 invariant_of-result c =
     let connections = c.args.connections.now in
     let size = ap length c.loop-one.invariant.changes
-    ∙ length-map (take c.loop-one.one-index connections) (change_of c.args.chip.now) in record {
-      count = omega (arith, size, length-take c.loop-one.one-index connections, c.requires.count);
-      each = c.loop-one.invariant.few;
-    }
+    ∙ length-map (take c.loop-one.one-index connections) (change_of c.args.chip.now) in (
+      record {
+        count = omega (arith, size, length-take c.loop-one.one-index connections, c.requires.count);
+        each = c.loop-one.invariant.few;
+      },
+      c.loop-one.invariant.lag,
+      c.loop-one.invariant.writes,
+    )

@@ -24,6 +24,6 @@ route_along-requires-clause-sent c =
 -- The shape is in its range.
 pub buffer-requires : goal.buffer-requires
 buffer-requires c =
-    subst (λ (shape : ChannelShape). IsShapeInRange shape) (sym c.shape_on.ensures)
+    subst (λ (shape : ChannelShape). IsShapeInRange shape) (sym c.requires.shape)
     (shape_in_range c.args.chip.now c.args.app.now c.requires.chip c.requires.app
     c.args.granted.now c.requires.granted c.args.side)
