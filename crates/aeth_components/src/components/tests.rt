@@ -1,4 +1,5 @@
-// What no clause says: that words land where flits bring them, in their worked cycles.
+// What no clause says: that words land where flits bring them, in their worked cycles, by routers that
+// read headers and by routers that look a table up.
 ghost use Rattle.std.specs.Prelude.{◌≡◌, ◌≤◌, IfSome, None, Some, length, replicate, slice_get};
 ghost use Rattle.aeth_base.specs.Limits.{max_cycles};
 ghost use Rattle.aeth_components.specs.Components.{frames_of};
@@ -10,11 +11,11 @@ use super::Components;
 use crate::event::Event;
 use crate::lane::{ChannelEnd, Lane};
 use crate::making::RouterKind;
-use aeth_base::{NiId, RouterId};
+use aeth_base::{LinkId, NiId, RouterId};
 use aeth_chip::{Chip, read_chip};
 use aeth_clocked::Order;
 use aeth_ni::{QUEUES_OF_INTERFACE, Write};
-use aeth_router::{Part, Router};
+use aeth_router::{Part, Router, TableRouter};
 use std::alloc::Global;
 use std::test::*;
 
@@ -144,6 +145,77 @@ fn lose(alloc: Global, chip: &Chip, pair: &mut Components) -> bool
     }
 }
 
+// A router with a table that holds nothing in place of the router `r0`.
+fn put_table_router(pair: &mut Components, router: TableRouter)
+    requires frame { slice_get (frames_of pair.old) 2
+        ≡ Some (RouterFrame router.incoming router.outgoing) }
+    requires none { router.held ≡ replicate (length router.incoming) None }
+    ensures { frames_of pair.new ≡ frames_of pair.old }
+{
+    pair.parts[2] = Part::TableRouter(router);
+}
+
+// The router sends on to the other in a slot what comes from its interface, if it can have such an
+// entry: it holds nothing, and its wires are as before.
+fn with_entry(router: TableRouter, slot: u32) -> Option<TableRouter>
+    requires { router.held ≡ replicate (length router.incoming) None }
+    ensures incoming { IfSome result (λ now. now.incoming ≡ router.incoming) }
+    ensures outgoing { IfSome result (λ now. now.outgoing ≡ router.outgoing) }
+    ensures none { IfSome result (λ now. now.held ≡ replicate (length now.incoming) None) }
+{
+    let mut router = router;
+    if !router.can_set(1, slot, Some(LinkId(0))) {
+        return None;
+    }
+    router.set(1, slot, Some(LinkId(0)));
+    Some(router)
+}
+
+// The router `r0` with a table for the channel, which holds nothing.
+fn table_router(alloc: Global, chip: &Chip) -> Option<TableRouter>
+    ensures frame { IfSome result (λ router. RouterFrame router.incoming router.outgoing
+        ≡ frame_of (made_router chip.now ByHeader 0)) }
+    ensures none { IfSome result (λ router. router.held
+        ≡ replicate (length router.incoming) None) }
+{
+    let router = TableRouter::new(alloc, chip, RouterId(0)).ok()?;
+    let router = with_entry(router, 1)?;
+    with_entry(router, 5)
+}
+
+// The router `r0` becomes a fresh one with a table, and so loses the flit that it holds.
+fn put_table(alloc: Global, chip: &Chip, pair: &mut Components) -> bool
+    requires { slice_get (frames_of pair.old) 2
+        ≡ Some (frame_of (made_router chip.now ByHeader 0)) }
+    ensures { frames_of pair.new ≡ frames_of pair.old }
+{
+    match table_router(alloc, chip) {
+        Some(router) => {
+            put_table_router(pair, router);
+            true
+        }
+        None => false,
+    }
+}
+
+// 20 cycles with a table in the router `r0`. Before cycle 5 a flit is lost, as a fresh router with the
+// same entries comes in its place.
+fn carry_by_table(alloc: Global, chip: &Chip, pair: &mut Components) -> bool
+    requires { slice_get (frames_of pair.old) 2
+        ≡ Some (frame_of (made_router chip.now ByHeader 0)) }
+{
+    if !put_table(alloc, chip, pair) {
+        return false;
+    }
+    if !played(alloc, pair, 0, 5) {
+        return false;
+    }
+    if !put_table(alloc, chip, pair) {
+        return false;
+    }
+    played(alloc, pair, 5, 20)
+}
+
 // 20 cycles. Before cycle 5 a flit is lost.
 fn carry(alloc: Global, chip: &Chip, pair: &mut Components) -> bool
     requires { slice_get (frames_of pair.old) 2
@@ -159,20 +231,25 @@ fn carry(alloc: Global, chip: &Chip, pair: &mut Components) -> bool
 }
 
 // The words that were received after these.
-fn received_on(alloc: Global, chip: &Chip) -> Option<[Option<u32>; 4]> {
+fn received_on(alloc: Global, chip: &Chip, by_table: bool) -> Option<[Option<u32>; 4]> {
     if chip.nis() != 2 || chip.routers() != 2 || chip.slots() != 8 {
         return None;
     }
     let mut pair = pair_of(alloc, chip)?;
-    if carry(alloc, chip, &mut pair) {
+    let is_carried = if by_table {
+        carry_by_table(alloc, chip, &mut pair)
+    } else {
+        carry(alloc, chip, &mut pair)
+    };
+    if is_carried {
         return Some(words_in(pair));
     }
     None
 }
 
-fn received(alloc: Global) -> Option<[Option<u32>; 4]> {
+fn received(alloc: Global, by_table: bool) -> Option<[Option<u32>; 4]> {
     let chip = read_chip(alloc, PAIR.as_bytes()).ok()?;
-    received_on(alloc, &chip)
+    received_on(alloc, &chip, by_table)
 }
 
 // The two words of the lost flit, which are the first two, don't land: the receive queue has the
@@ -180,5 +257,12 @@ fn received(alloc: Global) -> Option<[Option<u32>; 4]> {
 #[test]
 fn parts_carry_the_words(rt: HostRuntime) {
     let words = [Some(102), Some(103), Some(104), None];
-    assert_eq!(rt; received(rt.alloc()), Some(words));
+    assert_eq!(rt; received(rt.alloc(), false), Some(words));
+}
+
+// The same where the router looks a table up.
+#[test]
+fn tables_carry_the_words(rt: HostRuntime) {
+    let words = [Some(102), Some(103), Some(104), None];
+    assert_eq!(rt; received(rt.alloc(), true), Some(words));
 }
