@@ -1,12 +1,11 @@
 -- The first candidate as a function is the first candidate as a fact.
 use Rattle.std.proofs.Common.{◌≡◌, ◌∙◌, ℕ, Bool, true, false, List, [], ◌∷◌, Contains}
 use Rattle.std.proofs.Common.{Option, Some, None, get_or, filter, refl, sym, ap, subst}
-use Rattle.std.proofs.Common.{inl, inr, cond, eqb}
+use Rattle.std.proofs.Common.{inl, inr, cond}
 use Rattle.std.specs.List.{best_of, flat_map}
 use Rattle.std.specs.declared.cmp.Ordering.{Ordering}
 use Rattle.std.specs.Ordering.{is_lt, on}
 use Rattle.std.specs.Cmp.{IsTotalOrder}
-use Rattle.std.proofs.lemmas.Bool.{and_parts, eqb-true, false_from_ne_true}
 use Rattle.std.proofs.lemmas.Cmp.{on_total}
 use Rattle.std.proofs.lemmas.List.{get_or_default}
 use Rattle.std.proofs.lemmas.List.Elements.{Contains-get_or}
@@ -18,24 +17,21 @@ use Rattle.aeth_base.proofs.Members.{filter-Contains, flat_map-Contains}
 use Rattle.aeth_base.specs.declared.ids.LinkId.{LinkId}
 use Rattle.aeth_base.specs.declared.ids.NiId.{NiId}
 use Rattle.aeth_slots.specs.Choice.{first_by}
-use Rattle.aeth_slots.specs.SlotSet.{IsSlotSet, Slots}
-use Rattle.aeth_slots.proofs.ChoiceLemmas.{chosen-whole, true-is_suitable}
-use Rattle.aeth_slots.proofs.TestLemmas.{Ascends-where}
+use Rattle.aeth_slots.specs.SlotSet.{Slots}
 use Rattle.aeth_chip.specs.Chip.{ChipData, IsChip}
 use Rattle.aeth_chip.specs.Paths.{IsAdmissible}
-use Rattle.aeth_group.proofs.ListLemmas.{passes_from_any}
 use Rattle.aeth_book.specs.Book.{BookData, IsBook}
-use Rattle.aeth_book.specs.Free.{free_starts, is_open}
 use Rattle.aeth_check.specs.Routes.{is_admissible}
 use Rattle.aeth_check.proofs.RouteLaws.{is_admissible-Decides}
-use Rattle.aeth_paths.specs.Candidates.{IsCandidate, IsFirst, gap_on, is_live, link_cost, path_order}
+use Rattle.aeth_paths.specs.Candidates.{IsCandidate, IsFirst, link_cost, path_order}
 use Rattle.aeth_paths.specs.Candidates.{slots_of}
 use Rattle.aeth_paths.specs.Open.{is_crowded}
 use Rattle.aeth_paths.specs.Pairs.{IsOffered, OfferedFrom}
 use Rattle.aeth_paths.specs.declared.request.Found.{Found}
 use Rattle.aeth_paths.specs.declared.request.Request.{Request}
-use Rattle.aeth_paths.proofs.CandidateLemmas.{not-less, offered-candidate}
+use Rattle.aeth_paths.proofs.CandidateLemmas.{not-less, offered-candidate, room-from, slots-live}
 use Rattle.aeth_paths.proofs.FirstLemmas.{path_total}
+use Rattle.aeth_paths.proofs.LiveLemmas.{sized}
 use Rattle.aeth_paths.proofs.UniqueLemmas.{first-unique}
 use Rattle.aeth_alloc.proofs.ListedPaths.{path-listed}
 use Rattle.aeth_alloc.specs.FirstCandidate.{candidates, candidates_between, first_candidate}
@@ -74,31 +70,8 @@ module _ (cost : LinkId → ℕ) where
 
 -- ---- the listed candidates
 
--- A pair isn't one crowded interface where it has room.
-room-from : (crowded : List NiId) (a b : NiId) → (a ≡ b → Contains crowded a → ⊥)
-    → is_crowded crowded a b ≡ false
-room-from crowded a b room = false_from_ne_true (is_crowded crowded a b) (λ is.
-    let (same, among) = and_parts (eqb a.0 b.0) _ is in
-    let found = passes_from_any (λ (n : NiId). eqb n.0 a.0) crowded among in
-    let one : a ≡ b = ap (λ n. record { 0 = n }) (eqb-true a.0 b.0 same) in
-    let here : found.item ≡ a = ap (λ n. record { 0 = n }) (eqb-true _ _ found.passes) in
-    room one (subst (Contains crowded) here found.is_in))
-
 module _ (chip : ChipData) (book : BookData) (ask : Request) (from to crowded : List NiId)
     (is_chip : IsChip chip) (is : IsBook book) (links : book.links ≡ chip.links) where
-  -- A path with slots is live.
-  slots-live : (path : List LinkId) (slots : Slots) → slots_of book ask path ≡ Some slots
-      → is_live book ask path ≡ true
-  slots-live path slots some =
-      let free : Slots = free_starts book ask.unit path in
-      let set : IsSlotSet free = record {
-        some_size = is.some_size;
-        within = is.within;
-        ascends = Ascends-where book.size (is_open book ask.unit 0 path);
-      } in
-      true-is_suitable ask.need (gap_on book ask path) free
-      ((chosen-whole free ask.need (gap_on book ask path) set).0 (rw some refl))
-
   -- The test of paths, over the links of the book.
   on_chip : (a b : NiId) (path : List LinkId) → IsAdmissible book.links ask.detour a b path
       → IsAdmissible chip.links ask.detour a b path
@@ -167,7 +140,7 @@ module _ (chip : ChipData) (book : BookData) (ask : Request) (from to crowded : 
         room = room;
         admissible =
             in_book a b path ((is_admissible-Decides chip is_chip ask.detour a b path).0 passes);
-        live = slots-live path found.slots slots;
+        live = slots-live book ask from to crowded (sized book is) path found.slots slots;
       } in
       let offered : OfferedFrom book ask crowded from to path = (a, sends, (b, receives, one)) in
       offered-candidate book ask from to crowded path found offered same begins ends slots

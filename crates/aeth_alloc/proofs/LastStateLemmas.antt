@@ -1,17 +1,16 @@
 -- The state before the first turn is sound, so is that after any number of turns, and after the last
 -- turn none waits.
 use Rattle.std.proofs.Common.{◌≡◌, ◌∙◌, ◌≤◌, ◌-◌, ℕ, zero, suc, List, [], ◌∷◌, Contains, Option}
-use Rattle.std.proofs.Common.{Some, None, length, refl, sym, ap, subst, inl, arith, slice_get}
+use Rattle.std.proofs.Common.{Some, None, length, refl, sym, ap, subst, inl, arith}
 use Rattle.std.specs.Prelude.{AllPairs}
 use Rattle.std.proofs.lemmas.List.{length-map}
 use Rattle.aeth_base.proofs.Members.{Contains-map, Contains-nil, map-Contains}
 use Rattle.aeth_base.specs.declared.ids.Unit.{Unit as GroupUnit}
 use Rattle.aeth_chip.specs.Chip.{IsChip}
 use Rattle.aeth_app.specs.App.{AppData, IsApp, IsAppOf}
-use Rattle.aeth_app.specs.declared.connection.Connection.{Connection}
 use Rattle.aeth_group.specs.Members.{GroupsData, groups_of, units_of}
 use Rattle.aeth_group.proofs.MemberLemmas.{is_groups-groups_of}
-use Rattle.aeth_order.specs.Units.{all_units, keys_by, keys_of, next_unit}
+use Rattle.aeth_order.specs.Units.{all_units, keys_of, next_unit}
 use Rattle.aeth_order.specs.declared.keys.UnitKeys.{UnitKeys}
 use Rattle.aeth_seats.proofs.FirstLemmas.{seats-of-app}
 use Rattle.aeth_plan.specs.Making.{AreApart}
@@ -20,17 +19,8 @@ use Rattle.aeth_alloc.specs.Channels.{Design}
 use Rattle.aeth_alloc.specs.Turns.{State, after_turn, after_turn_of}
 use Rattle.aeth_alloc.proofs.NextUnitLemmas.{fewer-wait, next-waits, none-waits}
 use Rattle.aeth_alloc.proofs.StateLemmas.{IsSoundState, sound-after}
-use Rattle.aeth_alloc.proofs.TurnLemmas.{state-first}
+use Rattle.aeth_alloc.proofs.TurnLemmas.{own-unit, state-first}
 use Rattle.aeth_alloc.proofs.WithGrantLemmas.{first-book}
-
--- The keys of a unit are its own.
-keys-of-unit : (slots : ℕ) (unit : GroupUnit) (connection : Option Connection)
-    → (keys_by slots unit connection).unit ≡ unit
-keys-of-unit slots unit None = refl
-keys-of-unit slots unit (Some connection) = refl
-
-own-unit : (app : AppData) (unit : GroupUnit) → (keys_of app unit).unit ≡ unit
-own-unit app unit = keys-of-unit app.slots unit (slice_get app.connections unit.conn.0)
 
 -- All units wait, and no others.
 unit-waits : (app : AppData) (groups : GroupsData) (unit : GroupUnit)

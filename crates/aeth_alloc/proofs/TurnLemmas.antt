@@ -182,6 +182,9 @@ keys-unit : (slots : ℕ) (unit : GroupUnit) (connection : Option Connection)
 keys-unit slots unit None = refl
 keys-unit slots unit (Some connection) = refl
 
+pub own-unit : (app : AppData) (unit : GroupUnit) → (keys_of app unit).unit ≡ unit
+own-unit app unit = keys-unit app.slots unit (slice_get app.connections unit.conn.0)
+
 -- All units are of connections of the application.
 waiting-below : (app : AppData) (groups : GroupsData) (keys : UnitKeys) → IsApp app
     → groups ≡ groups_of app → Contains (all_units app groups) keys
@@ -193,8 +196,7 @@ waiting-below app groups keys is are has =
     let count : groups.connections ≡ length app.connections =
     ap (λ (g : GroupsData). g.connections) are ∙ connections-groups_of app in
     let own : keys.unit ≡ unit =
-    ap (λ (k : UnitKeys). k.unit) (sym same)
-    ∙ keys-unit app.slots unit (slice_get app.connections unit.conn.0) in
+    ap (λ (k : UnitKeys). k.unit) (sym same) ∙ own-unit app unit in
     subst (λ (u : GroupUnit). u.conn.0 < length app.connections) (sym own)
     (subst (λ n. unit.conn.0 < n) count low)
 

@@ -3,7 +3,7 @@
 -- own.
 --
 --   paths_of      all lists of at most as many links as a path may have
---   found_on      a path with the slots chosen out of its free starts, if there are any
+--   found_with      a path from an interface to an interface, with its slots, if there are any
 --   candidates_between, candidates      the candidates of a pair of interfaces, and of all pairs
 --   first_candidate      the first of them
 use Rattle.std.specs.Prelude.{ℕ, ◌+◌, List, [], ◌∷◌, Option, None, Some, filter, if◌then◌else◌}

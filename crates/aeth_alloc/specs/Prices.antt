@@ -1,7 +1,7 @@
 -- What links cost by an application's price, as tables of costs. This project's own.
 --
 --   table_of      the table of the answers of a function of a link's delay and its used slots
---   hops, pressure, cost_by      the two prices
+--   cost_by      what a link costs by each of the two prices
 --   prices_of      the table of an application's price
 use Rattle.std.specs.Prelude.{ℕ, ◌+◌, ◌/◌, ◌%◌, List, map}
 use Rattle.std.specs.List.{range_with_len}

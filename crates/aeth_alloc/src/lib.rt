@@ -2,6 +2,7 @@
 #![tactic(auto)]
 
 mod allocation;
+mod attempts;
 mod channels;
 pub mod laws;
 mod outcome;

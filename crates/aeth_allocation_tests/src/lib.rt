@@ -1,4 +1,4 @@
-//! Tests of books, first paths, allocations, plans and their check, above the libraries that have them.
+//! Tests of books, first paths, allocations and plans, above the libraries that have them.
 #![tactic(auto)]
 
 #[cfg(test)]

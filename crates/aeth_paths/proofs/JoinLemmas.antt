@@ -72,7 +72,7 @@ passes-push to path link node =
     list_any-append (λ l. same_node (to l) node) path (link ∷ [])
     ∙ ap (λ b. passes to path node || b) (one (same_node (to link) node))
 
-router-from : (node : Node) → is_router node ≡ true → (r : RouterId) × (node ≡ Router r)
+pub router-from : (node : Node) → is_router node ≡ true → (r : RouterId) × (node ≡ Router r)
 router-from (Router r) is = (r, refl)
 router-from (Ni n) is = absurd (false≢true is)
 

@@ -3,8 +3,8 @@ pub mod JoinLemmas
 mod WalkLemmas
 pub mod LiveLemmas
 mod GiveUpLemmas
-mod StepLemmas
-mod PrefixLemmas
+pub mod StepLemmas
+pub mod PrefixLemmas
 mod HopelessLemmas
 mod VainLemmas
 mod OrderLemmas

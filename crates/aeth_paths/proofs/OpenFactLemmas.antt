@@ -24,7 +24,7 @@ use Rattle.aeth_paths.specs.Open.{is_near}
 use Rattle.aeth_paths.specs.OpenLists.{IsOpenFor, goes_on, is_open_list, leaves_from}
 use Rattle.aeth_paths.specs.Search.{Field, is_new, passes}
 use Rattle.aeth_paths.specs.Task.{field}
-use Rattle.aeth_paths.proofs.JoinLemmas.{passes-push}
+use Rattle.aeth_paths.proofs.JoinLemmas.{passes-push, router-from}
 
 -- Links behind a list that are joined from a node on and end at distinct routers, at none of which
 -- the list does.
@@ -40,10 +40,6 @@ there : (test : Link → Bool) (found : Option Link) → link_passes test found 
     → (link : Link) × ((found ≡ Some link) × (test link ≡ true))
 there test None passes = absurd (false≢true passes)
 there test (Some link) passes = (link, (refl, passes))
-
-a-router : (node : Node) → is_router node ≡ true → (r : RouterId) × (node ≡ Router r)
-a-router (Router r) is = (r, refl)
-a-router (Ni n) is = absurd (false≢true is)
 
 near-enough : (most : ℕ) (path : List LinkId) (least : Option ℕ) → is_near most path least ≡ true
     → (more : ℕ) × ((least ≡ Some more) × (length path + more ≤ most))
@@ -70,7 +66,7 @@ module _ (book : BookData) (prices : List ℕ) (ask : Request) (b : NiId) (most 
       let (leaves, new) = and_parts (leaves_from book.links node l) _ both in
       let (link, (is, begins)) = there (begins_at node) (slice_get book.links l.0) leaves in
       let (router, fresh) = and_parts (is_router (f.to l)) _ new in
-      let (r, is_r) = a-router (f.to l) router in
+      let (r, is_r) = router-from (f.to l) router in
       let its = goes-joined (f.to l) (path ++ l ∷ []) rest onward in
       let unpassed : passes f.to path (Router r) ≡ false =
       ap (passes f.to path) (sym is_r) ∙ not-true _ fresh in

@@ -12,7 +12,6 @@ use Rattle.std.proofs.lemmas.List.{append-nil, length-map, take_all}
 use Rattle.std.proofs.lemmas.Option.{none-some, slice_get_cases}
 use Rattle.std.proofs.lemmas.Option.{slice_get_within}
 use Rattle.std.proofs.lemmas.List.Concat.{flat_map-cons}
-use Rattle.std.proofs.lemmas.List.Sums.{sum_by-append, sum_by-cons}
 use Rattle.aeth_base.specs.declared.ids.LinkId.{LinkId}
 use Rattle.aeth_chip.specs.declared.node.Link.{Link}
 use Rattle.aeth_chip.specs.declared.node.Node.{Node}
@@ -21,6 +20,7 @@ use Rattle.aeth_chip.specs.Chip.{ChipData, IsChip, IsNode}
 use Rattle.aeth_chip.specs.Limits.{max_ports}
 use Rattle.aeth_chip.specs.Nodes.{begins_at, is_router, same_node, sends_on}
 use Rattle.aeth_chip.proofs.NodeLemmas.{length-numbers_from, same_node-refl}
+use Rattle.aeth_chip.proofs.WireLemmas.{sum_by-take_more}
 use Rattle.aeth_group.proofs.ListLemmas.{take-at}
 use Rattle.aeth_paths.specs.declared.search.Priced.{Priced}
 use Rattle.aeth_paths.specs.declared.search.Turn.TheVariants.{Goes}
@@ -97,14 +97,6 @@ open_steps-open f least (suc left) node path some opens =
     rw less (ap (λ n. n + sum_by (steps_over f least left path) (f.leaving node))
     (cond-true (is_open f least node path) (length (f.leaving node)) 0 opens))
 
--- One more link counts one step and those of the longer list.
-pub sum-more : (g : LinkId → ℕ) (links : List LinkId) (place : ℕ) (link : LinkId)
-    → slice_get links place ≡ Some link
-    → sum_by g (take (place + 1) links) ≡ sum_by g (take place links) + g link
-sum-more g links place link at =
-    ap (sum_by g) (take-at links place link at) ∙ sum_by-append g (take place links) (link ∷ [])
-    ∙ ap (λ n. sum_by g (take place links) + n) (sum_by-cons g link [] ∙ omega arith)
-
 -- A link to a new router takes the steps of the longer list.
 pub steps_over-goes : (f : Field) (least : Node → Option ℕ) (left : ℕ) (path : List LinkId)
     (link : LinkId) → turn_of f path link ≡ Goes
@@ -170,7 +162,7 @@ pub steps-away : (g : LinkId → ℕ) (links : List LinkId) (place : ℕ) (link 
     → old ≤ first + place + sum_by g (take place links)
     → new ≤ first + (place + 1) + sum_by g (take (place + 1) links)
 steps-away g links place link first old new at few was =
-    omega (arith, sum-more g links place link at, few, was)
+    omega (arith, sum_by-take_more g links place link at, few, was)
 
 -- All links: the steps of all lists that go on.
 pub steps-end : (f : Field) (least : Node → Option ℕ) (left : ℕ) (node : Node)

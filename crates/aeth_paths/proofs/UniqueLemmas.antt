@@ -52,7 +52,8 @@ one-path cost path other not_before not_after =
     ((path_total cost).antisymm path other) not_before not_after in
     same-links path other (exact_bytes _ _ (then-equal _ _ (then-equal _ _ equal)))
 
-same-ni : (a b : NiId) → Ni a ≡ Ni b → a ≡ b
+-- Interfaces that are one node are one.
+pub same-ni : (a b : NiId) → Ni a ≡ Ni b → a ≡ b
 same-ni a b same =
     let number : Node → ℕ = elim [ Router r ↦ r.0 | Ni n ↦ n.0 ] in
     ap (λ n. record { 0 = n }) (ap number same)
