@@ -1,11 +1,11 @@
 -- What is in the cell of a link and a slot is what the link may be reserved for in a cycle of the
 -- slot.
-use Rattle.std.proofs.Common.{◌≡◌, ◌∙◌, ◌<◌, ◌≤◌, ◌+◌, ◌-◌, ◌*◌, ◌/◌, ◌%◌, ℕ, List, length}
+use Rattle.std.proofs.Common.{◌≡◌, ◌∙◌, ◌≤◌, ◌+◌, ◌-◌, ◌*◌, ◌/◌, ◌%◌, ℕ, List, length}
 use Rattle.std.proofs.Common.{Contains, Some, slice_get, refl, sym, ap, subst, arith}
 use Rattle.std.proofs.Math.Nat.{add-mod_right, add-mul-mod_self_left, div-add-mod, mod-add-mod}
 use Rattle.std.proofs.Math.Nat.{mod-eq_of_lt, mod-lt}
 use Rattle.std.proofs.lemmas.List.Elements.{All-contains}
-use Rattle.std.proofs.lemmas.Nat.{div-mul-add}
+use Rattle.std.proofs.lemmas.Nat.{same_from_place}
 use Rattle.std.proofs.lemmas.Option.{same_Some, slice_get_within}
 use Rattle.aeth_base.proofs.Members.{Contains-slice_get, slice_get-Contains}
 use Rattle.aeth_group.specs.declared.grant.Grant.{Grant}
@@ -34,16 +34,6 @@ same-before x y a size some same =
     sym (round x a size some) ∙ ap (λ n. (n + (size - a % size)) % size) same
     ∙ round y a size some
 
--- Cells of two links and slots are one where links and slots are.
-pub same-cell : (l m s t size : ℕ) → s < size → t < size → l * size + s ≡ m * size + t
-    → (l ≡ m) × (s ≡ t)
-same-cell l m s t size below other same =
-    let links : l ≡ m = sym (div-mul-add l size s below) ∙ ap (λ n. n / size) same
-    ∙ div-mul-add m size t other in
-    let cell : l * size + s ≡ l * size + t =
-    same ∙ ap (λ n. n * size + t) (sym links) in
-    (links, omega arith)
-
 -- The cell of a link and of the slot of a cycle.
 abbrev pub cell : Judge → ℕ → ℕ → ℕ
 cell judge l t = l * judge.chip.now.slots + t % judge.chip.now.slots
@@ -68,7 +58,7 @@ module _ (judge : Judge) (is : IsJudge judge) (l t : ℕ) (place : Place) where
       let some = is.some in
       let slot_below = rotated-below place.ahead grant.slots own.slot (omega arith) own.has in
       let below = mod-lt t {m = size} (omega arith) in
-      let (links, slots) = same-cell own.link.0 l own.slot (t % size) size (omega arith) below
+      let (links, slots) = same_from_place own.link.0 own.slot l (t % size) size (omega arith) below
       (sym own.cell) in
       let (start, inside, at) = (Contains-rotated place.ahead grant.slots own.slot).0 own.has in
       let bounds = Ascends-bounds 0 size grant.slots.slots placed.starts start inside in

@@ -1,6 +1,6 @@
 -- The audit of a log: whether each row is a flit that the network may carry there.
 --
---   are_blank, has_header      rule 2
+--   are_blank, is_addressed      rule 2
 --   goes_on, row_on, has_before, has_after      rule 3
 --   path_at, is_of_channel, is_joined      rules 2 and 3 at a reserved place
 --   rule_at, broken_by      the rule that a row breaks

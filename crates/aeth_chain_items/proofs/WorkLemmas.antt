@@ -1,15 +1,16 @@
 -- The works of the items that a word tells.
-use Rattle.std.proofs.Common.{◌≡◌, ◌∙◌, ◌==◌, ◌≤◌, ◌<◌, ◌+◌, ℕ, zero, suc, Bool, true, false, List}
+use Rattle.std.proofs.Common.{◌≡◌, ◌∙◌, ◌==◌, ◌≤◌, ◌<◌, ◌+◌, ℕ, zero, suc, true, false, List}
 use Rattle.std.proofs.Common.{[], ◌∷◌, Option, Some, None, length, map, slice_get, refl, sym, ap, subst}
 use Rattle.std.proofs.Common.{arith}
 use Rattle.std.specs.Prelude.{nat_le, option_map}
 use Rattle.std.proofs.lemmas.Bool.{and_parts, leb-true, ne_eqb}
-use Rattle.std.proofs.lemmas.Option.{cond_some, none-some, same_Some}
+use Rattle.std.proofs.lemmas.Option.{none-some, same_Some}
 use Rattle.aeth_base.specs.Name.{name_of}
 use Rattle.aeth_base.specs.declared.ids.Side.{Side}
 use Rattle.aeth_text.specs.Fields.{number_in, side_in}
-use Rattle.aeth_text.specs.Grammar.{both, kept, parts}
+use Rattle.aeth_text.specs.Grammar.{both, parts}
 use Rattle.aeth_text.specs.Limits.{comma}
+use Rattle.aeth_text.proofs.Readers.{kept_some}
 use Rattle.aeth_chain.specs.Limits.{max_chain_items, max_work}
 use Rattle.aeth_chain_items.specs.Limits.{colon}
 use Rattle.aeth_chain_items.specs.ItemNames.{AreItemNames, AreWorks, is_work, item_in, item_names_of}
@@ -19,20 +20,12 @@ use Rattle.aeth_chain_items.proofs.WordLemmas.{few, parts-some}
 
 -- ---- one item
 
--- What is kept passes the test.
-kept-passes : {X : Type 0} (test : X → Bool) (told : Option X) (x : X) → kept test told ≡ Some x
-    → (told ≡ Some x) × (test x ≡ true)
-kept-passes test None x is = absurd (none-some x is)
-kept-passes test (Some y) x is =
-    let (passes, same) = cond_some (test y) y x is in
-    (ap Some same, subst (λ z. test z ≡ true) same passes)
-
 -- A work between two others is 1 to 4,096.
 work-inner : (words : List (List ℕ)) (work : ℕ) → work_in false words ≡ Some work
     → (1 ≤ work) × (work ≤ max_work)
 work-inner [] work is = absurd (none-some work is)
 work-inner (word ∷ []) work is =
-    let passes = (kept-passes is_work (number_in word) work is).1 in
+    let passes = (kept_some is_work (number_in word) work is).1 in
     let both_ends = and_parts (nat_le 1 work) (nat_le work max_work) passes in
     (leb-true 1 work both_ends.0, leb-true work max_work both_ends.1)
 work-inner (word ∷ other ∷ words) work is = absurd (none-some work is)
@@ -121,7 +114,7 @@ pub word-items : (word : List ℕ) (names : List ItemName) → item_names_of wor
     → AreItemNames names
 unfolding item_names_of
 word-items word names is =
-    let (items, small) = kept-passes few (items_in (parts comma word)) names is in
+    let (items, small) = kept_some few (items_in (parts comma word)) names is in
     record {
       few = leb-true (length names) max_chain_items small;
       works = items-works (parts comma word) names (parts-some comma word) items;

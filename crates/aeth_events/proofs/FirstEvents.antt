@@ -27,7 +27,7 @@ use Rattle.aeth_components.specs.declared.event.Event.TheVariants.{Change}
 use Rattle.aeth_refinement.specs.Fabric.{flow_at, has_slot, server_at}
 use Rattle.aeth_refinement.specs.Switches.{freed_of as freed_at, set_of as set_at}
 use Rattle.aeth_fabric.specs.Fabric.{Placed, fabric_of, placed_at, placed_of, row_in, slot_at}
-use Rattle.aeth_fabric.proofs.ApartTables.{all_apart}
+use Rattle.aeth_accepted.proofs.ApartRows.{all_apart}
 use Rattle.aeth_fabric.proofs.ApartWires.{slot_place}
 use Rattle.aeth_fabric.proofs.Numbers.{placed-there}
 use Rattle.aeth_invariant.specs.Events.{AreEvents, IsEventOf, IsWriteOf, Occurs, ni_of}

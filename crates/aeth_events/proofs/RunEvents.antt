@@ -25,7 +25,7 @@ use Rattle.aeth_reconf.specs.Windows.{AreWritable}
 use Rattle.aeth_accepted.specs.Inputs.{AreAccepted, Inputs, design_of, row_at, run_of}
 use Rattle.aeth_accepted.proofs.SoundRuns.{AreSpans, is_sound}
 use Rattle.aeth_accepted.proofs.TableFlows.{shape-granted}
-use Rattle.aeth_fabric.proofs.ApartTables.{all_apart}
+use Rattle.aeth_accepted.proofs.ApartRows.{all_apart}
 use Rattle.aeth_accepted.proofs.SessionRows.{known, one}
 use Rattle.aeth_fabric.proofs.WritableRuns.{writable}
 use Rattle.aeth_schedule.specs.Switching.{events_by, later_switches, switches_from, timed_of}

@@ -12,7 +12,7 @@ use Rattle.aeth_base.specs.declared.ids.LinkId.{LinkId}
 use Rattle.aeth_base.specs.declared.ids.NiId.{NiId}
 use Rattle.aeth_base.specs.declared.ids.RouterId.{RouterId}
 use Rattle.aeth_base.proofs.Members.{Contains-filter, Contains-flat_map, Contains-map, map-Contains}
-use Rattle.aeth_base.proofs.Ranges.{All-range}
+use Rattle.aeth_base.proofs.Ranges.{range-Contains}
 use Rattle.std.proofs.Math.Seq.{take-length}
 use Rattle.aeth_group.proofs.ListLemmas.{any_from_passes, passes_from_any}
 use Rattle.aeth_chip.specs.Chip.{ChipData}
@@ -208,9 +208,6 @@ module _ (chip : ChipData) (groups : GroupsData) (trial : TrialData)
     path-some path may =
         some-by may.to path may.admissible.is_path.routers may.admissible.is_path.joins.ends
 
-    range-below : (n x : ℕ) → Contains (range_with_len 0 n) x → x < n
-    range-below n x (k, within, at) = subst (λ y. y < n) at (All-range n k x within)
-
     -- The first dead front of a path that the try may take is a shortest cut.
     first-is : (path : List LinkId) → MayTake chip trial path → (m : ℕ) → 1 ≤ m → m ≤ length path
         → is_dead chip groups trial (take m path) ≡ true
@@ -225,7 +222,7 @@ module _ (chip : ChipData) (groups : GroupsData) (trial : TrialData)
         any in
         let from = map-Contains (λ n. take (n + 1) (take m path))
         (range_with_len 0 (length (take m path) - 1)) found.item found.is_in in
-        let below = range-below (length (take m path) - 1) from.0 from.2 in
+        let below = range-Contains (length (take m path) - 1) from.0 from.2 in
         let live = first (from.0 + 1) (omega arith) (omega (arith, below, size, some)) in
         let same = sym (take-take (from.0 + 1) m path (omega (arith, below, size, some)))
         ∙ from.1 in

@@ -26,10 +26,10 @@ use Rattle.aeth_group.proofs.ListLemmas.{any_from_passes, passes_from_any}
 use Rattle.aeth_paths.specs.Task.{links_from}
 use Rattle.aeth_paths.specs.Trials.{TrialData}
 use Rattle.aeth_paths.proofs.JoinLemmas.{begins-leaving, leaving-begins}
+use Rattle.aeth_paths.proofs.UniqueLemmas.{same-ni}
 use Rattle.aeth_explain.specs.Fronts.{first_open, first_so_far, lists_below, lists_so_far, so_far}
 use Rattle.aeth_explain.specs.TryPaths.{leaves_one, leaving_lists}
 use Rattle.aeth_explain.specs.Verdict.{is_open, open_paths}
-use Rattle.aeth_explain.proofs.FrontLemmas.{same-ni}
 use Rattle.aeth_explain.proofs.OpenLemmas.{first-none, first-some}
 
 -- ---- links that leave a sender

@@ -29,7 +29,8 @@ use Rattle.aeth_paths.specs.Task.{links_from}
 use Rattle.aeth_paths.specs.Trials.{TrialData}
 use Rattle.aeth_paths.proofs.JoinLemmas.{leaving-begins, onward-from-walk, passes-push}
 use Rattle.aeth_paths.proofs.JoinLemmas.{walk-from-route, walks-first, walks-more, walks-one}
-use Rattle.aeth_paths.proofs.UniqueLemmas.{one-end, one-start}
+use Rattle.aeth_paths.proofs.StepLemmas.{link-below}
+use Rattle.aeth_paths.proofs.UniqueLemmas.{one-end, one-start, same-ni}
 use Rattle.aeth_explain.specs.Cuts.{begins_with}
 use Rattle.aeth_explain.specs.Fronts.{IsFront, over}
 use Rattle.aeth_explain.specs.Places.{AreWithin}
@@ -65,11 +66,6 @@ end-any : (to : LinkId → Node) (m n : Node) (path : List LinkId) → 1 ≤ len
     → end_of to m path ≡ end_of to n path
 end-any to m n [] some = absurd (omega (arith, some))
 end-any to m n (link ∷ path) some = refl
-
-pub same-ni : (a b : NiId) → Ni a ≡ Ni b → a ≡ b
-same-ni a b same =
-    let number : Node → ℕ = elim [ Router r ↦ r.0 | Ni n ↦ n.0 ] in
-    ap (λ n. record { 0 = n }) (ap number same)
 
 -- A link begins at one interface.
 one-begin : (links : List Link) (link : LinkId) (a b : NiId) → BeginsAt links link (Ni a)
@@ -234,13 +230,6 @@ module _ (listed : Listed) (a : NiId) (front : Front) (is : IsFront listed a fro
         (subst (λ m. length path ≤ most_to chip trial may.from m) stops
         (may-most chip trial is_chip path may))
 
--- A link that leaves a node is one of the chip's.
-pub link-low : (links : List Link) (node : Node) (link : LinkId)
-    → Contains (links_from links node) link → link.0 < length links
-link-low links node link leaves =
-    let begins = leaving-begins links link node leaves in
-    slice_get_within links link.0 begins.link begins.is
-
 -- ---- one more link to a new router
 
 joined-push : (links : List Link) (node : Node) (path : List LinkId) (link : LinkId)
@@ -321,7 +310,7 @@ module _ (listed : Listed) (a : NiId) (link : LinkId) (r : RouterId)
         some = omega arith;
         joined = (begins, tt);
         links = All-push (λ (l : LinkId). l.0 < length links) [] link
-            (λ k d low. absurd (omega (arith, low))) (link-low links (Ni a) link leaves);
+            (λ k d low. absurd (omega (arith, low))) (link-below links (Ni a) link leaves);
         end = comes;
         known = known;
         here = passes-push to [] link (Router r)

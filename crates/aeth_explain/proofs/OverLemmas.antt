@@ -1,13 +1,9 @@
 -- What comes of one more link: what is open over it.
-use Rattle.std.proofs.Common.{◌-◌, suc, Option, map, refl, sym, take, inl, inr}
+use Rattle.std.proofs.Common.{◌-◌, suc, Option, refl, sym, take, inl, inr}
 use Rattle.std.specs.List.{flat_map}
-use Rattle.std.specs.Prelude.{is_some, option_map, slice_get}
-use Rattle.std.proofs.lemmas.List.{length-map, take_all}
-use Rattle.std.proofs.lemmas.Option.{none-some, slice_get-map, slice_get_cases}
-use Rattle.aeth_chip.specs.Chip.{IsChip}
-use Rattle.aeth_chip.specs.Limits.{max_ports}
-use Rattle.aeth_chip.specs.Nodes.{begins_at, sends_on}
-use Rattle.aeth_chip.proofs.NodeLemmas.{length-numbers_from}
+use Rattle.std.specs.Prelude.{is_some, slice_get}
+use Rattle.std.proofs.lemmas.List.{take_all}
+use Rattle.std.proofs.lemmas.Option.{none-some, slice_get_cases}
 use Rattle.aeth_explain.specs.Fronts.{IsOver}
 use Rattle.aeth_explain.specs.declared.open_paths.Over.{Over}
 use Rattle.aeth_explain.specs.declared.open_paths.Over.TheVariants.{Away, Onward, Open}
@@ -121,17 +117,6 @@ IsFound listed left (Onward longer) found =
     found ≡ first_open listed.chip.now listed.trial.now listed.cuts.now
     (lists_below listed.chip.now.links left (Router longer.router) longer.path)
 
--- A link by its place among those that a router sends on.
-pub port-at : (links : List ℕ) (place : ℕ) (link : Option LinkId)
-    → option_map (λ (l : LinkId). l.0) link ≡ slice_get links place
-    → link ≡ slice_get (map (λ n. record { 0 = n }) links) place
-port-at links place link is =
-    let go : (o : Option LinkId)
-    → o ≡ option_map (λ n. record { 0 = n }) (option_map (λ (l : LinkId). l.0) o) =
-    elim [ None ↦ refl | Some l ↦ refl ]
-    in go link ∙ ap (option_map (λ n. record { 0 = n })) is
-    ∙ sym (slice_get-map (λ n. record { 0 = n }) links place)
-
 -- Where a list has nothing at a place, it ends before.
 pub none-past : {X : Type 0} (xs : List X) (place : ℕ) → slice_get xs place ≡ None
     → length xs ≤ place
@@ -148,17 +133,6 @@ some-found (Some x) is = (x, refl)
 pub none-found : {X : Type 0} (o : Option X) → is_some o ≡ false → o ≡ None
 none-found None is = refl
 none-found (Some x) is = absurd (cc is)
-
--- No more links leave a router than it has ports.
-pub few-ports : (chip : ChipData) (r : RouterId) → IsChip chip → r.0 < length chip.routers
-    → length (links_from chip.links (Router r)) ≤ max_ports
-few-ports chip r is known =
-    omega (
-      arith,
-      (is.ports r known).sends,
-      length-numbers_from (begins_at (Router r)) 0 chip.links,
-      length-map {B = LinkId} (sends_on (Router r) chip.links) (λ n. record { 0 = n }),
-    )
 
 module _ (listed : Listed) (is : IsListed listed) (a : NiId) (front : Front)
     (at : IsFront listed a front) where

@@ -21,6 +21,8 @@ use Rattle.aeth_chip.proofs.JoinedLaws.{end_of-append}
 use Rattle.aeth_group.specs.Members.{GroupsData}
 use Rattle.aeth_paths.specs.Task.{links_from}
 use Rattle.aeth_paths.specs.Trials.{TrialData}
+use Rattle.aeth_paths.proofs.PrefixLemmas.{link-at}
+use Rattle.aeth_paths.proofs.StepLemmas.{link-below}
 use Rattle.aeth_explain.specs.Certificate.{certificate_of, cuts_of, is_first_cut, shorter_fronts}
 use Rattle.aeth_explain.specs.Cuts.{HasCandidate, IsCertificate}
 use Rattle.aeth_explain.specs.Fronts.{IsFront, IsLonger, first_open, lists_below, open_over}
@@ -31,10 +33,10 @@ use Rattle.aeth_explain.specs.declared.open_paths.Front.{Front}
 use Rattle.aeth_explain.specs.declared.open_paths.Listed.{Listed}
 use Rattle.aeth_explain.proofs.BelowLemmas.{first-is, live-fronts, path-goes, walked-alone}
 use Rattle.aeth_explain.proofs.BelowLemmas.{walked-closed, walked-never}
-use Rattle.aeth_explain.proofs.FrontLemmas.{link-low, no-path, no-single}
+use Rattle.aeth_explain.proofs.FrontLemmas.{no-path, no-single}
 use Rattle.aeth_explain.proofs.ListLemmas.{GoesOn}
 use Rattle.aeth_explain.proofs.OpenLemmas.{below-none, below-router}
-use Rattle.aeth_explain.proofs.OverLemmas.{none-past, port-at}
+use Rattle.aeth_explain.proofs.OverLemmas.{none-past}
 use Rattle.aeth_explain.proofs.RefusalLemmas.{certificate-is}
 use Rattle.aeth_explain.proofs.WalkLemmas.{walked-on}
 
@@ -162,7 +164,7 @@ module _ (judge : TryJudgeData) (listed : Listed) (is : IsTried judge listed) wh
       pub path-links : All (λ (l : LinkId). l.0 < length chip.links) path
       path-links =
           All-push (λ (l : LinkId). l.0 < length chip.links) front.path link at.links
-          (link-low chip.links (Router front.router) link leaves)
+          (link-below chip.links (Router front.router) link leaves)
 
       -- No path that the try may take goes on over the link.
       pub walked-away : open_over listed front link left ≡ None → (cuts : List (List LinkId))
@@ -189,17 +191,17 @@ module _ (judge : TryJudgeData) (listed : Listed) (is : IsTried judge listed) wh
           is_longer.path) walked
 
 -- The link at a port leaves the router.
-pub link-at : (links : List Link) (r : RouterId) (port : ℕ) (o : Option LinkId) (link : LinkId)
+pub port-at : (links : List Link) (r : RouterId) (port : ℕ) (o : Option LinkId) (link : LinkId)
     → option_map (λ (l : LinkId). l.0) o ≡ slice_get (sends_on (Router r) links) port
     → o ≡ Some link → slice_get (links_from links (Router r)) port ≡ Some link
-link-at links r port o link told at =
-    sym (port-at (sends_on (Router r) links) port o told) ∙ at
+port-at links r port o link told at =
+    sym (link-at (sends_on (Router r) links) port o told) ∙ at
 
 pub link-leaves : (links : List Link) (r : RouterId) (port : ℕ) (o : Option LinkId) (link : LinkId)
     → option_map (λ (l : LinkId). l.0) o ≡ slice_get (sends_on (Router r) links) port
     → o ≡ Some link → Contains (links_from links (Router r)) link
 link-leaves links r port o link told at =
-    Contains-slice_get (links_from links (Router r)) port link (link-at links r port o link told at)
+    Contains-slice_get (links_from links (Router r)) port link (port-at links r port o link told at)
 
 -- There is none.
 pub links-past : (links : List Link) (r : RouterId) (port : ℕ) (o : Option LinkId)
@@ -207,7 +209,7 @@ pub links-past : (links : List Link) (r : RouterId) (port : ℕ) (o : Option Lin
     → o ≡ None → length (links_from links (Router r)) ≤ port
 links-past links r port o told none =
     none-past (links_from links (Router r)) port
-    (sym (port-at (sends_on (Router r) links) port o told) ∙ none)
+    (sym (link-at (sends_on (Router r) links) port o told) ∙ none)
 
 -- What holds of the value that was given.
 pub told-ok : {X E : Type 0} (P : X → Type 0) (came : Result X E) (x : X) → came ≡ Ok x

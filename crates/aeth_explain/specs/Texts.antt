@@ -1,7 +1,7 @@
 -- What the text of certificates says, before any name is looked up.
 --
 --   TryText, LineText      what a `try` line says, and what a line of either form says
---   head_in, try_in, cut_in, line_in      the lines
+--   is_head, try_in, cut_in, line_in      the lines
 --   text_in, text_of      the whole text, or the first line that hasn't its form at its position
 -- This project's own.
 use Rattle.std.specs.Prelude.{ℕ, Bool, List, [], ◌∷◌, codes, length, Option, Some, None, option_map}

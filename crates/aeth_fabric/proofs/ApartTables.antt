@@ -1,7 +1,6 @@
--- No two channels of one use case share a queue or a slot of an interface, and no two of all use cases
--- share a queue.
+-- No two channels of all use cases share a queue of an interface.
 use Rattle.std.proofs.Common.{◌≡◌, ◌∙◌, ℕ, true, Contains, Some, slice_get, length, sym}
-use Rattle.std.proofs.Common.{ap, subst, inl, inr}
+use Rattle.std.proofs.Common.{ap, subst}
 use Rattle.std.specs.Prelude.{IsSomeAnd, IsTrue}
 use Rattle.std.proofs.lemmas.Option.{same_Some}
 use Rattle.aeth_base.specs.declared.ids.Channel.{Channel}
@@ -17,36 +16,16 @@ use Rattle.aeth_group.specs.Members.{group_at, groups_of, has_at}
 use Rattle.aeth_group.specs.declared.grant.SeatLine.{SeatLine}
 use Rattle.aeth_group.proofs.ListLemmas.{all_at}
 use Rattle.aeth_ni.specs.declared.row.ChannelRow.{ChannelRow}
-use Rattle.aeth_reconf.specs.Windows.{AreAllApart, AreQueuesApart}
+use Rattle.aeth_reconf.specs.Windows.{AreQueuesApart}
 use Rattle.aeth_seats.specs.Seats.{queue_of}
 use Rattle.aeth_tables.specs.Granted.{sending_seat}
-use Rattle.aeth_tables.specs.Tables.{tables_of}
 use Rattle.aeth_tables.proofs.ApartLaws.{ends_there, one_item, one_seat-back, one_sender}
 use Rattle.aeth_tables.proofs.ApartLaws.{queue_parts, sender_ends}
-use Rattle.aeth_tables.proofs.ListLaws.{place_in}
 use Rattle.aeth_tables.proofs.UseLaws.{is_planned}
 use Rattle.aeth_accepted.specs.Inputs.{AreAccepted, Inputs, design_of, row_at}
-use Rattle.aeth_accepted.proofs.SessionRows.{is_row, known, one, promised, reserved, row-is}
+use Rattle.aeth_accepted.proofs.SessionRows.{known, one, reserved, row-is}
 
 module _ (inputs : Inputs) (accepted : AreAccepted inputs) where
-  -- Of one use case: rows of its tables are told apart.
-  pub all_apart : AreAllApart (groups_of inputs.app) (row_at (design_of inputs))
-  all_apart u channel other has_one has_two meets =
-      let row = row_at (design_of inputs) (group_at (groups_of inputs.app) u) in
-      let rows =
-      (tables_of inputs.chip inputs.app (groups_of inputs.app) inputs.plan (record { 0 = u })).rows in
-      let keeps = promised inputs accepted u channel has_one in
-      let (i, at_i) = place_in rows (row channel) (is_row inputs accepted u channel has_one) in
-      let (j, at_j) = place_in rows (row other) (is_row inputs accepted u other has_two) in
-      let places : i ≡ j = elim meets.shares [
-        | inl queue ↦ keeps.queues i j (row channel) (row other) at_i at_j meets.ni queue
-        | inr (slot, in_one, in_two) ↦ keeps.slots i j (row channel) (row other) slot at_i at_j
-            meets.ni in_one in_two
-      ] in
-      let same : row channel ≡ row other =
-      same_Some (row channel) (row other) (sym at_i ∙ ap (slice_get rows) places ∙ at_j) in
-      ap (λ (r : ChannelRow). r.channel) same
-
   -- A channel that sends at a seat: of its core, with a position there.
   pub record SendsAt (channel : Channel) (ni : NiId) (queue : ℕ) : Type 0 where
     pub line : SeatLine

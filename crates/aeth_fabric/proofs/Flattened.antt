@@ -1,11 +1,11 @@
 -- Places of lists that are made of others.
-use Rattle.std.proofs.Common.{◌≡◌, ◌<◌, ◌+◌, ◌-◌, ◌%◌, ◌∙◌, ℕ, zero, suc, List, [], ◌∷◌, Some}
-use Rattle.std.proofs.Common.{drop, length, take, slice_get, refl, sym, ap, arith}
+use Rattle.std.proofs.Common.{◌≡◌, ◌<◌, ◌+◌, ◌%◌, ◌∙◌, ℕ, zero, suc, List, [], ◌∷◌, Some}
+use Rattle.std.proofs.Common.{drop, length, take, slice_get, refl, ap, arith}
 use Rattle.std.specs.List.{flat_map}
-use Rattle.std.proofs.Math.Nat.{add-mod_right, mod-add-mod}
 use Rattle.std.proofs.lemmas.List.{length-append}
 use Rattle.std.proofs.lemmas.List.Concat.{flat_map-cons}
 use Rattle.std.proofs.lemmas.Option.{same_Some, slice_get_within}
+use Rattle.aeth_refinement.proofs.Tables.{mod-one}
 use Rattle.aeth_reconf.proofs.WriteCounts.{before, behind}
 
 -- What an item of a list gives stands behind what those before it give.
@@ -41,13 +41,6 @@ drop-one (x ∷ []) k = refl
 drop-one (x ∷ y ∷ xs) k = refl
 
 -- Numbers that are one round a table behind as many more are one round it.
-mod-step : (size a b : ℕ) → 0 < size → (a + 1) % size ≡ (b + 1) % size → a % size ≡ b % size
-mod-step size a b some same =
-    let turn : (c : ℕ) → ((c + 1) % size + (size - 1)) % size ≡ c % size =
-    λ c. mod-add-mod (c + 1) size (size - 1)
-    ∙ ap (λ (n : ℕ). n % size) (omega (arith, some)) ∙ add-mod_right c size in
-    sym (turn a) ∙ ap (λ (n : ℕ). (n + (size - 1)) % size) same ∙ turn b
-
 pub mod-behind : (size a b p : ℕ) → 0 < size → (a + p) % size ≡ (b + p) % size
     → a % size ≡ b % size
 mod-behind size a b zero some same =
@@ -57,4 +50,4 @@ mod-behind size a b zero some same =
 mod-behind size a b (suc p) some same =
     let one : a + suc p ≡ (a + p) + 1 = omega arith in
     let two : b + suc p ≡ (b + p) + 1 = omega arith in
-    mod-behind size a b p some (mod-step size (a + p) (b + p) some (rw (one, two) at same))
+    mod-behind size a b p some (mod-one size (a + p) (b + p) some (rw (one, two) at same))

@@ -19,7 +19,8 @@ use Rattle.aeth_accepted.proofs.SoundRuns.{AreSpans, is_sound}
 use Rattle.aeth_fabric.specs.Fabric.{Placed, fabric_of, flow_in, opposite_in, passage_of, placed_at}
 use Rattle.aeth_fabric.specs.Fabric.{placed_of, row_in, stays_in}
 use Rattle.aeth_fabric.proofs.Answering.{answered, values-accepted}
-use Rattle.aeth_fabric.proofs.ApartTables.{all_apart, queues_apart}
+use Rattle.aeth_accepted.proofs.ApartRows.{all_apart}
+use Rattle.aeth_fabric.proofs.ApartTables.{queues_apart}
 use Rattle.aeth_fabric.proofs.ApartWires.{session_at, shares_none}
 use Rattle.aeth_fabric.proofs.FlowPaths.{has_path}
 use Rattle.aeth_fabric.proofs.Numbers.{IsPlacedAt, opposite-is, placed-there}

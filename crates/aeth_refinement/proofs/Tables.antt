@@ -19,7 +19,7 @@ use Rattle.aeth_refinement.proofs.Routes.{hops-on}
 use Rattle.aeth_refinement.proofs.Unique.{in-slot, some-injected, in_tables}
 
 -- Numbers that are one round a table behind one more are one round it.
-mod-one : (size a b : ℕ) → 0 < size → (a + 1) % size ≡ (b + 1) % size → a % size ≡ b % size
+pub mod-one : (size a b : ℕ) → 0 < size → (a + 1) % size ≡ (b + 1) % size → a % size ≡ b % size
 mod-one size a b some same =
     let turn : (c : ℕ) → ((c + 1) % size + (size - 1)) % size ≡ c % size =
     λ c. mod-add-mod (c + 1) size (size - 1)

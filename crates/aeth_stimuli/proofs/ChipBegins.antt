@@ -1,9 +1,8 @@
 -- The components of a chip are empty at first.
-use Rattle.std.proofs.Common.{◌≡◌, ◌<◌, ◌∙◌, ℕ, ◌*◌, refl, sym, ap, subst, arith, inl, inr}
+use Rattle.std.proofs.Common.{◌≡◌, ◌<◌, ◌∙◌, ℕ, ◌*◌, refl, sym, ap, subst, arith}
 use Rattle.std.proofs.Common.{List, [], ◌∷◌, Option, Some, None, get_or, length, map, replicate, slice_get}
 use Rattle.std.specs.List.{slice_index_or}
-use Rattle.std.proofs.lemmas.Bool.{cases_lt}
-use Rattle.std.proofs.lemmas.List.{get_or-map, get_or-replicate, get_or_past, length-map, length-replicate}
+use Rattle.std.proofs.lemmas.List.{get_or-map, length-map, length-replicate}
 use Rattle.std.proofs.lemmas.Option.{slice_get-get_or, unwrap_or-slice_get}
 use Rattle.aeth_chip.specs.Chip.{ChipData, IsChip}
 use Rattle.aeth_chip.specs.Wires.{wires_of}
@@ -16,6 +15,7 @@ use Rattle.aeth_router.specs.Stage.{StageState}
 use Rattle.aeth_router.specs.TableRouter.{TableRouterState}
 use Rattle.aeth_router.specs.declared.part.Part.{Part}
 use Rattle.aeth_router.specs.declared.part.Part.TheVariants.{Router, Stage, TableRouter}
+use Rattle.aeth_router.proofs.TableLemmas.{get_or-same}
 use Rattle.aeth_components.proofs.MadeLemmas.{IsInterface, IsRouter, IsStage, IsWired-new, length-new_parts, part-at}
 use Rattle.aeth_components.specs.Components.{first_components}
 use Rattle.aeth_components.specs.Frames.{IsWired, frame_of}
@@ -31,17 +31,9 @@ use Rattle.aeth_invariant.specs.Beginning.{AreEmpty, HasRoom}
 use Rattle.aeth_invariant.specs.Framed.{IsFramed}
 use Rattle.aeth_stimuli.specs.OnChip.{HaveRooms, IsOver, rooms_at}
 
--- A list of nothing has nothing anywhere.
-nothing-at : {X : Type 0} (none : Option X) (size i : ℕ) → get_or (replicate size none) i none ≡ none
-nothing-at none size i = elim (cases_lt i size) [
-  | inl within ↦ get_or-replicate size i none none within
-  | inr past ↦
-      let count = length-replicate size none in
-      get_or_past (replicate size none) i none (omega (arith, past, count))
-]
-
+-- Wires that hold nothing carry no flit.
 no-flit : (size l : ℕ) → flit_on (replicate size None) l ≡ None
-no-flit size l = unwrap_or-slice_get (replicate size None) l None ∙ nothing-at None size l
+no-flit size l = unwrap_or-slice_get (replicate size None) l None ∙ get_or-same None size l
 
 no-flits : (f : ℕ → Option Flit) → ((x : ℕ) → f x ≡ None) → (xs : List ℕ)
     → replicate (length xs) None ≡ map f xs
@@ -102,7 +94,7 @@ module _ (chip : ChipData) (is_chip : IsChip chip) (rooms : List ℕ)
         | None ↦ λ at. refl
         | Some part ↦ λ at. elim (part-at chip rooms n part at) [
           | IsInterface small is ↦
-              ap (λ (p : Part). entry_in x (Some p)) is ∙ nothing-at None chip.slots x
+              ap (λ (p : Part). entry_in x (Some p)) is ∙ get_or-same None chip.slots x
           | IsRouter r small place is ↦ ap (λ (p : Part). entry_in x (Some p)) is
           | IsStage k small place stage ↦ ap (λ (p : Part). entry_in x (Some p)) stage.is
         ]

@@ -4,11 +4,13 @@ use Rattle.aeth_base.proofs.Members.{Contains-slice_get}
 use Rattle.aeth_chip.specs.Nodes.{sends_on}
 use Rattle.aeth_chip.specs.declared.node.Node.TheVariants.{Router}
 use Rattle.aeth_paths.specs.Task.{links_from}
+use Rattle.aeth_paths.proofs.PrefixLemmas.{link-at}
+use Rattle.aeth_paths.proofs.StepLemmas.{few-leave}
 use Rattle.aeth_explain.specs.Fronts.{open_over}
 use Rattle.aeth_explain.specs.Verdict.{is_open}
 use Rattle.aeth_explain.proofs.OpenLemmas.{first-found, first-next}
-use Rattle.aeth_explain.proofs.OverLemmas.{below, few-ports, none-found, none-left, none-over-all}
-use Rattle.aeth_explain.proofs.OverLemmas.{none-past, over-is, over-links, port-at, some-found}
+use Rattle.aeth_explain.proofs.OverLemmas.{below, none-found, none-left, none-over-all}
+use Rattle.aeth_explain.proofs.OverLemmas.{none-past, over-is, over-links, some-found}
 use Rattle.aeth_explain.proofs.open_paths.+open_below.Goals as goal
 use Rattle.aeth_explain.proofs.open_paths.+open_below.Goals.{in-Away, in-Onward, in-Open}
 use Rattle.aeth_explain.proofs.open_paths.+open_below.Goals.{After-exit, After-is_some}
@@ -25,7 +27,7 @@ at-port : (t : _) (c : goal.After-exit t)
     ≡ slice_get (links_from c.args.listed.now.chip.now.links (Router c.args.front.now.router))
     c.loop-port.port
 at-port t c =
-    port-at (sends_on (Router c.args.front.now.router) c.args.listed.now.chip.now.links)
+    link-at (sends_on (Router c.args.front.now.router) c.args.listed.now.chip.now.links)
     c.loop-port.port c.exit.result c.exit.ensures.link
 
 -- There is no further one.
@@ -101,7 +103,7 @@ returns t c =
     c.args.left c.loop-port.port (omega (arith, c.if-left-eq0.false))
     (omega (
       arith,
-      few-ports listed.chip.now c.args.front.now.router c.requires.listed.is_chip
+      few-leave listed.chip.now (Router c.args.front.now.router) c.requires.listed.is_chip
           c.requires.front.known,
       c.loop-port-test.false,
     )) c.loop-port.invariant

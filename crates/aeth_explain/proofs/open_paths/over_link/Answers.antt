@@ -2,11 +2,12 @@ use Rattle.std.proofs.Common.{◌∙◌, ◌∷◌, [], Some, ap, arith, length,
 use Rattle.aeth_chip.specs.Chip.{IsNode}
 use Rattle.aeth_chip.specs.Paths.{to_in}
 use Rattle.aeth_chip.specs.declared.node.Node.TheVariants.{Router}
+use Rattle.aeth_paths.proofs.StepLemmas.{link-below}
 use Rattle.aeth_explain.specs.Cuts.{begins_with}
 use Rattle.aeth_explain.specs.Fronts.{IsFront}
 use Rattle.aeth_explain.specs.Places.{AreWithin}
 use Rattle.aeth_explain.specs.Verdict.{is_covered}
-use Rattle.aeth_explain.proofs.FrontLemmas.{link-low, longer-front}
+use Rattle.aeth_explain.proofs.FrontLemmas.{longer-front}
 use Rattle.aeth_explain.proofs.OverLemmas.{over-again, over-covered, over-far, over-long, over-there}
 use Rattle.aeth_explain.proofs.PlaceLemmas.{covers-within, longer-within}
 use Rattle.aeth_explain.proofs.open_paths.over_link.Goals as goal
@@ -41,7 +42,7 @@ returns-then-is_covered c =
 -- The link is one of the chip.
 pub link-requires : goal.link-requires
 link-requires c =
-    link-low c.args.listed.now.chip.now.links (Router c.args.front.now.router) c.args.link
+    link-below c.args.listed.now.chip.now.links (Router c.args.front.now.router) c.args.link
     c.requires.link
 
 -- It comes to a router again, or with too many links.

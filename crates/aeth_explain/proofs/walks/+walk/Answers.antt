@@ -7,12 +7,12 @@ use Rattle.aeth_chip.specs.Paths.{to_of}
 use Rattle.aeth_chip.specs.declared.node.Node.{Node}
 use Rattle.aeth_chip.specs.declared.node.Node.TheVariants.{Router}
 use Rattle.aeth_paths.specs.Task.{links_from}
+use Rattle.aeth_paths.proofs.StepLemmas.{few-leave}
 use Rattle.aeth_explain.specs.Certificate.{shorter_fronts}
 use Rattle.aeth_explain.specs.Fronts.{lists_below}
 use Rattle.aeth_explain.specs.TryPaths.{is_dead}
 use Rattle.aeth_explain.specs.Walks.{IsWalked}
-use Rattle.aeth_explain.proofs.OverLemmas.{few-ports}
-use Rattle.aeth_explain.proofs.StepLemmas.{below, link-at, link-leaves, links-past, open-may, path-fronts}
+use Rattle.aeth_explain.proofs.StepLemmas.{below, port-at, link-leaves, links-past, open-may, path-fronts}
 use Rattle.aeth_explain.proofs.StepLemmas.{path-room, same-ok, told-ok, tried-dead, tried-links}
 use Rattle.aeth_explain.proofs.StepLemmas.{walked-as, walked-away, walked-end, walked-links}
 use Rattle.aeth_explain.proofs.StepLemmas.{walked-longer, walked-past}
@@ -179,7 +179,7 @@ returns-then-found t c =
     let out = links_from listed.chip.now.links (Router front.router) in
     let lists : LinkId → List (List LinkId) =
     below judge listed c.requires.tried a front c.requires.front (c.args.left - 1) in
-    let at = link-at listed.chip.now.links front.router c.loop-port.port c.exit.result c.in-Some.link
+    let at = port-at listed.chip.now.links front.router c.loop-port.port c.exit.result c.in-Some.link
     c.exit.ensures.link c.in-Some.is in
     let walked = subst (λ (b : Bool). IsWalked listed.chip.now judge.groups listed.trial.now
     (lists c.in-Some.link) c.loop-port.cuts b c.match-over_link.cuts) c.if-found.true
@@ -203,7 +203,7 @@ loop-port-preserved t c =
     let out = links_from listed.chip.now.links (Router front.router) in
     let lists : LinkId → List (List LinkId) =
     below judge listed c.requires.tried a front c.requires.front (c.args.left - 1) in
-    let at = link-at listed.chip.now.links front.router c.loop-port.port c.exit.result c.in-Some.link
+    let at = port-at listed.chip.now.links front.router c.loop-port.port c.exit.result c.in-Some.link
     c.exit.ensures.link c.in-Some.is in
     let walked = subst (λ (b : Bool). IsWalked listed.chip.now judge.groups listed.trial.now
     (lists c.in-Some.link) c.loop-port.cuts b c.match-over_link.cuts) c.if-found.false
@@ -221,7 +221,7 @@ returns t c =
     (sym (dead-is t (goal.at.returns t c).After-is_dead) ∙ c.if-is_dead.false)
     (omega (
       arith,
-      few-ports c.args.listed.now.chip.now c.args.front.now.router
+      few-leave c.args.listed.now.chip.now (Router c.args.front.now.router)
           c.requires.tried.is_listed.is_chip c.requires.front.known,
       c.loop-port-test.false,
     )) c.args.cuts.now c.loop-port.cuts c.loop-port.invariant

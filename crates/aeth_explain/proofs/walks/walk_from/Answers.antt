@@ -4,17 +4,18 @@ use Rattle.aeth_base.specs.declared.ids.LinkId.{LinkId}
 use Rattle.aeth_chip.specs.Chip.{IsNode}
 use Rattle.aeth_chip.specs.Paths.{to_in}
 use Rattle.aeth_chip.specs.declared.node.Node.TheVariants.{Ni}
+use Rattle.aeth_paths.proofs.StepLemmas.{link-below}
 use Rattle.aeth_explain.specs.Cuts.{begins_with}
 use Rattle.aeth_explain.specs.Fronts.{IsFront}
 use Rattle.aeth_explain.specs.Verdict.{is_covered}
-use Rattle.aeth_explain.proofs.FrontLemmas.{first-front, link-low}
+use Rattle.aeth_explain.proofs.FrontLemmas.{first-front}
 use Rattle.aeth_explain.proofs.StepLemmas.{walked-there}
 use Rattle.aeth_explain.proofs.walks.walk_from.Goals as goal
 
 -- The link is one of the chip.
 pub link-requires : goal.link-requires
 link-requires c =
-    link-low c.args.listed.now.chip.now.links (Ni c.args.ni) c.args.link c.requires.link
+    link-below c.args.listed.now.chip.now.links (Ni c.args.ni) c.args.link c.requires.link
 
 -- It leads to an interface.
 pub returns-in-Ni : goal.returns-in-Ni
