@@ -14,6 +14,7 @@ use Rattle.aeth_report.specs.Log.{LogData}
 use Rattle.aeth_accepted.specs.Inputs.{Inputs, run_of}
 use Rattle.aeth_fabric.proofs.Carrying.{flat_map-same}
 use Rattle.aeth_running.specs.Network.{NetworkState, first_network, played}
+use Rattle.aeth_running.specs.Routing.{ByHeaders}
 use Rattle.aeth_running.specs.Running.{IsRunning}
 use Rattle.aeth_network.specs.Runs.{AreWiresOf, IsNetworkOf}
 use Rattle.aeth_network.proofs.Playing.{played-log}
@@ -54,7 +55,7 @@ seen-carried inputs t wires are =
     (Contains-slice_get (range_with_len 0 (length inputs.chip.links)) i l at)) refl))
 
 -- No cycle of the first network is done.
-pub first-time : (inputs : Inputs) (all : NetworkState) → all ≡ first_network inputs → all.time ≡ 0
+pub first-time : (inputs : Inputs) (all : NetworkState) → all ≡ first_network inputs ByHeaders → all.time ≡ 0
 unfolding first_network
 first-time inputs all is = ap (λ (now : NetworkState). now.time) is
 
@@ -64,11 +65,11 @@ module _ (inputs : Inputs) (all : NetworkState) (is : IsNetworkOf inputs all) wh
   unfolding first_network
   cycles-of =
       ap (λ (now : NetworkState). now.log.cycles) is.is
-      ∙ ap (λ (log : LogData). log.cycles) (played-log all.time (first_network inputs))
+      ∙ ap (λ (log : LogData). log.cycles) (played-log all.time (first_network inputs all.routing))
 
   -- Each link has a wire.
   pub wires-enough : ((t : ℕ) → t ≤ inputs.cycles
-      → IsRunning inputs t (played t (first_network inputs)).components)
+      → IsRunning inputs t (played t (first_network inputs all.routing)).components)
       → length inputs.chip.links ≤ length all.components.wires
   wires-enough runs =
       let running = runs all.time is.within in

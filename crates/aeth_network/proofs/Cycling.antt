@@ -7,7 +7,7 @@ use Rattle.std.specs.List.{zip}
 use Rattle.std.specs.List.Sorted.{IsNonDecreasing, IsNonDecreasingBy}
 use Rattle.std.proofs.lemmas.Bool.{cases_Bool}
 use Rattle.std.proofs.lemmas.Bool.Decides.{nat_tests}
-use Rattle.std.proofs.lemmas.List.{get_or-map, length-append, length-map, take-map}
+use Rattle.std.proofs.lemmas.List.{drop-map, get_or-map, length-append, length-map, take-map}
 use Rattle.std.proofs.lemmas.List.Elements.{All-drop, All-filter, All-take, All-weaker}
 use Rattle.std.proofs.lemmas.List.Sums.{sum_by-append}
 use Rattle.std.proofs.lemmas.Slice.Zip.{firsts-zip, seconds-zip}
@@ -15,13 +15,14 @@ use Rattle.aeth_trace.specs.Channels.{channel_number}
 use Rattle.aeth_report.specs.Log.{LogData}
 use Rattle.aeth_components.specs.Components.{ComponentsState, Cycle, frames_of}
 use Rattle.aeth_components.specs.Events.{IsDoable}
-use Rattle.aeth_components.specs.Frames.{frame_of}
+use Rattle.aeth_components.specs.Frames.{Frame, frame_of}
 use Rattle.aeth_components.specs.Lanes.{IsLane}
 use Rattle.aeth_components.specs.declared.event.Event.{Event}
 use Rattle.aeth_schedule.specs.declared.going.Going.{Going}
 use Rattle.aeth_events.specs.Events.{events_in}
 use Rattle.aeth_running.specs.Network.{NetworkState, gone_with, goings_in, offers_in, ready_in}
 use Rattle.aeth_running.specs.Network.{stepped, takes_in, untils_in}
+use Rattle.aeth_running.specs.Routing.{Entering, Routing, entered_with, enterings_in}
 use Rattle.aeth_running.specs.Quiet.{brought_over}
 use Rattle.aeth_stimuli.specs.Stimuli.{Offer, Stimuli, Take}
 use Rattle.aeth_network.specs.Behind.{IsBehind, passed}
@@ -34,7 +35,7 @@ use Rattle.aeth_network.specs.declared.state.State.{State}
 use Rattle.aeth_network.proofs.FitLemmas.{AreFit-all_gone}
 use Rattle.aeth_network.proofs.Passed.{passed-few, passed-range}
 use Rattle.aeth_network.proofs.Stepping.{All-passing, IsNetwork-behind, behind, behind-is, coming-are}
-use Rattle.aeth_network.proofs.Stepping.{goings-are, length-in, ways-are}
+use Rattle.aeth_network.proofs.Stepping.{frames-ready, goings-are, length-in, ways-are}
 
 -- The rows of a cycle, between the places of the first and behind the last.
 pub rows-behind : {X : Type 0} (key : X → ℕ) (t : ℕ) (all seen now : List X) (from to : ℕ)
@@ -54,11 +55,6 @@ passed-map key t (x ∷ xs) =
       | inl before ↦ rw before (ap (λ n. suc n) rest)
       | inr behind ↦ rw behind rest
     ]
-
-drop-map : {X Y : Type 0} (f : X → Y) (n : ℕ) (xs : List X) → drop n (map f xs) ≡ map f (drop n xs)
-drop-map f zero xs = refl
-drop-map f (suc n) [] = refl
-drop-map f (suc n) (x ∷ xs) = drop-map f n xs
 
 -- The events of a cycle are those between its places, where each has its cycle beside it.
 pub events-range : (t : ℕ) (cycles : List ℕ) (events : List Event) → length cycles ≡ length events
@@ -93,13 +89,14 @@ events-range t cycles events size rises =
 
 -- What is given comes in order.
 pub in-order : (capacity : ℕ) (all : NetworkState) → IsNetwork capacity all
-    → AreInOrder all.stimuli
+    → AreInOrder all.stimuli all.routing
 in-order capacity all is = record {
   event_cycles = is.stimuli.event_cycles;
   events = is.stimuli.event_order;
   goings = is.stimuli.going_order;
   offers = is.stimuli.offer_order;
   takes = is.stimuli.take_order;
+  enterings = is.enterings;
 }
 
 -- More room is enough too.
@@ -109,6 +106,7 @@ IsNetwork-more capacity more all le is =
     let enough = is.enough in
     record {
       stimuli = is.stimuli;
+      enterings = is.enterings;
       components = is.components;
       some_parts = is.some_parts;
       untils = is.untils;
@@ -128,13 +126,13 @@ IsNetwork-more capacity more all le is =
       cycles = is.cycles;
     }
 
-module _ (stimuli : Stimuli) (state : State) (log : LogData) (time : ℕ)
-    (is : IsNetwork (vec_capacity state.replaced) (network_of stimuli state log time))
+module _ (stimuli : Stimuli) (routing : Routing) (state : State) (log : LogData) (time : ℕ)
+    (is : IsNetwork (vec_capacity state.replaced) (network_of stimuli routing state log time))
     (rows : CycleRows) (goings : rows.goings.now ≡ goings_in stimuli time)
     (offers : rows.offers.now ≡ offers_in stimuli time)
     (takes : rows.takes.now ≡ takes_in stimuli time) where
   abbrev old : NetworkState
-  old = network_of stimuli state log time
+  old = network_of stimuli routing state log time
 
   -- The words of a cycle have room, once its sessions have gone.
   fit-started : AreFit (length state.components.words) (length state.components.parts)
@@ -219,43 +217,58 @@ module _ (stimuli : Stimuli) (state : State) (log : LogData) (time : ℕ)
   -- It was brought, and the components do its events.
   module _ (brought : State) (has : IsBrought rows time state brought)
       (events : rows.events.now ≡ events_in stimuli time) where
-    pub ready : brought.components ≡ ready_in old
-    ready = rw (has.components, has.untils, goings, offers, takes) refl
+    -- The network that has brought a cycle in which no rows enter tables, and leaves out the components'
+    -- own.
+    pub over : enterings_in routing time ≡ []
+        → network_of stimuli routing brought log (time + 1) ≡ brought_over old
+    over none =
+        let behind = brought_over old in
+        let ready = ready_in old in
+        rw (has.components, has.outside, has.untils, has.replaced, goings, offers, takes)
+        (ap (λ (enterings : List Entering). record behind {
+          components = record ready {
+            parts = fold entered_with state.components.parts enterings;
+          };
+        }) (sym none))
 
-    pub events-doable : All (IsDoable (frames_of brought.components)) rows.events.now
-    events-doable =
-        let frames = frames_of state.components in
-        let all = stimuli.schedule.events in
-        let from = passed (λ (cycle : ℕ). cycle) time stimuli.schedule.cycles in
-        let to = passed (λ (cycle : ℕ). cycle) (time + 1) stimuli.schedule.cycles in
-        rw (events, ready) (subst (All (IsDoable frames)) (events-range time
-        stimuli.schedule.cycles all is.stimuli.event_cycles is.stimuli.event_order)
-        (All-take (IsDoable frames) (to - from) (drop from all)
-        (All-drop (IsDoable frames) from all is.stimuli.events)))
+    module _ (entered : ComponentsState) (enters : entered ≡ record brought.components {
+      parts = fold entered_with brought.components.parts (enterings_in routing time);
+    }) where
+      pub ready : entered ≡ ready_in old
+      ready = enters ∙ rw (has.components, has.untils, goings, offers, takes) refl
 
-    -- The network that has brought a cycle, and leaves out the components' own.
-    pub over : network_of stimuli brought log (time + 1) ≡ brought_over old
-    over = rw (has.components, has.outside, has.untils, has.replaced, goings, offers, takes) refl
+      pub events-doable : All (IsDoable (frames_of entered)) rows.events.now
+      events-doable =
+          let frames = frames_of state.components in
+          let all = stimuli.schedule.events in
+          let from = passed (λ (cycle : ℕ). cycle) time stimuli.schedule.cycles in
+          let to = passed (λ (cycle : ℕ). cycle) (time + 1) stimuli.schedule.cycles in
+          rw (events, ready) (subst (λ (list : List Frame). All (IsDoable list) (events_in stimuli time))
+          (sym (frames-ready (vec_capacity state.replaced) old is))
+          (subst (All (IsDoable frames)) (events-range time
+          stimuli.schedule.cycles all is.stimuli.event_cycles is.stimuli.event_order)
+          (All-take (IsDoable frames) (to - from) (drop from all)
+          (All-drop (IsDoable frames) from all is.stimuli.events))))
 
-    module _ (new : ComponentsState) (did : Cycle rows.events.now time brought.components new) where
-      done : Cycle (events_in stimuli time) time (ready_in old) new
-      done =
-          subst (λ (list : List Event). Cycle list time (ready_in old) new) events
-          (subst (λ (all : ComponentsState). Cycle rows.events.now time all new) ready did)
+      module _ (new : ComponentsState) (did : Cycle rows.events.now time entered new) where
+        done : Cycle (events_in stimuli time) time (ready_in old) new
+        done =
+            subst (λ (list : List Event). Cycle list time (ready_in old) new) events
+            (subst (λ (all : ComponentsState). Cycle rows.events.now time all new) ready did)
 
-      -- The network behind it.
-      abbrev pub after : NetworkState
-      after = network_of stimuli (record brought { components = new }) log (time + 1)
+        -- The network behind it.
+        abbrev pub after : NetworkState
+        after = network_of stimuli routing (record brought { components = new }) log (time + 1)
 
-      same : after ≡ behind (vec_capacity state.replaced) old is new done
-      same = rw (has.outside, has.untils, has.replaced, goings, offers) refl
+        same : after ≡ behind (vec_capacity state.replaced) old is new done
+        same = rw (has.outside, has.untils, has.replaced, goings, offers) refl
 
-      pub network-behind : IsNetwork (vec_capacity brought.replaced) after
-      network-behind =
-          subst (IsNetwork (vec_capacity brought.replaced)) (sym same)
-          (IsNetwork-more (vec_capacity state.replaced) (vec_capacity brought.replaced)
-          (behind (vec_capacity state.replaced) old is new done) has.capacity
-          (IsNetwork-behind (vec_capacity state.replaced) old is new done))
+        pub network-behind : IsNetwork (vec_capacity brought.replaced) after
+        network-behind =
+            subst (IsNetwork (vec_capacity brought.replaced)) (sym same)
+            (IsNetwork-more (vec_capacity state.replaced) (vec_capacity brought.replaced)
+            (behind (vec_capacity state.replaced) old is new done) has.capacity
+            (IsNetwork-behind (vec_capacity state.replaced) old is new done))
 
-      pub stepped-behind : after ≡ stepped old
-      stepped-behind = same ∙ behind-is (vec_capacity state.replaced) old is new done
+        pub stepped-behind : after ≡ stepped old
+        stepped-behind = same ∙ behind-is (vec_capacity state.replaced) old is new done

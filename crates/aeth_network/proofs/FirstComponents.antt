@@ -22,6 +22,8 @@ use Rattle.aeth_components.specs.declared.event.Event.{Event}
 use Rattle.aeth_components.specs.declared.making.RouterKind.TheVariants.{ByHeader}
 use Rattle.aeth_components.proofs.MadeLemmas.{IsWired-new, length-new_parts}
 use Rattle.aeth_components.proofs.PartLemmas.{frames-switched}
+use Rattle.aeth_running.proofs.PlayedTables.{frames-first}
+use Rattle.aeth_running.specs.Routing.{Routing, entered_first, kind_of}
 use Rattle.aeth_stimuli.specs.Loaded.{no_lane}
 use Rattle.aeth_stimuli.specs.Stimuli.{Offer}
 use Rattle.aeth_network.specs.Fits.{AreFit, HaveCounts, is_accepted}
@@ -38,21 +40,23 @@ IsLane-none words parts some = record {
   within = omega arith;
 }
 
--- Components with events done before the first cycle.
-module _ (chip : ChipData) (is_chip : IsChip chip) (rooms : List ℕ) (count : ℕ) (words : List ℕ)
+-- Components with events done before the first cycle, and the first rows in tables.
+module _ (routing : Routing) (chip : ChipData) (is_chip : IsChip chip) (rooms : List ℕ) (count : ℕ) (words : List ℕ)
     (events : List Event) where
   abbrev pub made : ComponentsState
-  made = first_components chip ByHeader rooms (replicate count no_lane) words
+  made = first_components chip (kind_of routing) rooms (replicate count no_lane) words
 
   abbrev pub with_loaded : ComponentsState
-  with_loaded = record made { parts = switched events made.parts }
+  with_loaded = record made { parts = entered_first routing (switched events made.parts) }
 
   pub loaded-frames : frames_of with_loaded ≡ map frame_of (new_parts chip ByHeader rooms)
-  loaded-frames = frames-switched events (new_parts chip ByHeader rooms)
+  loaded-frames =
+      frames-first routing chip rooms events
+      ∙ frames-switched events (new_parts chip ByHeader rooms)
 
   pub loaded-size : length with_loaded.parts ≡ part_count chip
   loaded-size =
-      sym (length-map (switched events (new_parts chip ByHeader rooms)) frame_of)
+      sym (length-map with_loaded.parts frame_of)
       ∙ ap length loaded-frames ∙ length-map (new_parts chip ByHeader rooms) frame_of
       ∙ length-new_parts chip rooms
 

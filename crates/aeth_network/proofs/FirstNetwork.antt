@@ -22,7 +22,8 @@ use Rattle.aeth_components.specs.Frames.{Frame, frame_of}
 use Rattle.aeth_components.specs.Making.{new_parts}
 use Rattle.aeth_report.specs.Log.{LogData}
 use Rattle.aeth_components.specs.Lanes.{IsLane}
-use Rattle.aeth_components.specs.declared.making.RouterKind.TheVariants.{ByHeader}
+use Rattle.aeth_components.proofs.KindLemmas.{frames-kind}
+use Rattle.aeth_components.specs.declared.making.RouterKind.{RouterKind}
 use Rattle.aeth_accepted.specs.Inputs.{AreAccepted, Inputs}
 use Rattle.aeth_schedule.specs.Goings.{goings_of}
 use Rattle.aeth_schedule.specs.Rooms.{rooms_of}
@@ -30,7 +31,9 @@ use Rattle.aeth_schedule.specs.Switching.{loaded_of}
 use Rattle.aeth_schedule.specs.Values.{values_of, values_on, values_with}
 use Rattle.aeth_schedule.specs.declared.going.Going.{Going}
 use Rattle.aeth_running.specs.FirstLog.{first_channel, first_log}
-use Rattle.aeth_running.specs.Network.{first_network}
+use Rattle.aeth_running.proofs.PlayedTables.{later-order}
+use Rattle.aeth_running.specs.Network.{first_network, routed_components}
+use Rattle.aeth_running.specs.Routing.{ByHeaders, Entering, IsRoutingFor, Routing, later_rows}
 use Rattle.aeth_stimuli.specs.Loaded.{loaded_components, no_lane}
 use Rattle.aeth_stimuli.specs.Stimuli.{AreStimuli, Offer, Stimuli, Take, offer_of, stimuli_of}
 use Rattle.aeth_network.specs.Behind.{passed}
@@ -87,13 +90,14 @@ pub length-channels_of : (n : ℕ) → length (channels_of n) ≡ 2 * n
 length-channels_of n =
     over-two (range_with_len 0 n) ∙ ap (λ k. 2 * k) (count-range n)
 
-module _ (inputs : Inputs) (accepted : AreAccepted inputs)
+module _ (inputs : Inputs) (accepted : AreAccepted inputs) (routing : Routing)
+    (routes : IsRoutingFor inputs routing)
     (stimuli : AreStimuli (2 * length inputs.app.connections)
     (length (values_of inputs.words (length inputs.app.connections)))
     (frames_of (loaded_components inputs)) (stimuli_of inputs)) where
   -- It has all that holds of networks.
   pub IsNetwork-first : (capacity : ℕ) → length (goings_of inputs) ≤ capacity
-      → IsNetwork capacity (first_network inputs)
+      → IsNetwork capacity (first_network inputs routing)
   unfolding first_network
   IsNetwork-first capacity enough =
       let chip = inputs.chip in
@@ -104,13 +108,13 @@ module _ (inputs : Inputs) (accepted : AreAccepted inputs)
       let events = loaded_of inputs in
       let values = values_of inputs.words connections in
       let all = stimuli_of inputs in
-      let components = loaded_components inputs in
-      let lanes : length (first_network inputs).components.lanes ≡ channels =
+      let components = routed_components inputs routing in
+      let lanes : length (first_network inputs routing).components.lanes ≡ channels =
       length-replicate channels no_lane in
-      let zeros : length (first_network inputs).untils ≡ channels = length-replicate channels 0 in
-      let outsides : length (first_network inputs).outside ≡ channels =
+      let zeros : length (first_network inputs routing).untils ≡ channels = length-replicate channels 0 in
+      let outsides : length (first_network inputs routing).outside ≡ channels =
       length-replicate channels 0 in
-      let size = loaded-size chip is_chip rooms channels values events in
+      let size = loaded-size routing chip is_chip rooms channels values events in
       let some_nis = is_chip.some_nis in
       let some : 0 < length components.parts = omega arith in
       let none = passed-first (λ (one : Offer). one.cycle) all.offers in
@@ -121,13 +125,16 @@ module _ (inputs : Inputs) (accepted : AreAccepted inputs)
       let left = length-drop (passed (λ (one : Offer). one.cycle) 0 all.offers) all.offers in
       let few_rows = accepted.words.few in
       let most = accepted.design.app_is.connections in
-      let made : length (first_network inputs).log.channels ≡ length (channels_of connections) =
+      let made : length (first_network inputs routing).log.channels ≡ length (channels_of connections) =
       length-map (channels_of connections) (first_channel inputs) in
       let counted = length-channels_of connections in
       record {
         stimuli = subst (λ n. AreStimuli n (length values) (frames_of components) all) (sym lanes)
-            stimuli;
-        components = IsComponents-loaded chip is_chip rooms channels values events;
+            (subst (λ (frames : List Frame). AreStimuli channels (length values) frames all)
+            (loaded-frames ByHeaders chip is_chip rooms channels values events
+            ∙ sym (loaded-frames routing chip is_chip rooms channels values events)) stimuli);
+        enterings = later-order inputs routing routes;
+        components = IsComponents-loaded routing chip is_chip rooms channels values events;
         some_parts = some;
         untils = omega arith;
         outside = omega arith;
@@ -145,35 +152,38 @@ module _ (inputs : Inputs) (accepted : AreAccepted inputs)
         few_goings = goings-few inputs accepted;
         few_channels = omega arith;
         few_words = values-few inputs.words connections few_rows most;
-        few_parts = few-parts chip is_chip rooms channels values events;
+        few_parts = few-parts routing chip is_chip rooms channels values events;
         cycles = accepted.cycles;
       }
 
 -- All places are the first.
-pub AreCursors-first : (cursors : Cursors) (all : Stimuli) → cursors.event ≡ 0 → cursors.going ≡ 0
-    → cursors.offer ≡ 0 → cursors.take ≡ 0 → cursors.window ≡ 0 → AreCursors cursors 0 all
-AreCursors-first cursors all event going offer take window = record {
+pub AreCursors-first : (cursors : Cursors) (all : Stimuli) (routing : Routing) → cursors.event ≡ 0
+    → cursors.going ≡ 0 → cursors.offer ≡ 0 → cursors.take ≡ 0 → cursors.window ≡ 0
+    → cursors.entering ≡ 0 → AreCursors cursors 0 all routing
+AreCursors-first cursors all routing event going offer take window entering = record {
   event_is = event ∙ sym (passed-first (λ (cycle : ℕ). cycle) all.schedule.cycles);
   going_is = going ∙ sym (passed-first (λ (one : Going). one.lane.go) all.schedule.goings);
   offer_is = offer ∙ sym (passed-first (λ (one : Offer). one.cycle) all.offers);
   take_is = take ∙ sym (passed-first (λ (one : Take). one.cycle) all.takes);
   window_is = over-none cursors.window 0 all.schedule.windows window;
+  entering_is = entering ∙ sym (passed-first (λ (one : Entering). one.cycle) (later_rows routing));
 }
 
--- The components can do what is written before the first cycle.
-pub loaded-doable : (inputs : Inputs) (accepted : AreAccepted inputs)
+-- The components can do what is written before the first cycle, whatever the kind of routers.
+pub loaded-doable : (inputs : Inputs) (accepted : AreAccepted inputs) (kind : RouterKind)
     → All (IsDoable (frames_of (loaded_components inputs))) (loaded_of inputs)
-    → All (IsDoable (map frame_of (new_parts inputs.chip ByHeader (rooms_of inputs)))) (loaded_of inputs)
-loaded-doable inputs accepted all =
+    → All (IsDoable (map frame_of (new_parts inputs.chip kind (rooms_of inputs)))) (loaded_of inputs)
+loaded-doable inputs accepted kind all =
     subst (λ (frames : List Frame). All (IsDoable frames) (loaded_of inputs))
-    (loaded-frames inputs.chip accepted.design.chip_is (rooms_of inputs)
+    (loaded-frames ByHeaders inputs.chip accepted.design.chip_is (rooms_of inputs)
     (2 * length inputs.app.connections)
-    (values_of inputs.words (length inputs.app.connections)) (loaded_of inputs)) all
+    (values_of inputs.words (length inputs.app.connections)) (loaded_of inputs)
+    ∙ sym (frames-kind inputs.chip kind (rooms_of inputs))) all
 
 -- The network of inputs, part by part.
-pub first-from : (inputs : Inputs) (stimuli : Stimuli) (state : State) (log : LogData)
-    → stimuli ≡ stimuli_of inputs → IsFirstState inputs state → log ≡ first_log inputs
-    → network_of stimuli state log 0 ≡ first_network inputs
+pub first-from : (inputs : Inputs) (stimuli : Stimuli) (routing : Routing) (state : State)
+    (log : LogData) → stimuli ≡ stimuli_of inputs → IsFirstState inputs routing state
+    → log ≡ first_log inputs → network_of stimuli routing state log 0 ≡ first_network inputs routing
 unfolding first_network
-first-from inputs stimuli state log given first log_is =
+first-from inputs stimuli routing state log given first log_is =
     rw (given, first.components, first.untils, first.outside, first.replaced, log_is) refl

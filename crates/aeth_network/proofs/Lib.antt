@@ -3,6 +3,7 @@ mod ByNumberLemmas
 mod CarriedLemmas
 mod CycleLemmas
 mod Cycling
+pub mod Enterings
 mod FewGoings
 mod FirstComponents
 mod FirstGoings

@@ -27,6 +27,7 @@ use Rattle.aeth_running.proofs.StillGoings.{no-goings}
 use Rattle.aeth_running.proofs.StillRows.{no-switches}
 use Rattle.aeth_running.specs.Network.{NetworkState, accepted_with, first_network, gone_with}
 use Rattle.aeth_running.specs.Network.{goings_in, offers_in, played, stepped, untils_in}
+use Rattle.aeth_running.specs.Routing.{Routing}
 use Rattle.aeth_running.specs.Quiet.{AreStill, IsNextBusy, IsQuiet, ready_lanes}
 use Rattle.aeth_running.specs.Still.{IsStill}
 use Rattle.aeth_network.specs.Behind.{passed}
@@ -56,10 +57,10 @@ mute-unless cycle part never = elim (cases_Bool (sends_own cycle part)) [
 ]
 
 -- Of no channel of the first network has anything landed.
-first-landed : (inputs : Inputs) (number : ℕ) (lane : Lane)
-    → slice_get (first_network inputs).components.lanes number ≡ Some lane → lane.landed ≡ 0
+first-landed : (inputs : Inputs) (routing : Routing) (number : ℕ) (lane : Lane)
+    → slice_get (first_network inputs routing).components.lanes number ≡ Some lane → lane.landed ≡ 0
 unfolding first_network
-first-landed inputs number lane at =
+first-landed inputs routing number lane at =
     let count = 2 * length inputs.app.connections in
     let within = slice_get_within (replicate count no_lane) number lane at in
     let size = length-replicate count no_lane in
@@ -70,26 +71,27 @@ first-landed inputs number lane at =
 
 -- The network of inputs before their first cycle.
 begins : (inputs : Inputs) (all : NetworkState) → IsNetworkOf inputs all → all.time ≡ 0
-    → all ≡ first_network inputs
+    → all ≡ first_network inputs all.routing
 unfolding played
-begins inputs all of start = of.is ∙ ap (λ n. played n (first_network inputs)) start
+begins inputs all of start =
+    of.is ∙ ap (λ n. played n (first_network inputs all.routing)) start
 
 -- No cycle leaves a network as it is.
 played-zero : (all : NetworkState) → played 0 all ≡ all
 unfolding played
 played-zero all = refl
 
-module _ (inputs : Inputs) (quiet : (t k : ℕ) → t + k < inputs.cycles
-    → ((l : ℕ) → flit_on (played t (first_network inputs)).components.wires l ≡ None)
-    → ((j : ℕ) → j < k → IsStill (played (t + j) (first_network inputs)))
-    → IsStill (played (t + k) (first_network inputs))
-    ↔ IsQuiet (played t (first_network inputs)) k) where
+module _ (inputs : Inputs) (all : NetworkState) (quiet : (t k : ℕ) → t + k < inputs.cycles
+    → ((l : ℕ) → flit_on (played t (first_network inputs all.routing)).components.wires l ≡ None)
+    → ((j : ℕ) → j < k → IsStill (played (t + j) (first_network inputs all.routing)))
+    → IsStill (played (t + k) (first_network inputs all.routing))
+    ↔ IsQuiet (played t (first_network inputs all.routing)) k) where
   -- A cycle leaves a network where it is quiet.
-  quiet-at : (t k : ℕ) (one : NetworkState) → one ≡ played t (first_network inputs)
+  quiet-at : (t k : ℕ) (one : NetworkState) → one ≡ played t (first_network inputs all.routing)
       → t + k < inputs.cycles → ((l : ℕ) → flit_on one.components.wires l ≡ None)
       → AreStill k one → IsStill (played k one) ↔ IsQuiet one k
   quiet-at t k one is early =
-      let first = first_network inputs in
+      let first = first_network inputs all.routing in
       subst (λ (net : NetworkState). ((l : ℕ) → flit_on net.components.wires l ≡ None)
       → AreStill k net → IsStill (played k net) ↔ IsQuiet net k) (sym is)
       (λ empty still.
@@ -97,7 +99,7 @@ module _ (inputs : Inputs) (quiet : (t k : ℕ) → t + k < inputs.cycles
       (sym (played-sum k t first))
       (quiet t k early empty (λ j less. subst IsStill (played-sum j t first) (still j less))))
 
-  module _ (all : NetworkState) (of : IsNetworkOf inputs all) (capacity : ℕ)
+  module _ (of : IsNetworkOf inputs all) (capacity : ℕ)
       (is : IsNetwork capacity all) (empty : (l : ℕ) → flit_on all.components.wires l ≡ None) where
     abbrev key : Take → ℕ
     key one = one.cycle
@@ -110,7 +112,7 @@ module _ (inputs : Inputs) (quiet : (t k : ℕ) → t + k < inputs.cycles
         → IsStill (played k all) ↔ IsQuiet all k
     iff k early still = quiet-at all.time k all of.is early empty still
 
-    stimuli-are : all.stimuli ≡ (played all.time (first_network inputs)).stimuli
+    stimuli-are : all.stimuli ≡ (played all.time (first_network inputs all.routing)).stimuli
     stimuli-are = ap (λ (one : NetworkState). one.stimuli) of.is
 
     -- Where no word is offered and no switch does anything, no session goes but in cycle 0.
@@ -118,7 +120,7 @@ module _ (inputs : Inputs) (quiet : (t k : ℕ) → t + k < inputs.cycles
         → All (λ window. IsWithin window all.time → ⊥) all.stimuli.schedule.windows
         → 0 < all.time → goings_in all.stimuli all.time ≡ []
     ungone early none late =
-        let same = stimuli-are ∙ first-stimuli inputs all.time in
+        let same = stimuli-are ∙ first-stimuli inputs all.routing all.time in
         ap (λ (s : Stimuli). goings_in s all.time) same
         ∙ no-goings inputs all.time (no-switches inputs all.time early
         (subst (λ (s : Stimuli). All (λ window. IsWithin window all.time → ⊥) s.schedule.windows) same
@@ -148,7 +150,7 @@ module _ (inputs : Inputs) (quiet : (t k : ℕ) → t + k < inputs.cycles
         let landed = way.sound.landed in
         let handed = way.sound.handed in
         omega arith) goings (ways-are capacity all is))
-        (λ k one there. first-landed inputs k one
+        (λ k one there. first-landed inputs all.routing k one
         (ap (λ (net : NetworkState). slice_get net.components.lanes k) (sym (begins inputs all of start))
         ∙ there)) number lane
         (ap (λ (offers : List Offer). slice_get (fold (accepted_with all.time untils) gone offers) number)
@@ -179,7 +181,7 @@ module _ (inputs : Inputs) (quiet : (t k : ℕ) → t + k < inputs.cycles
           (begun-later (ungone early none late) unoffered) unasked has
       | inr begin ↦
           let start : all.time ≡ 0 = omega arith in
-          let landed = first-landed inputs has.number has.lane
+          let landed = first-landed inputs all.routing has.number has.lane
           (ap (λ (net : NetworkState). slice_get net.components.lanes has.number)
           (sym (begins inputs all of start)) ∙ has.at) in
           let waits = has.asks.waits in
@@ -285,7 +287,7 @@ module _ (inputs : Inputs) (quiet : (t k : ℕ) → t + k < inputs.cycles
           }
 
   -- Where a wire has a flit it is the cycle that comes.
-  module _ (all : NetworkState) (of : IsNetworkOf inputs all)
+  module _ (of : IsNetworkOf inputs all)
       (some : ((l : ℕ) → flit_on all.components.wires l ≡ None) → ⊥) where
     pub now-busy : IsNextBusy all all.time
     now-busy =

@@ -6,8 +6,9 @@ use Rattle.aeth_accepted.specs.Inputs.{AreAccepted, Inputs}
 use Rattle.aeth_schedule.specs.Rooms.{rooms_of}
 use Rattle.aeth_schedule.specs.Switching.{loaded_of}
 use Rattle.aeth_schedule.specs.Values.{values_of}
-use Rattle.aeth_running.proofs.Played.{stepped-log, stepped-time}
+use Rattle.aeth_running.proofs.Played.{stepped-log, stepped-routing, stepped-time}
 use Rattle.aeth_running.specs.Network.{NetworkState, first_network, played, stepped}
+use Rattle.aeth_running.specs.Routing.{IsRoutingFor, Routing}
 use Rattle.aeth_running.specs.Told.{network_log, told}
 use Rattle.aeth_network.specs.Runs.{IsNetworkOf}
 use Rattle.aeth_network.proofs.FirstComponents.{loaded-size}
@@ -55,26 +56,28 @@ played-same old new is =
     ap told (played-none (new.log.cycles - new.time) new (played-left old new is) ∙ is)
 
 -- The network of inputs plays all their cycles.
-pub first-plays : (inputs : Inputs) (network : NetworkState) → network ≡ first_network inputs
-    → told (played (network.log.cycles - network.time) network) ≡ network_log inputs
+pub first-plays : (inputs : Inputs) (routing : Routing) (network : NetworkState)
+    → network ≡ first_network inputs routing
+    → told (played (network.log.cycles - network.time) network) ≡ network_log inputs routing
 unfolding first_network network_log
-first-plays inputs network is =
+first-plays inputs routing network is =
     let all : inputs.cycles - 0 ≡ inputs.cycles = omega arith in
     rw (is, all) refl
 
-pub first-left : (inputs : Inputs) (network : NetworkState) → network ≡ first_network inputs
+pub first-left : (inputs : Inputs) (routing : Routing) (network : NetworkState)
+    → network ≡ first_network inputs routing
     → network.log.cycles - network.time ≡ inputs.cycles
 unfolding first_network
-first-left inputs network is = rw is (omega arith)
+first-left inputs routing network is = rw is (omega arith)
 
 -- It has components.
-pub first-count : (inputs : Inputs) → AreAccepted inputs → (network : NetworkState)
-    → network ≡ first_network inputs → 0 < length network.components.parts
+pub first-count : (inputs : Inputs) → AreAccepted inputs → (routing : Routing)
+    (network : NetworkState) → network ≡ first_network inputs routing → 0 < length network.components.parts
 unfolding first_network
-first-count inputs accepted network is =
+first-count inputs accepted routing network is =
     let is_chip = accepted.design.chip_is in
     let some = is_chip.some_nis in
-    let size = loaded-size inputs.chip is_chip (rooms_of inputs)
+    let size = loaded-size routing inputs.chip is_chip (rooms_of inputs)
     (2 * length inputs.app.connections)
     (values_of inputs.words (length inputs.app.connections)) (loaded_of inputs) in
     let parts = ap (λ (all : NetworkState). length all.components.parts) is in
@@ -86,18 +89,22 @@ pub cycles-of : (inputs : Inputs) (all : NetworkState) → IsNetworkOf inputs al
 unfolding first_network
 cycles-of inputs all is =
     ap (λ (now : NetworkState). now.log.cycles) is.is
-    ∙ ap (λ (log : LogData). log.cycles) (played-log all.time (first_network inputs))
+    ∙ ap (λ (log : LogData). log.cycles) (played-log all.time (first_network inputs all.routing))
 
 -- The first network is that of its inputs, and it stays theirs, cycle by cycle.
-pub first-of : (inputs : Inputs) → AreAccepted inputs → (network : NetworkState)
-    → network ≡ first_network inputs → IsNetworkOf inputs network
+pub first-of : (inputs : Inputs) → AreAccepted inputs → (routing : Routing)
+    → IsRoutingFor inputs routing → (network : NetworkState)
+    → network ≡ first_network inputs routing → IsNetworkOf inputs network
 unfolding first_network
-first-of inputs accepted network is =
+first-of inputs accepted routing routes network is =
     let none : network.time ≡ 0 = ap (λ (all : NetworkState). all.time) is in
+    let same : routing ≡ network.routing = sym (ap (λ (all : NetworkState). all.routing) is) in
     record {
       accepted = accepted;
+      routed = subst (IsRoutingFor inputs) same routes;
       within = omega arith;
-      is = is ∙ sym (played-none network.time (first_network inputs) none);
+      is = is ∙ ap (first_network inputs) same
+          ∙ sym (played-none network.time (first_network inputs network.routing) none);
     }
 
 pub still-of : (inputs : Inputs) (old new : NetworkState) → IsNetworkOf inputs old
@@ -106,10 +113,15 @@ still-of inputs old new is early steps =
     let cycles = cycles-of inputs old is in
     let time : new.time ≡ old.time + 1 =
     ap (λ (all : NetworkState). all.time) steps ∙ stepped-time old in
+    let same : old.routing ≡ new.routing =
+    sym (ap (λ (all : NetworkState). all.routing) steps ∙ stepped-routing old) in
     record {
       accepted = is.accepted;
+      routed = subst (IsRoutingFor inputs) same is.routed;
       within = omega arith;
-      is = steps ∙ ap stepped is.is ∙ played-more old.time new.time (first_network inputs) time;
+      is = steps ∙ ap stepped is.is
+          ∙ played-more old.time new.time (first_network inputs old.routing) time
+          ∙ ap (λ routing. played new.time (first_network inputs routing)) same;
     }
 
 pub many-of : (inputs : Inputs) (old : NetworkState) (cycles : ℕ) → IsNetworkOf inputs old
@@ -137,7 +149,7 @@ done-of inputs old new is of =
 
 -- Then it tells the log of the network of the inputs.
 pub log-of : (inputs : Inputs) (all : NetworkState) → IsNetworkOf inputs all
-    → all.time ≡ inputs.cycles → told all ≡ network_log inputs
+    → all.time ≡ inputs.cycles → told all ≡ network_log inputs all.routing
 unfolding network_log
 log-of inputs all is done =
-    ap told (is.is ∙ ap (λ n. played n (first_network inputs)) done)
+    ap told (is.is ∙ ap (λ n. played n (first_network inputs all.routing)) done)

@@ -14,12 +14,13 @@ use Rattle.aeth_refinement.specs.Fabric.{AtRouter}
 use Rattle.aeth_accepted.specs.Inputs.{Inputs, run_of}
 use Rattle.aeth_fabric.specs.Fabric.{fabric_of}
 use Rattle.aeth_running.specs.Network.{first_network, played}
+use Rattle.aeth_running.specs.Routing.{Routing}
 use Rattle.aeth_network.specs.Runs.{AreWiresOf}
 
-module _ (inputs : Inputs) where
+module _ (inputs : Inputs) (routing : Routing) where
   -- The wires behind so many cycles.
   abbrev pub wires_behind : ℕ → List (Option Flit)
-  wires_behind t = (played t (first_network inputs)).components.wires
+  wires_behind t = (played t (first_network inputs routing)).components.wires
 
   -- The laws on these.
   pub record Laws : Type 0 where

@@ -1,5 +1,5 @@
 -- Networks behind cycles that were passed over.
-use Rattle.std.proofs.Common.{◌≡◌, ◌≤◌, ◌<◌, ◌+◌, ◌-◌, ◌∙◌, ℕ, List, ap, arith}
+use Rattle.std.proofs.Common.{◌≡◌, ◌≤◌, ◌<◌, ◌+◌, ◌-◌, ◌∙◌, ℕ, List, [], ap, arith}
 use Rattle.std.proofs.Common.{fold, refl, subst, sym}
 use Rattle.std.specs.Prelude.{slice_range, vec_capacity}
 use Rattle.aeth_components.specs.Components.{ComponentsState}
@@ -10,6 +10,8 @@ use Rattle.aeth_running.specs.Network.{stepped, takes_in, taking_with}
 use Rattle.aeth_accepted.specs.Inputs.{Inputs}
 use Rattle.aeth_running.proofs.Played.{stepped-log, stepped-time}
 use Rattle.aeth_running.specs.Network.{first_network}
+use Rattle.aeth_running.proofs.StillTables.{still-unentered}
+use Rattle.aeth_running.specs.Routing.{Routing, enterings_in}
 use Rattle.aeth_running.specs.Quiet.{AreStill, brought_over, rested}
 use Rattle.aeth_running.specs.Still.{IsStill}
 use Rattle.aeth_network.specs.Behind.{passed}
@@ -30,34 +32,52 @@ use Rattle.aeth_network.proofs.Skipping.{IsNetwork-stepped, IsNetwork-played, re
 use Rattle.aeth_network.proofs.Skipping.{cursors-behind, over-stepped, rests-as}
 
 -- What the laws of resting say of the network of inputs.
-abbrev RestsOnce : Inputs → Type 0
-RestsOnce inputs = (t : ℕ) → t < inputs.cycles → IsStill (played t (first_network inputs))
-    → played (t + 1) (first_network inputs) ≡ brought_over (played t (first_network inputs))
+abbrev RestsOnce : Inputs → Routing → Type 0
+RestsOnce inputs routing = (t : ℕ) → t < inputs.cycles → IsStill (played t (first_network inputs routing))
+    → played (t + 1) (first_network inputs routing) ≡ brought_over (played t (first_network inputs routing))
 
-abbrev RestsLater : Inputs → Type 0
-RestsLater inputs = (t k : ℕ) → t + k ≤ inputs.cycles → 0 < t
-    → ((j : ℕ) → j < k → IsStill (played (t + j) (first_network inputs)))
-    → played (t + k) (first_network inputs) ≡ rested k (played t (first_network inputs))
+abbrev RestsLater : Inputs → Routing → Type 0
+RestsLater inputs routing = (t k : ℕ) → t + k ≤ inputs.cycles → 0 < t
+    → ((j : ℕ) → j < k → IsStill (played (t + j) (first_network inputs routing)))
+    → played (t + k) (first_network inputs routing) ≡ rested k (played t (first_network inputs routing))
+
+-- In a cycle that leaves a network no rows enter tables, nor in so many.
+still-enters : (inputs : Inputs) (all : NetworkState) → IsNetworkOf inputs all → IsStill all
+    → all.time < all.log.cycles → enterings_in all.routing all.time ≡ []
+still-enters inputs all of still early =
+    let cycles = cycles-of inputs all of in
+    still-unentered inputs all.routing of.routed all.time (omega arith) (subst IsStill of.is still)
+
+none-enter : (inputs : Inputs) (all : NetworkState) → IsNetworkOf inputs all → (k : ℕ)
+    → AreStill k all → all.time + k ≤ all.log.cycles → (j : ℕ) → j < k
+    → enterings_in all.routing (all.time + j) ≡ []
+none-enter inputs all of k still within j less =
+    let cycles = cycles-of inputs all of in
+    let first = first_network inputs all.routing in
+    still-unentered inputs all.routing of.routed (all.time + j) (omega arith)
+    (subst IsStill (ap (played j) of.is ∙ played-sum j all.time first) (still j less))
 
 -- A cycle that leaves a network, once it is brought.
-module _ (inputs : Inputs) (stimuli : Stimuli) (state : State) (log : LogData) (time : ℕ)
-    (is : IsNetwork (vec_capacity state.replaced) (network_of stimuli state log time))
-    (of : IsNetworkOf inputs (network_of stimuli state log time)) (one : RestsOnce inputs)
-    (still : IsStill (network_of stimuli state log time)) (early : time < log.cycles)
+module _ (inputs : Inputs) (stimuli : Stimuli) (routing : Routing) (state : State) (log : LogData)
+    (time : ℕ) (is : IsNetwork (vec_capacity state.replaced) (network_of stimuli routing state log time))
+    (of : IsNetworkOf inputs (network_of stimuli routing state log time))
+    (one : RestsOnce inputs routing) (still : IsStill (network_of stimuli routing state log time))
+    (early : time < log.cycles)
     (rows : CycleRows) (goings : rows.goings.now ≡ goings_in stimuli time)
     (offers : rows.offers.now ≡ offers_in stimuli time)
     (takes : rows.takes.now ≡ takes_in stimuli time) (brought : State)
     (has : IsBrought rows time state brought) (events : rows.events.now ≡ events_in stimuli time)
   where
     abbrev unplayed : NetworkState
-    unplayed = network_of stimuli state log time
+    unplayed = network_of stimuli routing state log time
 
     abbrev brought_now : NetworkState
-    brought_now = network_of stimuli brought log (time + 1)
+    brought_now = network_of stimuli routing brought log (time + 1)
 
     pub brought-is : brought_now ≡ stepped unplayed
     brought-is =
-        over stimuli state log time is rows goings offers takes brought has events
+        over stimuli routing state log time is rows goings offers takes brought has events
+        (still-enters inputs unplayed of still early)
         ∙ sym (over-stepped inputs unplayed of one still early)
 
     pub brought-network : IsNetwork (vec_capacity brought.replaced) brought_now
@@ -84,7 +104,7 @@ place-rises takes rows are place time to is le =
 
 -- A network behind later cycles that left it, up to one.
 module _ (inputs : Inputs) (capacity : ℕ) (old : NetworkState) (is : IsNetwork capacity old)
-    (of : IsNetworkOf inputs old) (later : RestsLater inputs) (to : ℕ) (from : old.time ≤ to)
+    (of : IsNetworkOf inputs old) (later : RestsLater inputs old.routing) (to : ℕ) (from : old.time ≤ to)
     (within : to ≤ old.log.cycles) (late : 0 < to → 0 < old.time)
     (still : AreStill (to - old.time) old) where
   end-is : old.time + (to - old.time) ≡ to
@@ -133,12 +153,14 @@ module _ (inputs : Inputs) (capacity : ℕ) (old : NetworkState) (is : IsNetwork
       let cycles = cycles-of inputs old of in
       many-of inputs old (to - old.time) of (omega (arith, cycles, end-is, within))
 
-  pub rests-cursors : (cursors : Cursors) (last : ℕ) → AreCursors cursors old.time old.stimuli
+  pub rests-cursors : (cursors : Cursors) (last : ℕ)
+      → AreCursors cursors old.time old.stimuli old.routing
       → last ≡ passed (λ one. one.cycle) to old.stimuli.takes
-      → AreCursors (record cursors { take = last }) to old.stimuli
+      → AreCursors (record cursors { take = last }) to old.stimuli old.routing
   rests-cursors cursors last at last_is =
-      subst (λ n. AreCursors (record cursors { take = last }) n old.stimuli) end-is
-      (cursors-behind old (in-order capacity old is) (to - old.time) still some-late cursors last at
+      subst (λ n. AreCursors (record cursors { take = last }) n old.stimuli old.routing) end-is
+      (cursors-behind old (in-order capacity old is) (to - old.time) still some-late
+      (none-enter inputs old of (to - old.time) still (omega (arith, end-is, within))) cursors last at
       (last_is ∙ ap (λ n. passed (λ (one : Take). one.cycle) n old.stimuli.takes) (sym end-is)))
 
 -- A network that has passed over cycle 0, if it was there.

@@ -14,6 +14,7 @@ use Rattle.aeth_running.specs.Network.{state_behind, stepped, taking_with}
 use Rattle.aeth_accepted.specs.Inputs.{Inputs}
 use Rattle.aeth_running.proofs.Played.{played-next}
 use Rattle.aeth_running.specs.Network.{first_network}
+use Rattle.aeth_running.specs.Routing.{Entering, Routing, enterings_in, later_rows}
 use Rattle.aeth_running.specs.Quiet.{AreStill, brought_over, rested}
 use Rattle.aeth_running.specs.Still.{IsStill, passed_over}
 use Rattle.aeth_network.specs.Behind.{passed}
@@ -70,18 +71,18 @@ passed-still key t (suc k) xs rises none =
     omega arith
 
 -- The same of events, which have their cycles beside them.
-pub events-still : (all : Stimuli) → AreInOrder all → (t k : ℕ)
+pub events-still : (all : Stimuli) (routing : Routing) → AreInOrder all routing → (t k : ℕ)
     → ((j : ℕ) → j < k → events_in all (t + j) ≡ [])
     → passed (λ cycle. cycle) (t + k) all.schedule.cycles
     ≡ passed (λ cycle. cycle) t all.schedule.cycles
-events-still all order t zero none =
+events-still all routing order t zero none =
     let same : t + zero ≡ t = omega arith in
     ap (λ n. passed (λ cycle. cycle) n all.schedule.cycles) same
-events-still all order t (suc k) none =
+events-still all routing order t (suc k) none =
     let key = λ (cycle : ℕ). cycle in
     let cycles = all.schedule.cycles in
     let events = all.schedule.events in
-    let before = events-still all order t k (λ j less. none j (omega arith)) in
+    let before = events-still all routing order t k (λ j less. none j (omega arith)) in
     let next : t + suc k ≡ (t + k) + 1 = omega arith in
     let is = ap (λ n. passed key n cycles) next in
     let from = passed key (t + k) cycles in
@@ -150,8 +151,9 @@ rested-is all rises (suc k) =
     (slice_range takes from (passed key n takes))) n) next
 
 -- The places in what is given, behind cycles that left a network.
-module _ (all : NetworkState) (order : AreInOrder all.stimuli) (k : ℕ) (still : AreStill k all)
-    (late : 0 < k → 0 < all.time) where
+module _ (all : NetworkState) (order : AreInOrder all.stimuli all.routing) (k : ℕ)
+    (still : AreStill k all) (late : 0 < k → 0 < all.time)
+    (unentered : (j : ℕ) → j < k → enterings_in all.routing (all.time + j) ≡ []) where
   at-still : (j : ℕ) → j < k → IsStill (played j all)
   at-still j less = still j less
 
@@ -172,15 +174,18 @@ module _ (all : NetworkState) (order : AreInOrder all.stimuli) (k : ℕ) (still 
       (λ i. events_in (sym (played-given j all) i) (sym (played-time j all) i))
       ∙ (still j less).eventless
 
-  pub cursors-behind : (cursors : Cursors) (last : ℕ) → AreCursors cursors all.time all.stimuli
+  pub cursors-behind : (cursors : Cursors) (last : ℕ)
+      → AreCursors cursors all.time all.stimuli all.routing
       → last ≡ passed (λ one. one.cycle) (all.time + k) all.stimuli.takes
-      → AreCursors (record cursors { take = last }) (all.time + k) all.stimuli
+      → AreCursors (record cursors { take = last }) (all.time + k) all.stimuli all.routing
   cursors-behind cursors last at is =
       let goings = passed-still (λ (one : Going). one.lane.go) all.time k
       all.stimuli.schedule.goings order.goings no-goings in
       let offers = passed-still (λ (one : Offer). one.cycle) all.time k all.stimuli.offers
       order.offers no-offers in
-      let events = events-still all.stimuli order all.time k no-events in
+      let events = events-still all.stimuli all.routing order all.time k no-events in
+      let enterings = passed-still (λ (one : Entering). one.cycle) all.time k
+      (later_rows all.routing) order.enterings unentered in
       record {
         event_is = at.event_is ∙ sym events;
         going_is = at.going_is ∙ sym goings;
@@ -188,15 +193,16 @@ module _ (all : NetworkState) (order : AreInOrder all.stimuli) (k : ℕ) (still 
         take_is = is;
         window_is = over-later cursors.window all.time (all.time + k) all.stimuli.schedule.windows
             (omega arith) at.window_is;
+        entering_is = at.entering_is ∙ sym enterings;
       }
 
 -- A cycle that leaves a network of accepted inputs does just what it brings.
 pub over-stepped : (inputs : Inputs) (old : NetworkState) → IsNetworkOf inputs old
-    → ((t : ℕ) → t < inputs.cycles → IsStill (played t (first_network inputs))
-    → played (t + 1) (first_network inputs) ≡ brought_over (played t (first_network inputs)))
+    → ((t : ℕ) → t < inputs.cycles → IsStill (played t (first_network inputs old.routing))
+    → played (t + 1) (first_network inputs old.routing) ≡ brought_over (played t (first_network inputs old.routing)))
     → IsStill old → old.time < old.log.cycles → stepped old ≡ brought_over old
 over-stepped inputs old of one still early =
-    let first = first_network inputs in
+    let first = first_network inputs old.routing in
     let cycles = cycles-of inputs old of in
     ap stepped of.is ∙ sym (played-next first old.time)
     ∙ one old.time (omega arith) (subst IsStill of.is still) ∙ ap brought_over (sym of.is)
@@ -204,14 +210,14 @@ over-stepped inputs old of one still early =
 -- So many later cycles that leave it do just what its receivers' rows say.
 pub rests-as : (inputs : Inputs) (old : NetworkState) → IsNetworkOf inputs old
     → ((t k : ℕ) → t + k ≤ inputs.cycles → 0 < t
-    → ((j : ℕ) → j < k → IsStill (played (t + j) (first_network inputs)))
-    → played (t + k) (first_network inputs) ≡ rested k (played t (first_network inputs)))
+    → ((j : ℕ) → j < k → IsStill (played (t + j) (first_network inputs old.routing)))
+    → played (t + k) (first_network inputs old.routing) ≡ rested k (played t (first_network inputs old.routing)))
     → (k : ℕ) → AreStill k old → (0 < k → 0 < old.time) → old.time + k ≤ old.log.cycles
     → played k old ≡ rested k old
 unfolding played rested
 rests-as inputs old of later zero still late within = refl
 rests-as inputs old of later (suc k) still late within =
-    let first = first_network inputs in
+    let first = first_network inputs old.routing in
     let cycles = cycles-of inputs old of in
     let t = old.time in
     ap (played (suc k)) of.is ∙ played-sum (suc k) t first

@@ -2,7 +2,7 @@
 use Rattle.std.proofs.Common.{◌≡◌, ◌≤◌, ◌<◌, ◌+◌, ◌-◌, ◌==◌, ◌&&◌, ◌++◌, ◌∙◌, ℕ, Bool, true}
 use Rattle.std.proofs.Common.{List, []}
 use Rattle.std.proofs.Common.{◌∷◌, ap, arith, drop, filter, fold, get_or, inl, inr, length, map, nat_lt}
-use Rattle.std.proofs.Common.{subst, sym}
+use Rattle.std.proofs.Common.{refl, subst, sym}
 use Rattle.std.specs.Prelude.{All, count_by, slice_range}
 use Rattle.std.specs.List.{slice_index_or}
 use Rattle.std.proofs.lemmas.Bool.{cases_Bool}
@@ -13,7 +13,10 @@ use Rattle.std.proofs.lemmas.List.Elements.{All-nil, All-tail}
 use Rattle.std.proofs.lemmas.List.Folds.{drop_split}
 use Rattle.aeth_trace.specs.Channels.{channel_number}
 use Rattle.aeth_components.specs.Components.{ComponentsState, Cycle, IsComponents, frames_of}
-use Rattle.aeth_components.specs.Frames.{Frame, frame_of}
+use Rattle.aeth_router.specs.declared.part.Part.{Part}
+use Rattle.aeth_components.proofs.EnteringLemmas.{frames-entered}
+use Rattle.aeth_components.specs.Entering.{with_rows}
+use Rattle.aeth_components.specs.Frames.{Frame, IsWired, frame_of}
 use Rattle.aeth_components.specs.Lanes.{IsLane}
 use Rattle.aeth_components.proofs.CountingLemmas.{length-flits_counted}
 use Rattle.aeth_schedule.specs.declared.going.Going.{Going}
@@ -23,6 +26,7 @@ use Rattle.aeth_running.specs.Network.{NetworkState, accepted_with, gone_with, g
 use Rattle.aeth_running.specs.Network.{offers_in, outside_in, ready_in}
 use Rattle.aeth_stimuli.specs.Loaded.{no_lane}
 use Rattle.aeth_running.specs.Network.{stepped, takes_in, untils_in}
+use Rattle.aeth_running.specs.Routing.{Entering, entered_with, enterings_in}
 use Rattle.aeth_stimuli.specs.Stimuli.{AreStimuli, Offer, is_offered_in, is_over}
 use Rattle.aeth_network.specs.Behind.{passed}
 use Rattle.aeth_network.specs.Networks.{IsNetwork}
@@ -58,6 +62,13 @@ length-in key t xs rows is =
     let left = length-drop first xs in
     let same = ap length is in
     omega arith
+
+-- Rows that enter tables one after the other change no frame.
+frames-with : (enterings : List Entering) (parts : List Part)
+    → map frame_of (fold entered_with parts enterings) ≡ map frame_of parts
+frames-with [] parts = refl
+frames-with (entering ∷ enterings) parts =
+    frames-with enterings (with_rows entering.rows parts) ∙ frames-entered entering.rows parts
 
 module _ (capacity : ℕ) (old : NetworkState) (is : IsNetwork capacity old) where
   -- The rows of the next cycle stand behind those before it.
@@ -159,16 +170,27 @@ module _ (capacity : ℕ) (old : NetworkState) (is : IsNetwork capacity old) whe
       ∙ length-all_accepted t untils (offers_in old.stimuli t) gone
       ∙ length-gone (goings_in old.stimuli t) old.components.lanes
 
+  -- Rows that enter tables change no frame, and components are as many as before.
+  pub frames-ready : frames_of (ready_in old) ≡ frames_of old.components
+  frames-ready = frames-with (enterings_in old.routing old.time) old.components.parts
+
+  size-ready : length (ready_in old).parts ≡ length old.components.parts
+  size-ready =
+      sym (length-map (ready_in old).parts frame_of) ∙ ap length frames-ready
+      ∙ length-map old.components.parts frame_of
+
   -- The components are sound while the cycle runs.
   pub IsComponents-ready : IsComponents (ready_in old)
   IsComponents-ready =
       let sound = is.components in
       record {
-        wired = sound.wired;
-        lanes = All-fit (length old.components.words) (length old.components.parts)
+        wired = subst (λ (frames : List Frame). IsWired frames (length old.components.wires))
+            (sym frames-ready) sound.wired;
+        lanes = subst (λ n. All (IsLane (length old.components.words) n) (ready_in old).lanes)
+            (sym size-ready) (All-fit (length old.components.words) (length old.components.parts)
             (untils_in old.stimuli old.time old.untils)
             (drop (passed (λ (one : Offer). one.cycle) (old.time + 1) old.stimuli.offers)
-            old.stimuli.offers) (ready_in old).lanes AreFit-ready;
+            old.stimuli.offers) (ready_in old).lanes AreFit-ready);
         landings = sound.landings;
         flits = sound.flits;
         few = sound.few;
@@ -231,7 +253,10 @@ module _ (capacity : ℕ) (old : NetworkState) (is : IsNetwork capacity old) whe
         let to = passed key (t + 1) offers in
         let words : length new.words ≡ length old.components.words = ap length did.words in
         let lanes : length new.lanes ≡ length old.components.lanes = did.count ∙ length-ready in
-        let parts : length new.parts ≡ length old.components.parts = did.size in
+        let parts : length new.parts ≡ length old.components.parts =
+        did.size ∙ size-ready in
+        let frames_are : frames_of new ≡ frames_of old.components =
+        did.frames ∙ frames-ready in
         let fit : AreFit (length old.components.words) (length old.components.parts) untils
         (drop to offers) new.lanes =
         AreFit-Cycle (events_in all t) t (length old.components.parts) (ready_in old) new untils
@@ -260,10 +285,13 @@ module _ (capacity : ℕ) (old : NetworkState) (is : IsNetwork capacity old) whe
               (subst (λ n. AreStimuli (length old.components.lanes) n (frames_of new) all)
               (sym words)
               (subst (λ (frames : List Frame). AreStimuli (length old.components.lanes)
-              (length old.components.words) frames all) (sym did.frames) is.stimuli));
+              (length old.components.words) frames all) (sym frames_are) is.stimuli));
+          enterings = is.enterings;
           components = IsComponents-Cycle (events_in all t) t (ready_in old) new did
-              IsComponents-ready (All-fit (length old.components.words)
-              (length old.components.parts) untils (drop to offers) new.lanes fit);
+              IsComponents-ready (subst (λ n.
+              All (IsLane (length old.components.words) n) new.lanes) (sym size-ready)
+              (All-fit (length old.components.words)
+              (length old.components.parts) untils (drop to offers) new.lanes fit));
           some_parts = omega arith;
           untils = omega arith;
           outside = omega arith;

@@ -99,7 +99,7 @@ pub given-ascend : (inputs : Inputs) (all : NetworkState) → IsNetworkOf inputs
     → AreAscending all.stimuli.schedule.windows
 given-ascend inputs all of =
     subst (λ (given : Stimuli). AreAscending given.schedule.windows)
-    (sym (ap (λ (one : NetworkState). one.stimuli) of.is ∙ first-stimuli inputs all.time))
+    (sym (ap (λ (one : NetworkState). one.stimuli) of.is ∙ first-stimuli inputs all.routing all.time))
     (windows-ascend (run_of inputs).spans inputs.switches of.accepted.switches.order)
 
 -- Windows that don't begin before a cycle have none before it.

@@ -1,14 +1,16 @@
 -- How far a network is in what it is given.
 --
---   stimuli_with      what a network is given
+--   stimuli_with, routing_with      what a network is given, and by what its routers send on
 --   AreInOrder      what is given comes in the order of cycles
---   AreCursors      the places in the events, the sessions, the offered words, the receivers' rows and the
---       windows of switches
+--   AreCursors      the places in the events, the sessions, the offered words, the receivers' rows, the
+--       windows of switches, and the rows that enter tables
 -- This project's own.
 use Rattle.std.specs.Prelude.{◌≡◌, ℕ, length}
 use Rattle.std.specs.List.Sorted.{IsNonDecreasing, IsNonDecreasingBy}
 use Rattle.aeth_stimuli.specs.Stimuli.{Stimuli}
+use Rattle.aeth_running.specs.Routing.{Routing, later_rows}
 use Rattle.aeth_network.specs.Behind.{passed}
+use Rattle.aeth_network.specs.Routes.{routing_in}
 use Rattle.aeth_network.specs.Windows.{AreOver}
 use Rattle.aeth_network.specs.declared.given.Cursors.{Cursors}
 use Rattle.aeth_network.specs.declared.given.Given.{Given}
@@ -21,18 +23,26 @@ stimuli_with given = record {
   takes = given.takes.items;
 }
 
--- Each event has a cycle, and neither these nor those of sessions, words and receivers' rows fall.
-pub record AreInOrder (all : Stimuli) : Type 0 where
+-- By what its routers send on.
+abbrev pub routing_with : Given → Routing
+routing_with given = routing_in given.tables
+
+-- Each event has a cycle, and neither these nor those of sessions, words, receivers' rows and rows that
+-- enter tables fall.
+pub record AreInOrder (all : Stimuli) (routing : Routing) : Type 0 where
   pub event_cycles : length all.schedule.cycles ≡ length all.schedule.events
   pub events : IsNonDecreasing all.schedule.cycles
   pub goings : IsNonDecreasingBy (λ one. one.lane.go) all.schedule.goings
   pub offers : IsNonDecreasingBy (λ one. one.cycle) all.offers
   pub takes : IsNonDecreasingBy (λ one. one.cycle) all.takes
+  pub enterings : IsNonDecreasingBy (λ one. one.cycle) (later_rows routing)
 
 -- Each place is the number of rows that lie before a cycle; before that of the windows all are over.
-pub record AreCursors (cursors : Cursors) (time : ℕ) (all : Stimuli) : Type 0 where
-  pub event_is : cursors.event ≡ passed (λ cycle. cycle) time all.schedule.cycles
-  pub going_is : cursors.going ≡ passed (λ one. one.lane.go) time all.schedule.goings
-  pub offer_is : cursors.offer ≡ passed (λ one. one.cycle) time all.offers
-  pub take_is : cursors.take ≡ passed (λ one. one.cycle) time all.takes
-  pub window_is : AreOver cursors.window time all.schedule.windows
+pub record AreCursors (cursors : Cursors) (time : ℕ) (all : Stimuli) (routing : Routing) : Type 0
+  where
+    pub event_is : cursors.event ≡ passed (λ cycle. cycle) time all.schedule.cycles
+    pub going_is : cursors.going ≡ passed (λ one. one.lane.go) time all.schedule.goings
+    pub offer_is : cursors.offer ≡ passed (λ one. one.cycle) time all.offers
+    pub take_is : cursors.take ≡ passed (λ one. one.cycle) time all.takes
+    pub window_is : AreOver cursors.window time all.schedule.windows
+    pub entering_is : cursors.entering ≡ passed (λ one. one.cycle) time (later_rows routing)

@@ -3,13 +3,14 @@
 use Rattle.std.specs.Prelude.{◌≡◌, ◌≤◌, ◌*◌, [], length, replicate, vec_capacity}
 use Rattle.aeth_accepted.specs.Inputs.{Inputs}
 use Rattle.aeth_schedule.specs.Goings.{goings_of}
-use Rattle.aeth_stimuli.specs.Loaded.{loaded_components}
+use Rattle.aeth_running.specs.Network.{routed_components}
+use Rattle.aeth_running.specs.Routing.{Routing}
 use Rattle.aeth_network.specs.declared.state.State.{State}
 
 -- The components are loaded, no channel accepts words, no session has gone, and there is room to note
 -- the channel of each.
-pub record IsFirstState (inputs : Inputs) (state : State) : Type 0 where
-  pub components : state.components ≡ loaded_components inputs
+pub record IsFirstState (inputs : Inputs) (routing : Routing) (state : State) : Type 0 where
+  pub components : state.components ≡ routed_components inputs routing
   pub untils : state.untils.items ≡ replicate (2 * length inputs.app.connections) 0
   pub outside : state.outside.items ≡ replicate (2 * length inputs.app.connections) 0
   pub replaced : state.replaced.items ≡ []

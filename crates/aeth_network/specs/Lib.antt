@@ -8,6 +8,7 @@ pub mod Fits
 pub mod Networks
 pub mod Next
 pub mod Records
+pub mod Routes
 pub mod Runs
 pub mod Telling
 pub mod Windows

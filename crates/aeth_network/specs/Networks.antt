@@ -4,21 +4,25 @@
 --   IsNetwork      what holds of it
 -- This project's own.
 use Rattle.std.specs.Prelude.{◌≡◌, ◌≤◌, ◌<◌, ◌*◌, ◌^◌, ℕ, All, drop, length}
+use Rattle.std.specs.List.Sorted.{IsNonDecreasingBy}
 use Rattle.aeth_base.specs.Limits.{max_cycles}
 use Rattle.aeth_app.specs.Limits.{max_connections}
 use Rattle.aeth_report.specs.Log.{LogData}
 use Rattle.aeth_components.specs.Components.{IsComponents, frames_of}
 use Rattle.aeth_components.specs.Lanes.{IsLane}
 use Rattle.aeth_running.specs.Network.{NetworkState}
+use Rattle.aeth_running.specs.Routing.{Routing, later_rows}
 use Rattle.aeth_stimuli.specs.Stimuli.{AreStimuli, Stimuli}
 use Rattle.aeth_network.specs.Behind.{passed}
 use Rattle.aeth_network.specs.Fits.{AreFit, HaveCounts}
 use Rattle.aeth_network.specs.declared.state.State.{State}
 
--- A network by what it is given, its state, its log of which nothing has landed, and the cycles done.
-abbrev pub network_of : Stimuli → State → LogData → ℕ → NetworkState
-network_of stimuli state log time = record {
+-- A network by what it is given, by what its routers send on, its state, its log of which nothing has
+-- landed, and the cycles done.
+abbrev pub network_of : Stimuli → Routing → State → LogData → ℕ → NetworkState
+network_of stimuli routing state log time = record {
   stimuli = stimuli;
+  routing = routing;
   components = state.components;
   untils = state.untils.items;
   outside = state.outside.items;
@@ -31,6 +35,7 @@ network_of stimuli state log time = record {
 pub record IsNetwork (capacity : ℕ) (all : NetworkState) : Type 0 where
   pub stimuli : AreStimuli (length all.components.lanes) (length all.components.words)
       (frames_of all.components) all.stimuli
+  pub enterings : IsNonDecreasingBy (λ entering. entering.cycle) (later_rows all.routing)
   pub components : IsComponents all.components
   pub some_parts : 0 < length all.components.parts
   pub untils : length all.untils ≡ length all.components.lanes

@@ -17,12 +17,15 @@ use Rattle.aeth_refinement.specs.Fabric.{AtRouter}
 use Rattle.aeth_accepted.specs.Inputs.{AreAccepted, Inputs, run_of}
 use Rattle.aeth_fabric.specs.Fabric.{fabric_of}
 use Rattle.aeth_running.specs.Network.{NetworkState, first_network, played}
+use Rattle.aeth_running.specs.Routing.{IsRoutingFor}
 
--- The network of accepted inputs, behind as many of their cycles as are done.
+-- The network of accepted inputs, whose routers read headers or have their tables, behind as many of
+-- their cycles as are done.
 pub record IsNetworkOf (inputs : Inputs) (all : NetworkState) : Type 0 where
   pub accepted : AreAccepted inputs
+  pub routed : IsRoutingFor inputs all.routing
   pub within : all.time ≤ inputs.cycles
-  pub is : all ≡ played all.time (first_network inputs)
+  pub is : all ≡ played all.time (first_network inputs all.routing)
 
 -- A network is that of accepted inputs.
 pub record HasInputs (all : NetworkState) : Type 0 where

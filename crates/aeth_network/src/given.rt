@@ -5,13 +5,18 @@ ghost use Rattle.aeth_components.specs.First.{IsFirst};
 ghost use Rattle.aeth_events.specs.Events.{events_in};
 ghost use Rattle.aeth_running.specs.Network.{goings_in, offers_in, takes_in};
 ghost use Rattle.aeth_stimuli.specs.Stimuli.{stimuli_of};
-ghost use Rattle.aeth_network.specs.Cursors.{AreCursors, AreInOrder, stimuli_with};
+ghost use Rattle.aeth_running.specs.Routing.{later_rows};
+ghost use Rattle.aeth_network.specs.Behind.{IsBehind};
+ghost use Rattle.aeth_network.specs.Cursors.{AreCursors, AreInOrder, routing_with, stimuli_with};
 ghost use Rattle.aeth_network.specs.Next.{HasOffer, HasWindow};
+ghost use Rattle.aeth_network.specs.Routes.{routing_in};
 ghost use Rattle.aeth_network.specs.Windows.{AreAscending};
 
 use crate::next::next_offer;
 use crate::places::behind;
+use crate::routing::behind_entering;
 use crate::rows::{Offered, Taking, offers_of, takes_of};
+use crate::tables::UseTables;
 use crate::windows::{next_window, place_behind};
 use aeth_accepted::RunInputs;
 use aeth_base::NoMemory;
@@ -19,16 +24,18 @@ use aeth_components::Event;
 use aeth_schedule::{Going, Schedule};
 use std::alloc::Global;
 
-// What a run gives a network: its schedule, the words that are offered, and the rows of receivers.
+// What a run gives a network: its schedule, the words that are offered, the rows of receivers, and the
+// tables of its routers, if they don't read headers.
 #[derive(Drop)]
 pub(crate) struct Given {
     pub schedule: Schedule,
     pub offers: Vec<Offered>,
     pub takes: Vec<Taking>,
+    pub tables: Option<UseTables>,
 }
 
-// How far a network is in its events, its sessions, its words, the rows of receivers, and the windows of
-// its switches.
+// How far a network is in its events, its sessions, its words, the rows of receivers, the windows of its
+// switches, and the rows that enter tables.
 #[derive(Clone, Copy)]
 pub(crate) struct Cursors {
     pub event: usize,
@@ -36,22 +43,29 @@ pub(crate) struct Cursors {
     pub offer: usize,
     pub take: usize,
     pub window: usize,
+    pub entering: usize,
 }
 
-// What a cycle brings, and the places behind it.
+// What a cycle brings, with the tables of routers, and the places behind it.
 #[derive(Drop)]
 pub(crate) struct CycleRows<'a> {
     pub events: &'a [Event],
     pub goings: &'a [Going],
     pub offers: &'a [Offered],
     pub takes: &'a [Taking],
+    pub tables: &'a Option<UseTables>,
     pub behind: Cursors,
 }
 
 impl Given {
-    // What accepted inputs give.
-    pub(crate) fn of(alloc: Global, inputs: &RunInputs) -> Result<Given, NoMemory>
-        ensures { IfOk result (λ given. stimuli_with given ≡ stimuli_of inputs.now) }
+    // What accepted inputs give, with these tables.
+    pub(crate) fn of(
+        alloc: Global,
+        inputs: &RunInputs,
+        tables: Option<UseTables>,
+    ) -> Result<Given, NoMemory>
+        ensures stimuli { IfOk result (λ given. stimuli_with given ≡ stimuli_of inputs.now) }
+        ensures routing { IfOk result (λ given. routing_with given ≡ routing_in tables) }
     {
         inputs.are_accepted();
         let cycles = inputs.cycles();
@@ -59,15 +73,16 @@ impl Given {
             schedule: Schedule::of(alloc, inputs)?,
             offers: offers_of(alloc, inputs.words().rows(), cycles)?,
             takes: takes_of(alloc, inputs.receivers().rows(), cycles)?,
+            tables,
         })
     }
 
     // The first cycle from one on, and below a limit, in which a word is offered or a switch does
     // something. These are the places that were come to.
     pub(crate) fn next(&self, from: Cursors, time: u32, to: u32) -> u32
-        requires order { AreInOrder (stimuli_with self.now) }
+        requires order { AreInOrder (stimuli_with self.now) (routing_with self.now) }
         requires windows { AreAscending (stimuli_with self.now).schedule.windows }
-        requires from { AreCursors from time (stimuli_with self.now) }
+        requires from { AreCursors from time (stimuli_with self.now) (routing_with self.now) }
         requires to { time ≤ to }
         ensures { IsFirst (λ t. HasOffer (stimuli_with self.now).offers t
             ⊎ HasWindow (stimuli_with self.now).schedule.windows t) time to result }
@@ -78,31 +93,37 @@ impl Given {
 
     // What a cycle brings, from these places on.
     pub(crate) fn rows(&self, from: Cursors, time: u32) -> CycleRows<'_>
-        requires order { AreInOrder (stimuli_with self.now) }
-        requires from { AreCursors from time (stimuli_with self.now) }
+        requires order { AreInOrder (stimuli_with self.now) (routing_with self.now) }
+        requires from { AreCursors from time (stimuli_with self.now) (routing_with self.now) }
         ensures events { result.events.now ≡ events_in (stimuli_with self.now) time }
         ensures goings { result.goings.now ≡ goings_in (stimuli_with self.now) time }
         ensures offers { result.offers.now ≡ offers_in (stimuli_with self.now) time }
         ensures takes { result.takes.now ≡ takes_in (stimuli_with self.now) time }
-        ensures behind { AreCursors result.behind (time + 1)
-            (stimuli_with self.now) }
+        ensures tables { result.tables.now ≡ self.now.tables }
+        ensures entering { IsBehind (λ one. one.cycle) time (later_rows (routing_with self.now))
+            from.entering result.behind.entering }
+        ensures behind { AreCursors result.behind (time + 1) (stimuli_with self.now)
+            (routing_with self.now) }
     {
         let event = behind(self.schedule.cycles(), from.event, time);
         let going = behind(self.schedule.goings(), from.going, time);
         let offer = behind(&self.offers, from.offer, time);
         let take = behind(&self.takes, from.take, time);
         let window = place_behind(self.schedule.windows(), from.window, time);
+        let entering = behind_entering(&self.tables, from.entering, time);
         CycleRows {
             events: self.schedule.events(from.event, event),
             goings: &self.schedule.goings()[from.going..going],
             offers: &self.offers[from.offer..offer],
             takes: &self.takes[from.take..take],
+            tables: &self.tables,
             behind: Cursors {
                 event,
                 going,
                 offer,
                 take,
                 window,
+                entering,
             },
         }
     }

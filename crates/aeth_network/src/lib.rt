@@ -7,9 +7,14 @@ mod logging;
 mod network;
 mod next;
 mod places;
+mod routing;
 mod rows;
+mod simulating;
 mod state;
+mod tables;
 mod telling;
 mod windows;
 
-pub use network::{RoutedNetwork, simulate, simulate_counted};
+pub use network::RoutedNetwork;
+pub use simulating::{simulate, simulate_counted};
+pub use tables::{UseRows, UseTables};

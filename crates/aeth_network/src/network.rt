@@ -1,4 +1,4 @@
-// A network and its run.
+// A network, cycle by cycle.
 
 ghost use Rattle.std.specs.Prelude.{◌≡◌, ◌≤◌, ◌<◌, ◌+◌, ◌-◌, ◌*◌, IfOk, length};
 ghost use Rattle.aeth_report.specs.RunLog.{log_of};
@@ -6,19 +6,22 @@ ghost use Rattle.aeth_components.specs.Turns.{flits_on};
 ghost use Rattle.aeth_accepted.specs.Inputs.{Inputs, run_of};
 ghost use Rattle.aeth_stimuli.specs.Stimuli.{stimuli_of};
 ghost use Rattle.aeth_running.specs.Network.{first_network, played, stepped};
+ghost use Rattle.aeth_running.specs.Routing.{ByHeaders, IsRoutingFor};
 ghost use Rattle.aeth_running.specs.Quiet.{AreStill, IsNextBusy};
 ghost use Rattle.aeth_running.specs.Still.{IsStill};
 ghost use Rattle.aeth_running.specs.Told.{told};
-ghost use Rattle.aeth_network.specs.Carried.{carried_in};
-ghost use Rattle.aeth_network.specs.Cursors.{stimuli_with};
+ghost use Rattle.aeth_network.specs.Cursors.{routing_with, stimuli_with};
 ghost use Rattle.aeth_network.specs.First.{IsFirstState};
+ghost use Rattle.aeth_network.specs.Routes.{routing_in};
 ghost use Rattle.aeth_network.specs.Runs.{AreWiresOf, IsNetworkOf};
 
 use crate::given::{Cursors, Given};
 use crate::giving::take;
 use crate::logging::first_log;
 use crate::next::{next_own, next_taking, place_before};
+use crate::routing::enter;
 use crate::state::{State, run};
+use crate::tables::UseTables;
 use crate::telling::tell;
 use aeth_accepted::RunInputs;
 use aeth_base::{NoMemory, Steps};
@@ -43,31 +46,45 @@ pub struct RoutedNetwork {
 impl Model for RoutedNetwork {
     ghost use Rattle.std.specs.Prelude.{vec_capacity};
     ghost use Rattle.aeth_running.specs.Network.{NetworkState};
-    ghost use Rattle.aeth_network.specs.Cursors.{AreCursors, stimuli_with};
+    ghost use Rattle.aeth_network.specs.Cursors.{AreCursors, routing_with, stimuli_with};
     ghost use Rattle.aeth_network.specs.Networks.{IsNetwork, network_of};
     ghost use Rattle.aeth_network.specs.Runs.{HasInputs};
 
     ghost Value = { NetworkState };
 
-    ghost view = { λ all. network_of (stimuli_with all.given) all.state all.log
-        all.time };
+    ghost view = { λ all. network_of (stimuli_with all.given) (routing_with all.given) all.state
+        all.log all.time };
 
     ghost invariant = { λ all. IsNetwork (vec_capacity all.state.replaced)
-        (network_of (stimuli_with all.given) all.state all.log all.time)
-        × AreCursors all.cursors all.time (stimuli_with all.given)
-        × HasInputs (network_of (stimuli_with all.given) all.state all.log all.time) };
+        (network_of (stimuli_with all.given) (routing_with all.given) all.state all.log all.time)
+        × AreCursors all.cursors all.time (stimuli_with all.given) (routing_with all.given)
+        × HasInputs (network_of (stimuli_with all.given) (routing_with all.given) all.state all.log
+        all.time) };
 }
 
 impl RoutedNetwork {
-    /// The network of accepted inputs, with the tables of the first use case, before the first of
-    /// their cycles. It takes all memory of the run: `Err` where there was none.
+    /// The network of accepted inputs, whose routers read headers, with the tables of the first use case
+    /// in its interfaces, before the first of their cycles. It takes all memory of the run: `Err` where
+    /// there was none.
     pub fn new(alloc: Global, inputs: &RunInputs) -> Result<RoutedNetwork, NoMemory>
-        ensures first { IfOk result (λ network. network ≡ first_network inputs.now) }
+        ensures first { IfOk result (λ network. network ≡ first_network inputs.now ByHeaders) }
         ensures run { IfOk result (IsNetworkOf inputs.now) }
     {
-        inputs.are_accepted();
-        let given = Given::of(alloc, inputs)?;
-        with_given(alloc, inputs, given)
+        with_routes(alloc, inputs, None)
+    }
+
+    /// The same with routers that have these tables. In the cycle in which rows enter, all of them have
+    /// these before any component drives.
+    pub fn with_tables(
+        alloc: Global,
+        inputs: &RunInputs,
+        tables: UseTables,
+    ) -> Result<RoutedNetwork, NoMemory>
+        requires { IsRoutingFor inputs.now tables }
+        ensures first { IfOk result (λ network. network ≡ first_network inputs.now tables) }
+        ensures run { IfOk result (IsNetworkOf inputs.now) }
+    {
+        with_routes(alloc, inputs, Some(tables))
     }
 
     /// The number of components.
@@ -104,8 +121,9 @@ impl RoutedNetwork {
         self.state.components.wires()
     }
 
-    /// One more cycle of the run: sessions go, words are offered, receivers take as their rows say,
-    /// and the components do a cycle with its events. It takes no memory and can't fail.
+    /// One more cycle of the run: sessions go, words are offered, receivers take as their rows say, rows
+    /// enter the tables of routers, and the components do a cycle with its events. It takes no memory and
+    /// can't fail.
     pub fn cycle(&mut self, order: &Order)
         requires order { length order.now ≡ length self.old.components.parts }
         requires time { self.old.time < self.old.log.cycles }
@@ -130,6 +148,12 @@ impl RoutedNetwork {
     {
         let rows = self.given.rows(self.cursors, self.time);
         self.state.bring(&rows, self.time);
+        enter(
+            rows.tables,
+            &mut self.state.components,
+            self.cursors.entering,
+            rows.behind.entering,
+        );
         run(&mut self.state.components, order, &rows, self.time, steps);
         self.cursors = rows.behind;
         self.time += 1;
@@ -243,87 +267,29 @@ impl RoutedNetwork {
     }
 }
 
-/// Plays all cycles of the run that are left. Those that leave the network as it is are passed over.
-pub fn simulate(network: &mut RoutedNetwork, order: &Order)
-    requires { length order.now ≡ length network.old.components.parts }
-    ensures played { network.new
-        ≡ played (network.old.log.cycles - network.old.time) network.old }
-    ensures parts { length network.new.components.parts
-        ≡ length network.old.components.parts }
-    ensures run { (inputs : Inputs) → IsNetworkOf inputs network.old
-        → IsNetworkOf inputs network.new × (network.new.time ≡ inputs.cycles) }
+// The network of accepted inputs with these tables, or whose routers read headers.
+fn with_routes(
+    alloc: Global,
+    inputs: &RunInputs,
+    tables: Option<UseTables>,
+) -> Result<RoutedNetwork, NoMemory>
+    requires { IsRoutingFor inputs.now (routing_in tables) }
+    ensures first { IfOk result (λ network.
+        network ≡ first_network inputs.now (routing_in tables)) }
+    ensures run { IfOk result (IsNetworkOf inputs.now) }
 {
-    simulate_from::<Brand>(network, order, Blank::new(1));
-}
-
-/// The same, which counts the steps of components. They are at most four for each flit on a wire behind
-/// each of these cycles, and two for each flit on a wire before them.
-pub fn simulate_counted<L: Ledger>(network: &mut RoutedNetwork, order: &Order, steps: &mut Steps<L>)
-    requires { length order.now ≡ length network.old.components.parts }
-    ensures played { network.new
-        ≡ played (network.old.log.cycles - network.old.time) network.old }
-    ensures parts { length network.new.components.parts
-        ≡ length network.old.components.parts }
-    ensures run { (inputs : Inputs) → IsNetworkOf inputs network.old
-        → IsNetworkOf inputs network.new × (network.new.time ≡ inputs.cycles) }
-    ensures counted { steps.new ≤ steps.old
-        + 4 * carried_in (network.old.log.cycles - network.old.time) network.old
-        + 2 * flits_on network.old.components.wires }
-{
-    let mut next = network.next_busy();
-    'cycles: while next < network.cycles() {
-        next = advance(network, order, steps, next);
-    }
-    network.skip(next);
-}
-
-// Plays them with a counter of its own.
-fn simulate_from<L: Ledger>(network: &mut RoutedNetwork, order: &Order, blank: Blank)
-    requires name { blank.name ≡ L.name }
-    requires ledger { blank.parts ≡ L.parts }
-    requires one { L.parts ≡ 1 }
-    requires order { length order.now ≡ length network.old.components.parts }
-    ensures played { network.new
-        ≡ played (network.old.log.cycles - network.old.time) network.old }
-    ensures parts { length network.new.components.parts
-        ≡ length network.old.components.parts }
-    ensures run { (inputs : Inputs) → IsNetworkOf inputs network.old
-        → IsNetworkOf inputs network.new × (network.new.time ≡ inputs.cycles) }
-{
-    let mut steps = Steps::<L>::open(blank);
-    simulate_counted(network, order, &mut steps);
-}
-
-// Passes over the cycles before the next busy one, does it, and tells the one that comes next.
-fn advance<L: Ledger>(
-    network: &mut RoutedNetwork,
-    order: &Order,
-    steps: &mut Steps<L>,
-    next: u32,
-) -> u32
-    requires order { length order.now ≡ length network.old.components.parts }
-    requires next { IsNextBusy network.old next }
-    requires within { next < network.old.log.cycles }
-    ensures next { IsNextBusy network.new result }
-    ensures time { network.new.time ≡ next + 1 }
-    ensures played { network.new ≡ played (next + 1 - network.old.time) network.old }
-    ensures parts { length network.new.components.parts
-        ≡ length network.old.components.parts }
-    ensures counted { steps.new + 2 * flits_on network.new.components.wires
-        ≤ steps.old + 2 * flits_on network.old.components.wires
-        + 4 * carried_in (next + 1 - network.old.time) network.old }
-{
-    network.skip(next);
-    network.cycle_counted(order, steps);
-    network.next_busy()
+    inputs.are_accepted();
+    let given = Given::of(alloc, inputs, tables)?;
+    with_given(alloc, inputs, given)
 }
 
 // The network of accepted inputs that is given this.
 fn with_given(alloc: Global, inputs: &RunInputs, given: Given) -> Result<RoutedNetwork, NoMemory>
-    requires { stimuli_with given ≡ stimuli_of inputs.now }
-    ensures { IfOk result (λ network. network ≡ first_network inputs.now) }
+    requires given { stimuli_with given ≡ stimuli_of inputs.now }
+    requires routed { IsRoutingFor inputs.now (routing_with given) }
+    ensures { IfOk result (λ network. network ≡ first_network inputs.now (routing_with given)) }
 {
-    let state = State::of(alloc, inputs, &given.schedule)?;
+    let state = State::of(alloc, inputs, &given.schedule, &given.tables)?;
     with_state(alloc, inputs, given, state)
 }
 
@@ -335,8 +301,9 @@ fn with_state(
     state: State,
 ) -> Result<RoutedNetwork, NoMemory>
     requires given { stimuli_with given ≡ stimuli_of inputs.now }
-    requires state { IsFirstState inputs.now state }
-    ensures { IfOk result (λ network. network ≡ first_network inputs.now) }
+    requires routed { IsRoutingFor inputs.now (routing_with given) }
+    requires state { IsFirstState inputs.now (routing_with given) state }
+    ensures { IfOk result (λ network. network ≡ first_network inputs.now (routing_with given)) }
 {
     aeth_events::laws::stimuli_are_stimuli();
     inputs.are_accepted();
@@ -356,6 +323,7 @@ fn with_state(
             offer: 0,
             take: 0,
             window: 0,
+            entering: 0,
         },
         state,
         log,

@@ -5,6 +5,7 @@ ghost use Rattle.std.specs.List.Sorted.{IsNonDecreasingBy};
 ghost use Rattle.aeth_network.specs.Behind.{IsBehind, passed};
 
 use crate::rows::{Offered, Taking};
+use crate::tables::EnteredUse;
 use aeth_schedule::Going;
 
 // What is brought in a cycle.
@@ -47,6 +48,14 @@ impl InCycle for Taking {
 
     fn is_in(&self, time: u32) -> bool {
         self.cycle == time
+    }
+}
+
+impl InCycle for EnteredUse {
+    ghost cycle = { λ one. one.cycle };
+
+    fn is_in(&self, time: u32) -> bool {
+        self.cycle == time as u64
     }
 }
 

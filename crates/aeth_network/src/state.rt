@@ -9,15 +9,18 @@ ghost use Rattle.aeth_components.specs.Events.{IsDoable};
 ghost use Rattle.aeth_components.specs.Frames.{frame_of};
 ghost use Rattle.aeth_components.specs.Making.{new_parts};
 ghost use Rattle.aeth_components.specs.Turns.{flits_on};
-ghost use Rattle.aeth_components.specs.declared.making.RouterKind.TheVariants.{ByHeader};
 ghost use Rattle.aeth_schedule.specs.Schedule.{schedule_of};
 ghost use Rattle.aeth_schedule.specs.Values.{values_of};
 ghost use Rattle.aeth_stimuli.specs.Loaded.{no_lane};
 ghost use Rattle.aeth_network.specs.Brought.{CanBring, IsBrought};
+ghost use Rattle.aeth_running.specs.Routing.{IsRoutingFor};
 ghost use Rattle.aeth_network.specs.First.{IsFirstState};
+ghost use Rattle.aeth_network.specs.Routes.{routing_in};
 
 use crate::given::CycleRows;
 use crate::giving::{note, offer, start, take};
+use crate::routing::{enter_first, kind_of};
+use crate::tables::UseTables;
 use aeth_accepted::RunInputs;
 use aeth_app::App;
 use aeth_base::{NiId, NoMemory, Steps};
@@ -44,21 +47,27 @@ pub(crate) struct State {
 }
 
 impl State {
-    // That before the first cycle, with the tables of the first use case.
+    // That before the first cycle, with the tables of the first use case in interfaces, and in routers if
+    // they have any.
     pub(crate) fn of(
         alloc: Global,
         inputs: &RunInputs,
         schedule: &Schedule,
+        tables: &Option<UseTables>,
     ) -> Result<State, NoMemory>
-        requires { schedule.now ≡ schedule_of inputs.now }
-        ensures { IfOk result (IsFirstState inputs.now) }
+        requires schedule { schedule.now ≡ schedule_of inputs.now }
+        requires routed { IsRoutingFor inputs.now (routing_in tables.now) }
+        ensures { IfOk result (IsFirstState inputs.now (routing_in tables.now)) }
     {
         aeth_events::laws::stimuli_are_stimuli();
         inputs.are_accepted();
         let app = inputs.app();
         let channels = 2 * app.connections() as usize;
+        let kind = kind_of(tables);
+        let mut components = loaded(alloc, inputs.chip(), app, inputs.words(), schedule, kind)?;
+        enter_first(tables, &mut components);
         Ok(State {
-            components: loaded(alloc, inputs.chip(), app, inputs.words(), schedule)?,
+            components,
             untils: vec![in alloc; 0; channels]?,
             outside: vec![in alloc; 0; channels]?,
             replaced: Vec::with_capacity(alloc, schedule.goings().len())?,
@@ -101,19 +110,21 @@ pub(crate) fn run<L: Ledger>(
     components.step_counted(order, time, rows.events, steps);
 }
 
-// The components of a chip, once they are loaded.
+// The components of a chip, once they are loaded. No rows have entered the tables of routers yet.
 fn loaded(
     alloc: Global,
     chip: &Chip,
     app: &App,
     words: &Words,
     schedule: &Schedule,
+    kind: RouterKind,
 ) -> Result<Components, NoMemory>
     requires rooms { length schedule.now.rooms ≡ queues_of_interface * length chip.now.nis }
     requires some { 0 < length chip.now.nis }
-    requires loaded { All (IsDoable (map frame_of (new_parts chip.now ByHeader schedule.now.rooms)))
-        schedule.now.loaded }
-    ensures { IfOk result (λ components. let made = first_components chip.now ByHeader schedule.now.rooms
+    requires loaded { All (IsDoable (map frame_of (new_parts chip.now
+        kind schedule.now.rooms))) schedule.now.loaded }
+    ensures { IfOk result (λ components. let made = first_components chip.now
+        kind schedule.now.rooms
         (replicate (2 * length app.now.connections) no_lane)
         (values_of words.now (length app.now.connections)) in
         components ≡ record made { parts = switched schedule.now.loaded made.parts }) }
@@ -121,7 +132,6 @@ fn loaded(
     let channels = 2 * app.connections() as usize;
     let lanes = vec![in alloc; no_lane(); channels]?;
     let values = values(alloc, app, words)?;
-    let kind = RouterKind::ByHeader;
     let mut components = Components::new(alloc, chip, kind, schedule.rooms(), lanes, values)?;
     components.prepare(schedule.loaded());
     Ok(components)

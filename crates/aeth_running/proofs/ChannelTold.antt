@@ -37,6 +37,7 @@ use Rattle.aeth_running.proofs.Replaced.{lane_before, last-lanes-are}
 use Rattle.aeth_running.proofs.SessionCycles.{accept-alone, ended-server}
 use Rattle.aeth_running.proofs.SessionTold.{session-is}
 use Rattle.aeth_running.proofs.Untils.{accepted-until}
+use Rattle.aeth_running.specs.Routing.{Routing}
 
 -- Sessions that are told, each with its own lane.
 told-each : (cycles : ℕ) (landings : List ℕ) (firsts : List SessionData) (lanes : List Lane)
@@ -55,9 +56,9 @@ told-each cycles landings (first ∷ firsts) (lane ∷ lanes) (log ∷ logs) few
     (λ i. each (suc i)) in
     λ q. head q ∷ rest q
 
-module _ (inputs : Inputs) (accepted : AreAccepted inputs) (sound : IsSound (run_of inputs))
+module _ (inputs : Inputs) (routing : Routing) (accepted : AreAccepted inputs) (sound : IsSound (run_of inputs))
     (running : (t : ℕ) → t ≤ inputs.cycles
-    → IsRunning inputs t (played t (first_network inputs)).components)
+    → IsRunning inputs t (played t (first_network inputs routing)).components)
     (ordered : IsNonDecreasingBy (λ going. going.lane.go) (goings_of inputs)) (channel : Channel)
     (known : channel.conn.0 < length inputs.app.connections)
     (within : channel_number channel < 2 * length inputs.app.connections)
@@ -68,7 +69,7 @@ module _ (inputs : Inputs) (accepted : AreAccepted inputs) (sound : IsSound (run
     ≡ map (going_of inputs channel) (filter (λ session. nat_lt session.go inputs.cycles)
     (sessions_in (run_of inputs) channel.conn.0))) where
   abbrev landings : List ℕ
-  landings = (played inputs.cycles (first_network inputs)).components.landings
+  landings = (played inputs.cycles (first_network inputs routing)).components.landings
 
   abbrev session_go : Session → ℕ
   session_go session = session.go
@@ -80,7 +81,7 @@ module _ (inputs : Inputs) (accepted : AreAccepted inputs) (sound : IsSound (run
   goings = goings_over (channel_number channel) (goings_of inputs)
 
   abbrev lanes : List Lane
-  lanes = last_lanes (played inputs.cycles (first_network inputs)) (channel_number channel)
+  lanes = last_lanes (played inputs.cycles (first_network inputs routing)) (channel_number channel)
 
   abbrev log_with : Session → SessionData
   log_with session = flow_log inputs.cycles (flow_of (run_of inputs) channel session)
@@ -92,13 +93,13 @@ module _ (inputs : Inputs) (accepted : AreAccepted inputs) (sound : IsSound (run
   as-many : length (map first_with goings) ≤ length lanes
   as-many =
       let number = channel_number channel in
-      let stood = map (lane_before inputs) goings in
+      let stood = map (lane_before inputs routing) goings in
       let final = slice_index_or
-      (played inputs.cycles (first_network inputs)).components.lanes number no_lane in
-      let size = ap length (last-lanes-are inputs ordered number) in
+      (played inputs.cycles (first_network inputs routing)).components.lanes number no_lane in
+      let size = ap length (last-lanes-are inputs routing ordered number) in
       let both = length-append (drop 1 stood) (final ∷ []) in
       let short = length-drop 1 stood in
-      let count = length-map goings (lane_before inputs) in
+      let count = length-map goings (lane_before inputs routing) in
       let firsts = length-map goings first_with in
       omega arith
 
@@ -117,13 +118,13 @@ module _ (inputs : Inputs) (accepted : AreAccepted inputs) (sound : IsSound (run
       let passes = passes-at (below session_go inputs.cycles)
       (sessions_in (run_of inputs) channel.conn.0) i session at in
       let early = ltb-true session.go inputs.cycles passes in
-      let told = told-at inputs sound channel known apart running ordered goings_are i session lane at
+      let told = told-at inputs routing sound channel known apart running ordered goings_are i session lane at
       early lane_at in
       let has = told.has in
       let run = running inputs.cycles (omega arith) in
       session-is inputs accepted sound channel session
       (at-Contains (sessions_in (run_of inputs) channel.conn.0) i session
-      (goer-at inputs sound channel known apart running ordered goings_are i session at))
+      (goer-at inputs routing sound channel known apart running ordered goings_are i session at))
       has.number
       (has.server_is ∙ ended-server inputs sound channel known session (omega arith)) landings
       (λ k u. run.notes has.number k u has.within) going is lane told.last
@@ -133,7 +134,7 @@ module _ (inputs : Inputs) (accepted : AreAccepted inputs) (sound : IsSound (run
       ≡ map (flow_log inputs.cycles) (filter (λ flow. nat_lt flow.server.go inputs.cycles)
       (flows_on (run_of inputs) channel))
   sessions-are =
-      let count = goings-count inputs sound channel known apart running ordered goings_are in
+      let count = goings-count inputs routing sound channel known apart running ordered goings_are in
       let firsts = length-map goings first_with in
       let logs = length-map goers log_with in
       told-each inputs.cycles landings (map first_with goings) lanes (map log_with goers) as-many
@@ -149,12 +150,12 @@ module _ (inputs : Inputs) (accepted : AreAccepted inputs) (sound : IsSound (run
       ∙ map-map (flow_log inputs.cycles) (flow_of (run_of inputs) channel) goers)
 
   -- So is the channel.
-  pub channel-is : channel_told (played inputs.cycles (first_network inputs)) (channel_number channel)
+  pub channel-is : channel_told (played inputs.cycles (first_network inputs routing)) (channel_number channel)
       (first_channel inputs channel) ≡ channel_log (run_of inputs) channel
   channel-is =
-      let all = played inputs.cycles (first_network inputs) in
+      let all = played inputs.cycles (first_network inputs routing) in
       let cycles : all.log.cycles ≡ inputs.cycles =
-      ap (λ (log : LogData). log.cycles) (played-log inputs inputs.cycles) in
+      ap (λ (log : LogData). log.cycles) (played-log inputs routing inputs.cycles) in
       let alone = accept-alone inputs sound channel.conn.0 apart in
       let sessions : sessions_told all.log.cycles landings (map first_with goings) lanes
       ≡ map (flow_log inputs.cycles) (filter (λ flow. nat_lt flow.server.go inputs.cycles)
@@ -162,6 +163,6 @@ module _ (inputs : Inputs) (accepted : AreAccepted inputs) (sound : IsSound (run
       ap (λ n. sessions_told n landings (map first_with goings) lanes) cycles ∙ sessions-are in
       let outside : slice_index all.outside (channel_number channel)
       ≡ outside_of inputs.cycles (flows_on (run_of inputs) channel) (words_on inputs.words channel) =
-      outside-is inputs channel within
-      (accepted-until inputs ordered channel within goings_are alone) in
+      outside-is inputs routing channel within
+      (accepted-until inputs routing ordered channel within goings_are alone) in
       λ q. record { channel = channel; sessions = sessions q; outside = outside q }

@@ -2,7 +2,7 @@
 -- session.
 use Rattle.std.proofs.Common.{◌≡◌, ◌≤◌, ◌<◌, ◌∙◌, ◌*◌, ℕ, List, [], ◌∷◌, Some, Option, None, get_or}
 use Rattle.std.proofs.Common.{length, replicate}
-use Rattle.std.proofs.Common.{filter, slice_get, refl, sym, ap, arith}
+use Rattle.std.proofs.Common.{All, filter, map, slice_get, refl, subst, sym, ap, arith}
 use Rattle.std.specs.Prelude.{nat_lt}
 use Rattle.std.specs.List.{flat_map}
 use Rattle.std.proofs.lemmas.Bool.{le-ltb}
@@ -23,7 +23,8 @@ use Rattle.aeth_components.proofs.MadeLemmas.{length-new_parts}
 use Rattle.aeth_components.proofs.PartLemmas.{frames-switched}
 use Rattle.aeth_components.specs.Changes.{switched}
 use Rattle.aeth_components.specs.Components.{ComponentsState, IsComponents, first_components}
-use Rattle.aeth_components.specs.Frames.{frame_of}
+use Rattle.aeth_components.specs.Components.{frames_of}
+use Rattle.aeth_components.specs.Frames.{Frame, IsWired, frame_of}
 use Rattle.aeth_components.specs.Lanes.{IsLane}
 use Rattle.aeth_components.specs.Making.{new_parts}
 use Rattle.aeth_components.specs.declared.lane.Lane.{Lane}
@@ -35,16 +36,20 @@ use Rattle.aeth_schedule.specs.Lines.{all_lines}
 use Rattle.aeth_schedule.specs.Rooms.{room_at, rooms_of}
 use Rattle.aeth_schedule.specs.Switching.{loaded_of}
 use Rattle.aeth_schedule.specs.Values.{values_of}
+use Rattle.aeth_invariant.proofs.Routed.{frames-but_tables}
+use Rattle.aeth_invariant.proofs.Running.{runs-but_tables}
 use Rattle.aeth_invariant.specs.Beginning.{AreEmpty}
 use Rattle.aeth_invariant.specs.Events.{AreEvents}
+use Rattle.aeth_invariant.specs.Routed.{without_table}
 use Rattle.aeth_invariant.specs.Running.{Runs}
 use Rattle.aeth_running.proofs.ChannelNumbers.{channel-within}
 use Rattle.aeth_running.proofs.ChannelRows.{last_pull}
 use Rattle.aeth_running.proofs.ChannelStates.{Unused}
 use Rattle.aeth_running.proofs.NetworkLaws.{BeginningLaws}
 use Rattle.aeth_running.proofs.NetworkSteps.{Plays}
-use Rattle.aeth_running.proofs.RouterTables.{none-first}
-use Rattle.aeth_running.specs.Network.{first_network}
+use Rattle.aeth_running.proofs.RouterTables.{but-first, tables-first}
+use Rattle.aeth_running.specs.Network.{first_network, routed_components}
+use Rattle.aeth_running.specs.Routing.{Routing}
 use Rattle.aeth_stimuli.specs.Loaded.{loaded_components, no_lane}
 use Rattle.aeth_stimuli.specs.OnChip.{HaveRooms, IsOver}
 use Rattle.aeth_running.specs.Running.{IsRunning}
@@ -142,39 +147,71 @@ module _ (inputs : Inputs) where
           few = omega (arith, links, few);
         }
 
-    first-running : IsRunning inputs 0 (loaded_components inputs)
-    first-running = record {
-      handed = λ c. 0;
-      runs = runs;
-      sound = sound;
-      frames = refl;
-      words = refl;
-      lanes = length-replicate (2 * length inputs.app.connections) no_lane;
-      links = length-replicate (length inputs.chip.links) 0;
-      flits = λ l count at. sym (replicate-at (length inputs.chip.links) l 0 count at);
-      notes = λ c i u known going soon. absurd (omega (arith, soon));
-      told = λ c latest. let gone = latest.gone in absurd (omega (arith, gone));
-      last = λ c latest. let gone = latest.gone in absurd (omega (arith, gone));
-    }
+    -- With the first rows in the tables of routers.
+    module _ (routing : Routing) where
+      abbrev routed : ComponentsState
+      routed = routed_components inputs routing
 
-    pub first-plays : Plays inputs (first_network inputs)
-    unfolding first_network
-    first-plays = record {
-      stimuli_are = refl;
-      log_is = refl;
-      running = first-running;
-      headers = none-first inputs.chip (rooms_of inputs) (loaded_of inputs);
-      channels = λ channel known.
-          let within = channel-within channel (length inputs.app.connections) known in
+      same : map without_table routed.parts ≡ map without_table (loaded_components inputs).parts
+      same = but-first routing inputs.chip (rooms_of inputs) (loaded_of inputs)
+
+      frames-same : frames_of (routed_components inputs routing)
+          ≡ frames_of (loaded_components inputs)
+      frames-same = frames-but_tables routed.parts (loaded_components inputs).parts same
+
+      count-same : length (loaded_components inputs).parts
+          ≡ length (routed_components inputs routing).parts
+      count-same = sym (length-map (loaded_components inputs).parts frame_of)
+          ∙ ap length (sym frames-same) ∙ length-map routed.parts frame_of
+
+      routed-sound : IsComponents (routed_components inputs routing)
+      routed-sound =
+          let before = sound in
           record {
-            lane = no_lane;
-            until = 0;
-            at = at-replicate (2 * length inputs.app.connections) (channel_number channel) no_lane
-                within;
-            until_at = at-replicate (2 * length inputs.app.connections) (channel_number channel) 0
-                within;
-            pull_is = ap (last_pull usual_pull) (sym (none-below (λ (row : PullRow). row.cycle)
-                (pulls_on inputs.pulls channel)));
-            stands = Unused (λ c h on soon. absurd (omega (arith, soon))) refl;
-          };
-    }
+            wired = subst (λ (list : List Frame). IsWired list
+                (length (loaded_components inputs).wires)) (sym frames-same) before.wired;
+            lanes = subst (λ (n : ℕ). All (IsLane (length words) n)
+                (loaded_components inputs).lanes) count-same before.lanes;
+            landings = before.landings;
+            flits = before.flits;
+            few = before.few;
+          }
+
+      first-running : IsRunning inputs 0 (routed_components inputs routing)
+      first-running = record {
+        handed = λ c. 0;
+        runs = runs-but_tables (fabric_of inputs) (channel_of inputs) 0 (λ c. 0)
+            (loaded_components inputs) routed.parts same runs;
+        sound = routed-sound;
+        frames = frames-same;
+        words = refl;
+        lanes = length-replicate (2 * length inputs.app.connections) no_lane;
+        links = length-replicate (length inputs.chip.links) 0;
+        flits = λ l count at. sym (replicate-at (length inputs.chip.links) l 0 count at);
+        notes = λ c i u known going soon. absurd (omega (arith, soon));
+        told = λ c latest. let gone = latest.gone in absurd (omega (arith, gone));
+        last = λ c latest. let gone = latest.gone in absurd (omega (arith, gone));
+      }
+
+      pub first-plays : Plays inputs routing (first_network inputs routing)
+      unfolding first_network
+      first-plays = record {
+        stimuli_are = refl;
+        routing_is = refl;
+        log_is = refl;
+        running = first-running;
+        tables = tables-first inputs.chip routing (rooms_of inputs) (loaded_of inputs);
+        channels = λ channel known.
+            let within = channel-within channel (length inputs.app.connections) known in
+            record {
+              lane = no_lane;
+              until = 0;
+              at = at-replicate (2 * length inputs.app.connections) (channel_number channel) no_lane
+                  within;
+              until_at = at-replicate (2 * length inputs.app.connections) (channel_number channel) 0
+                  within;
+              pull_is = ap (last_pull usual_pull) (sym (none-below (λ (row : PullRow). row.cycle)
+                  (pulls_on inputs.pulls channel)));
+              stands = Unused (λ c h on soon. absurd (omega (arith, soon))) refl;
+            };
+      }

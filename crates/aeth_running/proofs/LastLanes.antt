@@ -33,6 +33,7 @@ use Rattle.aeth_running.proofs.InOrder.{below, below-first, passes-at, past-belo
 use Rattle.aeth_running.proofs.Replaced.{lane_before, last-lanes-are}
 use Rattle.aeth_running.proofs.SessionCycles.{HasNumber, ended-server, has-number, is-among, is-over}
 use Rattle.aeth_running.proofs.SessionCycles.{sessions-ordered}
+use Rattle.aeth_running.specs.Routing.{Routing}
 
 -- What is among the first items of a list is in it.
 taken-at : {X : Type 0} (n : ℕ) (xs : List X) (i : ℕ) (x : X) → slice_get (take n xs) i ≡ Some x
@@ -42,13 +43,13 @@ taken-at (suc n) [] i x at = absurd (cc at)
 taken-at (suc n) (y ∷ xs) zero x at = at
 taken-at (suc n) (y ∷ xs) (suc i) x at = taken-at n xs i x at
 
-module _ (inputs : Inputs) (sound : IsSound (run_of inputs)) (channel : Channel)
+module _ (inputs : Inputs) (routing : Routing) (sound : IsSound (run_of inputs)) (channel : Channel)
     (known : channel.conn.0 < length inputs.app.connections)
     (apart : (i j : ℕ) (one other : Session) → i < j
     → slice_get (sessions_in (run_of inputs) channel.conn.0) i ≡ Some one
     → slice_get (sessions_in (run_of inputs) channel.conn.0) j ≡ Some other → IsBefore one other)
     (running : (t : ℕ) → t ≤ inputs.cycles
-    → IsRunning inputs t (played t (first_network inputs)).components)
+    → IsRunning inputs t (played t (first_network inputs routing)).components)
     (ordered : IsNonDecreasingBy (λ going. going.lane.go) (goings_of inputs))
     (goings_are : map as_going (goings_over (channel_number channel) (goings_of inputs))
     ≡ map (going_of inputs channel)
@@ -142,7 +143,7 @@ module _ (inputs : Inputs) (sound : IsSound (run_of inputs)) (channel : Channel)
       → slice_get goers i ≡ Some session → slice_get goers (suc i) ≡ Some next
       → as_going going ≡ going_of inputs channel next → next.go < inputs.cycles
       → (has : HasNumber inputs sound channel known session)
-      → IsLastOf inputs inputs.cycles has.number (lane_before inputs going)
+      → IsLastOf inputs inputs.cycles has.number (lane_before inputs routing going)
   replaced-last i session next going at next_at is early has =
       let t = next.go in
       let here = goer-at i session at in
@@ -168,9 +169,9 @@ module _ (inputs : Inputs) (sound : IsSound (run_of inputs)) (channel : Channel)
       let go : going.lane.go ≡ t = ap (λ (g : SessionGoing). g.lane.go) is in
       let own : channel_number going.channel ≡ channel_of inputs has.number =
       ap (λ (g : SessionGoing). channel_number g.channel) is ∙ sym has.channel_is in
-      let lane : lane_before inputs going ≡ last.lane =
-      (λ q. slice_index_or (played (go q) (first_network inputs)).components.lanes (own q) no_lane)
-      ∙ read (played t (first_network inputs)).components.lanes (channel_of inputs has.number)
+      let lane : lane_before inputs routing going ≡ last.lane =
+      (λ q. slice_index_or (played (go q) (first_network inputs routing)).components.lanes (own q) no_lane)
+      ∙ read (played t (first_network inputs routing)).components.lanes (channel_of inputs has.number)
       last.lane last.at in
       subst (λ (l : Lane). IsLastOf inputs inputs.cycles has.number l) (sym lane)
       (stays-last has.number t last.lane (omega arith) (omega arith) last.is)
@@ -180,7 +181,7 @@ module _ (inputs : Inputs) (sound : IsSound (run_of inputs)) (channel : Channel)
       → session.go < inputs.cycles → length goers ≡ suc i
       → (has : HasNumber inputs sound channel known session)
       → IsLastOf inputs inputs.cycles has.number
-      (slice_index_or (played inputs.cycles (first_network inputs)).components.lanes
+      (slice_index_or (played inputs.cycles (first_network inputs routing)).components.lanes
       (channel_number channel) no_lane)
   final-last i session at early count has =
       let here = goer-at i session at in
@@ -188,7 +189,7 @@ module _ (inputs : Inputs) (sound : IsSound (run_of inputs)) (channel : Channel)
       (λ j other after other_at. past-goers j other other_at (omega arith)) has in
       let run = running inputs.cycles (omega arith) in
       let last = run.last has.number is_latest in
-      let lanes = (played inputs.cycles (first_network inputs)).components.lanes in
+      let lanes = (played inputs.cycles (first_network inputs routing)).components.lanes in
       let lane : slice_index_or lanes (channel_number channel) no_lane ≡ last.lane =
       ap (λ n. slice_index_or lanes n no_lane) (sym has.channel_is)
       ∙ read lanes (channel_of inputs has.number) last.lane last.at in
@@ -201,19 +202,19 @@ module _ (inputs : Inputs) (sound : IsSound (run_of inputs)) (channel : Channel)
 
   pub told-at : (i : ℕ) (session : Session) (lane : Lane) → slice_get goers i ≡ Some session
       → session.go < inputs.cycles
-      → slice_get (last_lanes (played inputs.cycles (first_network inputs)) (channel_number channel)) i
+      → slice_get (last_lanes (played inputs.cycles (first_network inputs routing)) (channel_number channel)) i
       ≡ Some lane → IsToldAt i lane session
   told-at i session lane at early lane_at =
       let number = channel_number channel in
-      let stood = map (lane_before inputs) goings in
+      let stood = map (lane_before inputs routing) goings in
       let final = slice_index_or
-      (played inputs.cycles (first_network inputs)).components.lanes number no_lane in
+      (played inputs.cycles (first_network inputs routing)).components.lanes number no_lane in
       let has = has-number inputs sound channel known i session (goer-at i session at) in
       let count = goings-count in
-      let size = length-map goings (lane_before inputs) in
+      let size = length-map goings (lane_before inputs routing) in
       let within = slice_get_within goers i session at in
       let there : slice_get (drop 1 stood ++ final ∷ []) i ≡ Some lane =
-      ap (λ (list : List Lane). slice_get list i) (sym (last-lanes-are inputs ordered number))
+      ap (λ (list : List Lane). slice_get list i) (sym (last-lanes-are inputs routing ordered number))
       ∙ lane_at in
       let short : length (drop 1 stood) ≡ length stood - 1 = length-drop 1 stood in
       elim (cases_lt (suc i) (length goers)) [
@@ -236,10 +237,10 @@ module _ (inputs : Inputs) (sound : IsSound (run_of inputs)) (channel : Channel)
             ∙ slice_get-map (going_of inputs channel) goers (suc i)
             ∙ ap (option_map (going_of inputs channel)) next_at in
             let going = mapped_at as_going goings (suc i) (going_of inputs channel next) shown in
-            let same : lane_before inputs going.0 ≡ lane =
-            same_Some (lane_before inputs going.0) lane
-            (sym (ap (option_map (lane_before inputs)) going.1)
-            ∙ sym (slice_get-map (lane_before inputs) goings (suc i))
+            let same : lane_before inputs routing going.0 ≡ lane =
+            same_Some (lane_before inputs routing going.0) lane
+            (sym (ap (option_map (lane_before inputs routing)) going.1)
+            ∙ sym (slice_get-map (lane_before inputs routing) goings (suc i))
             ∙ sym (drop-one stood i)
             ∙ sym (before (drop 1 stood) (final ∷ []) i (omega arith)) ∙ there) in
             let goes = passes-at (below session_go inputs.cycles) sessions (suc i) next next_at in

@@ -26,6 +26,7 @@ pub mod NetworkWires
 pub mod Outside
 pub mod OutsideTold
 pub mod Played
+pub mod PlayedTables
 pub mod Preparing
 pub mod QuietCycles
 pub mod QuietNetworks
@@ -36,6 +37,7 @@ pub mod RestedNetworks
 pub mod RestingNetworks
 pub mod RestingParts
 pub mod RestingStates
+pub mod RoutedNetworks
 pub mod RouterTables
 pub mod RowFilters
 pub mod RunningCycles
@@ -46,6 +48,7 @@ pub mod StillCycles
 pub mod StillEvents
 pub mod StillGoings
 pub mod StillRows
+pub mod StillTables
 pub mod StillTakes
 pub mod StillWires
 pub mod Untils

@@ -23,6 +23,7 @@ use Rattle.aeth_schedule.specs.Goings.{goings_of}
 use Rattle.aeth_running.specs.FirstLog.{first_channel, first_log}
 use Rattle.aeth_stimuli.specs.Stimuli.{goings_over}
 use Rattle.aeth_running.specs.Network.{NetworkState, first_network, played}
+use Rattle.aeth_running.specs.Routing.{Routing}
 use Rattle.aeth_running.specs.Running.{IsRunning}
 use Rattle.aeth_stimuli.specs.Sessions.{IsBefore, as_going, going_of}
 use Rattle.aeth_running.specs.Told.{channel_told, channels_told, network_log, told}
@@ -76,11 +77,11 @@ told-is inputs all each log carried =
     ∙ ap (λ n. map (channel_log (run_of inputs)) (channels_of n)) (sym count) in
     λ q. record { cycles = cycles q; channels = channels_are q; flits = carried q }
 
-module _ (inputs : Inputs) (accepted : AreAccepted inputs) (sound : IsSound (run_of inputs))
+module _ (inputs : Inputs) (routing : Routing) (accepted : AreAccepted inputs) (sound : IsSound (run_of inputs))
     (carried : (l t : ℕ) → l < length inputs.chip.links
     → carries (fabric_of inputs) l t ≡ carries_in (run_of inputs) l t)
     (running : (t : ℕ) → t ≤ inputs.cycles
-    → IsRunning inputs t (played t (first_network inputs)).components)
+    → IsRunning inputs t (played t (first_network inputs routing)).components)
     (ordered : IsNonDecreasingBy (λ going. going.lane.go) (goings_of inputs))
     (apart : (c i j : ℕ) (one other : Session) → c < length inputs.app.connections → i < j
     → slice_get (sessions_in (run_of inputs) c) i ≡ Some one
@@ -90,14 +91,14 @@ module _ (inputs : Inputs) (accepted : AreAccepted inputs) (sound : IsSound (run
     ≡ map (going_of inputs channel) (filter (λ session. nat_lt session.go inputs.cycles)
     (sessions_in (run_of inputs) channel.conn.0))) where
   -- So the log of the network is that of the run.
-  pub log-is : network_log inputs ≡ log_of (run_of inputs)
+  pub log-is : network_log inputs routing ≡ log_of (run_of inputs)
   unfolding network_log
   log-is =
-      let all = played inputs.cycles (first_network inputs) in
+      let all = played inputs.cycles (first_network inputs routing) in
       let run = running inputs.cycles (omega arith) in
       told-is inputs all
-      (λ channel known. channel-is inputs accepted sound running ordered channel known
+      (λ channel known. channel-is inputs routing accepted sound running ordered channel known
       (channel-within channel (length inputs.app.connections) known)
       (λ i j one other. apart channel.conn.0 i j one other known) (goings_are channel known))
-      (played-log inputs inputs.cycles)
+      (played-log inputs routing inputs.cycles)
       (flits-are inputs all.components carried run.links run.flits)

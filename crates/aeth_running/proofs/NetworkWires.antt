@@ -16,45 +16,46 @@ use Rattle.aeth_accepted.specs.Inputs.{Inputs}
 use Rattle.aeth_fabric.specs.Fabric.{fabric_of}
 use Rattle.aeth_running.specs.Network.{first_network, played}
 use Rattle.aeth_running.specs.Running.{IsRunning}
+use Rattle.aeth_running.specs.Routing.{Routing}
 
 -- What lists nothing is nothing.
 pub nothing-listed : {X : Type 0} (x : Option X) → option_to_list x ≡ [] → x ≡ None
 nothing-listed None none = refl
 nothing-listed (Some x) none = absurd (grind (arith, none))
 
-module _ (inputs : Inputs)
+module _ (inputs : Inputs) (routing : Routing)
     (running : (t : ℕ) → t ≤ inputs.cycles
-    → IsRunning inputs t (played t (first_network inputs)).components) where
+    → IsRunning inputs t (played t (first_network inputs routing)).components) where
   -- Behind each cycle the wires have what the private servers sent in it.
   pub exact : (t : ℕ) → t < inputs.cycles
-      → Exact (fabric_of inputs) t (flit_on (played (t + 1) (first_network inputs)).components.wires)
+      → Exact (fabric_of inputs) t (flit_on (played (t + 1) (first_network inputs routing)).components.wires)
   exact t early = (running (t + 1) (omega (arith, early))).runs.stands.held t (omega arith)
 
   -- Before the first they have nothing.
-  pub nothing-first : (l : ℕ) → flit_on (played 0 (first_network inputs)).components.wires l ≡ None
+  pub nothing-first : (l : ℕ) → flit_on (played 0 (first_network inputs routing)).components.wires l ≡ None
   nothing-first l = (running 0 (omega arith)).runs.stands.held_none refl l
 
   -- So each wire has the one flit that the fabric carries there.
   pub carried : ((t : ℕ) (wires : ℕ → Option Flit) → Exact (fabric_of inputs) t wires → (l : ℕ)
       → carries (fabric_of inputs) l t ≡ option_to_list (wires l))
       → (l t : ℕ) → t < inputs.cycles
-      → option_to_list (flit_on (played (t + 1) (first_network inputs)).components.wires l)
+      → option_to_list (flit_on (played (t + 1) (first_network inputs routing)).components.wires l)
       ≡ carries (fabric_of inputs) l t
   carried carry l t early =
-      sym (carry t (flit_on (played (t + 1) (first_network inputs)).components.wires) (exact t early) l)
+      sym (carry t (flit_on (played (t + 1) (first_network inputs routing)).components.wires) (exact t early) l)
 
   -- The components stand as the private servers say.
   pub standing : (t : ℕ) (within : t ≤ inputs.cycles)
       → Stands (fabric_of inputs) t t
-      (net_of (running t within).handed (played t (first_network inputs)).components.parts
-      (played t (first_network inputs)).components.wires)
+      (net_of (running t within).handed (played t (first_network inputs routing)).components.parts
+      (played t (first_network inputs routing)).components.wires)
   standing t within = (running t within).runs.stands
 
   -- A receive queue has the words that have landed and were not taken.
   pub received : (t : ℕ) → t ≤ inputs.cycles → (c : ℕ) → c < (fabric_of inputs).count
       → Owns (fabric_of inputs) c t
       → let d = (fabric_of inputs).opposite c in
-      (queue_of (played t (first_network inputs)).components.parts
+      (queue_of (played t (first_network inputs routing)).components.parts
       ((fabric_of inputs).passage c).ni ((fabric_of inputs).passage c).queue).received
       ≡ words_from (flow_at (fabric_of inputs) d).values (taken (server_at (fabric_of inputs) d) t)
       (landed (server_at (fabric_of inputs) d) (t + 1) - taken (server_at (fabric_of inputs) d) t)

@@ -17,6 +17,7 @@ use Rattle.aeth_running.specs.Network.{first_network, offers_in, outside_with, p
 use Rattle.aeth_stimuli.specs.Stimuli.{Offer, stimuli_of}
 use Rattle.aeth_running.proofs.Outside.{counted-outside, lost-next, lost_in}
 use Rattle.aeth_running.proofs.Played.{outside-first, outside-next}
+use Rattle.aeth_running.specs.Routing.{Routing}
 
 -- Counting words leaves as many counts.
 pub length-all_outside : (t : ℕ) (untils : List ℕ) (offers : List Offer) (outside : List ℕ)
@@ -37,31 +38,31 @@ none-early : (takes : WordRow → Bool) (rows : List WordRow)
 none-early takes [] = refl
 none-early takes (row ∷ rows) = rw (le-ltb row.cycle 0 (omega arith)) (none-early takes rows)
 
-module _ (inputs : Inputs) (channel : Channel)
+module _ (inputs : Inputs) (routing : Routing) (channel : Channel)
     (within : channel_number channel < 2 * length inputs.app.connections) where
   abbrev untils_at : ℕ → List ℕ
-  untils_at t = untils_in (stimuli_of inputs) t (played t (first_network inputs)).untils
+  untils_at t = untils_in (stimuli_of inputs) t (played t (first_network inputs routing)).untils
 
   abbrev outside_at : ℕ → List ℕ
-  outside_at t = (played t (first_network inputs)).outside
+  outside_at t = (played t (first_network inputs routing)).outside
 
   -- Whether a session of the channel accepts a word.
   abbrev takes : WordRow → Bool
   takes row = list_any (is_accepted row) (flows_on (run_of inputs) channel)
 
   length-at : (t : ℕ) → length (outside_at t) ≡ 2 * length inputs.app.connections
-  length-at zero = ap length (outside-first inputs)
+  length-at zero = ap length (outside-first inputs routing)
       ∙ length-replicate (2 * length inputs.app.connections) 0
   length-at (suc t) =
       let next : suc t ≡ t + 1 = omega arith in
       ap (λ n. length (outside_at n)) next
-      ∙ ap length (outside-next inputs t)
+      ∙ ap length (outside-next inputs routing t)
       ∙ length-all_outside t (untils_at t) (offers_in (stimuli_of inputs) t) (outside_at t)
       ∙ length-at t
 
   module _ (accepted_until : (t : ℕ) → t < inputs.cycles → (row : WordRow) → row.cycle ≡ t
       → list_any (is_accepted row) (flows_on (run_of inputs) channel)
-      ≡ nat_lt t (slice_index (untils_in (stimuli_of inputs) t (played t (first_network inputs)).untils)
+      ≡ nat_lt t (slice_index (untils_in (stimuli_of inputs) t (played t (first_network inputs routing)).untils)
       (channel_number channel))) where
     -- Behind t cycles those are counted that were offered by then and taken by none.
     outside-are : (t : ℕ) → t ≤ inputs.cycles
@@ -70,7 +71,7 @@ module _ (inputs : Inputs) (channel : Channel)
         (words_on inputs.words channel))
     outside-are zero early =
         let number = channel_number channel in
-        ap (λ (list : List ℕ). slice_index list number) (outside-first inputs)
+        ap (λ (list : List ℕ). slice_index list number) (outside-first inputs routing)
         ∙ get_or-replicate (2 * length inputs.app.connections) number 0 0 within
         ∙ sym (none-early takes (words_on inputs.words channel))
     outside-are (suc t) early =
@@ -84,7 +85,7 @@ module _ (inputs : Inputs) (channel : Channel)
         let all = lost-next t inputs.cycles until (omega arith) channel takes
         (accepted_until t (omega arith)) inputs.words in
         ap (λ n. slice_index (outside_at n) number) next
-        ∙ ap (λ (list : List ℕ). slice_index list number) (outside-next inputs t)
+        ∙ ap (λ (list : List ℕ). slice_index list number) (outside-next inputs routing t)
         ∙ here
         ∙ ap (λ n. n + lost_in t inputs.cycles until (omega arith) channel takes
         (accepted_until t (omega arith)) inputs.words) before
@@ -93,7 +94,7 @@ module _ (inputs : Inputs) (channel : Channel)
         (words_on inputs.words channel))) (sym next)
 
     -- So it is at the end of the run.
-    pub outside-is : slice_index (played inputs.cycles (first_network inputs)).outside
+    pub outside-is : slice_index (played inputs.cycles (first_network inputs routing)).outside
         (channel_number channel)
         ≡ outside_of inputs.cycles (flows_on (run_of inputs) channel) (words_on inputs.words channel)
     outside-is =

@@ -19,6 +19,7 @@ use Rattle.aeth_fabric.proofs.Numbers.{opposite-is}
 use Rattle.aeth_schedule.specs.Values.{before_of, start_of}
 use Rattle.aeth_schedule.specs.declared.going.Going.{Going}
 use Rattle.aeth_invariant.specs.Framed.{IsEndOf}
+use Rattle.aeth_invariant.specs.Routed.{AreRoutedBy}
 use Rattle.aeth_invariant.specs.Running.{HasStart, Prepares, Starts}
 use Rattle.aeth_invariant.specs.Served.{IsLaneOf}
 use Rattle.aeth_running.proofs.ChannelNumbers.{channel-of}
@@ -28,8 +29,9 @@ use Rattle.aeth_running.proofs.FabricSessions.{Before, Behind, Ordered, Same, cl
 use Rattle.aeth_running.proofs.FabricSessions.{placed-known, session_at}
 use Rattle.aeth_running.proofs.LaneLookups.{length-lanes_in}
 use Rattle.aeth_running.proofs.ReadyChannels.{IsReady, Loads, Stays}
-use Rattle.aeth_running.proofs.RouterTables.{HaveNoTables}
+use Rattle.aeth_running.proofs.RouterTables.{but-entered}
 use Rattle.aeth_running.specs.Network.{NetworkState, ready_in, untils_in}
+use Rattle.aeth_running.specs.Routing.{enterings_in}
 use Rattle.aeth_running.specs.Running.{IsLatest}
 use Rattle.aeth_stimuli.specs.Sessions.{SessionGoing, as_going, channel_of, first_of, going_of}
 
@@ -138,7 +140,7 @@ module _ (inputs : Inputs) (ordered : (c d : ℕ) → c < (fabric_of inputs).cou
       ]
 
 module _ (inputs : Inputs) (t : ℕ) (early : t < inputs.cycles) (network : NetworkState)
-    (none : HaveNoTables network.components.parts)
+    (routed : AreRoutedBy (fabric_of inputs) t (ready_in network).parts)
     (values-placed : (c : ℕ) → c < (fabric_of inputs).count
     → words_from network.components.words (first_of inputs c)
     (length (flow_at (fabric_of inputs) c).values)
@@ -266,8 +268,8 @@ module _ (inputs : Inputs) (t : ℕ) (early : t < inputs.cycles) (network : Netw
   pub prepares : Prepares (fabric_of inputs) (channel_of inputs) t network.components
       (ready_in network)
   prepares = record {
-    parts = refl;
-    routed = λ i router at. absurd (none i router at);
+    parts = but-entered (enterings_in network.routing network.time) network.components.parts;
+    routed = routed;
     wires = refl;
     words = refl;
     landings = refl;

@@ -4,12 +4,14 @@ use Rattle.std.proofs.Common.{slice_get}
 use Rattle.std.proofs.Common.{sym, ap, subst, arith}
 use Rattle.std.specs.Prelude.{◌==◌, nat_lt}
 use Rattle.std.specs.List.{All}
+use Rattle.std.proofs.lemmas.List.{length-map}
 use Rattle.std.proofs.lemmas.List.Elements.{All-filter, All-head}
 use Rattle.std.proofs.lemmas.List.Sums.{count_by-le-length, length-filter}
 use Rattle.std.proofs.lemmas.Option.{same_Some, slice_get-get_or}
 use Rattle.aeth_base.specs.declared.ids.Channel.{Channel}
 use Rattle.aeth_trace.specs.Channels.{channel_number}
-use Rattle.aeth_components.specs.Components.{IsComponents}
+use Rattle.aeth_components.specs.Components.{IsComponents, frames_of}
+use Rattle.aeth_components.specs.Frames.{Frame, IsWired, frame_of}
 use Rattle.aeth_components.specs.Lanes.{IsLane}
 use Rattle.aeth_components.specs.declared.lane.Lane.{Lane}
 use Rattle.aeth_server.specs.PrivateServer.{accepted, arrived}
@@ -20,6 +22,7 @@ use Rattle.aeth_fabric.specs.Fabric.{fabric_of}
 use Rattle.aeth_schedule.specs.Goings.{goings_of}
 use Rattle.aeth_schedule.specs.Values.{before_of, start_of}
 use Rattle.aeth_schedule.specs.declared.going.Going.{Going}
+use Rattle.aeth_invariant.proofs.Routed.{frames-but_tables}
 use Rattle.aeth_invariant.specs.Places.{ArePlaced}
 use Rattle.aeth_running.proofs.ChannelNumbers.{channel-of}
 use Rattle.aeth_running.proofs.ChannelStates.{StandsAt, Unused, Used}
@@ -27,7 +30,9 @@ use Rattle.aeth_running.proofs.FabricSessions.{session_at}
 use Rattle.aeth_running.proofs.GoingSessions.{going_now}
 use Rattle.aeth_running.proofs.LaneLookups.{length-lanes_in}
 use Rattle.aeth_running.proofs.ReadyChannels.{IsChanged, IsReady, Loads, Stays}
+use Rattle.aeth_running.proofs.RouterTables.{but-entered}
 use Rattle.aeth_running.specs.Network.{NetworkState, goings_in, ready_in, untils_in}
+use Rattle.aeth_running.specs.Routing.{enterings_in}
 use Rattle.aeth_stimuli.specs.Sessions.{SessionGoing, first_of}
 use Rattle.aeth_stimuli.specs.Stimuli.{is_over, stimuli_of}
 
@@ -124,9 +129,16 @@ module _ (inputs : Inputs) (ok : IsAccepted (fabric_of inputs)) (t : ℕ) (netwo
       let count : length then ≡ length lanes =
       length-lanes_in network.stimuli network.time
       (untils_in network.stimuli network.time network.untils) lanes in
+      let frames : frames_of (ready_in network) ≡ frames_of network.components =
+      frames-but_tables (ready_in network).parts network.components.parts
+      (but-entered (enterings_in network.routing network.time) network.components.parts) in
+      let same : length (ready_in network).parts ≡ parts =
+      sym (length-map (ready_in network).parts frame_of) ∙ ap length frames
+      ∙ length-map network.components.parts frame_of in
       record {
-        wired = sound.wired;
-        lanes = λ k default within.
+        wired = subst (λ (list : List Frame). IsWired list (length network.components.wires))
+            (sym frames) sound.wired;
+        lanes = subst (λ (n : ℕ). All (IsLane words n) then) (sym same) (λ k default within.
             let numbered = channel-of (length inputs.app.connections) k
             (omega (arith, within, count, lanes_are)) in
             let one = readies numbered.channel numbered.known in
@@ -145,7 +157,7 @@ module _ (inputs : Inputs) (ok : IsAccepted (fabric_of inputs)) (t : ℕ) (netwo
             (before numbered.channel numbered.known)
             (subst (IsLane words parts) was
             (sound.lanes k default (omega (arith, within, count)))) goings-sound one.until_now one.lane
-            one.stands one.changed);
+            one.stands one.changed));
         landings = sound.landings;
         flits = sound.flits;
         few = sound.few;

@@ -20,6 +20,7 @@ use Rattle.aeth_running.proofs.Accepting.{shown-beside}
 use Rattle.aeth_base.proofs.Filters.{filter-again}
 use Rattle.aeth_running.proofs.InOrder.{below, below-next, map-kept, none-below}
 use Rattle.aeth_running.proofs.Played.{played-stimuli, replaced-first, replaced-next}
+use Rattle.aeth_running.specs.Routing.{Routing}
 
 -- When a session goes.
 abbrev pub go_of : Going → ℕ
@@ -31,19 +32,19 @@ pub all-within : (inputs : Inputs)
 unfolding goings_of
 all-within inputs = filter-again (λ (going : Going). nat_lt going.lane.go inputs.cycles) _
 
-module _ (inputs : Inputs) where
+module _ (inputs : Inputs) (routing : Routing) where
   -- How the channel of a session stood before it went.
   abbrev pub lane_before : Going → Lane
   lane_before going =
-      slice_index_or (played going.lane.go (first_network inputs)).components.lanes
+      slice_index_or (played going.lane.go (first_network inputs routing)).components.lanes
       (channel_number going.channel) no_lane
 
   module _ (ordered : IsNonDecreasingBy (λ going. going.lane.go) (goings_of inputs)) where
     -- Those of the sessions that went before a cycle.
-    replaced-before : (t : ℕ) → (played t (first_network inputs)).replaced
+    replaced-before : (t : ℕ) → (played t (first_network inputs routing)).replaced
         ≡ map lane_before (filter (below go_of t) (goings_of inputs))
     replaced-before zero =
-        replaced-first inputs
+        replaced-first inputs routing
         ∙ ap (λ (list : List Going). map lane_before list)
         (sym (none-below go_of 0 (goings_of inputs) (λ k d within. omega arith)))
     replaced-before (suc t) =
@@ -51,14 +52,14 @@ module _ (inputs : Inputs) where
         let all = goings_of inputs in
         let here = filter (λ (going : Going). going.lane.go == t) all in
         let stood = λ (going : Going). slice_index_or
-        (played t (first_network inputs)).components.lanes (channel_number going.channel) no_lane in
+        (played t (first_network inputs routing)).components.lanes (channel_number going.channel) no_lane in
         let same : map stood here ≡ map lane_before here =
         map-kept stood lane_before (λ (going : Going). going.lane.go == t) all (λ going goes.
         let at : t ≡ going.lane.go = sym (eqb-true going.lane.go t goes) in
-        ap (λ n. slice_index_or (played n (first_network inputs)).components.lanes
+        ap (λ n. slice_index_or (played n (first_network inputs routing)).components.lanes
         (channel_number going.channel) no_lane) at) in
-        ap (λ n. (played n (first_network inputs)).replaced) next
-        ∙ replaced-next inputs t
+        ap (λ n. (played n (first_network inputs routing)).replaced) next
+        ∙ replaced-next inputs routing t
         ∙ (λ q. replaced-before t q ++ same q)
         ∙ sym (map-append lane_before (filter (below go_of t) all) here)
         ∙ ap (λ (list : List Going). map lane_before list)
@@ -66,7 +67,7 @@ module _ (inputs : Inputs) where
         ∙ ap (λ n. map lane_before (filter (below go_of n) all)) (sym next)
 
     -- At the end of the run, those of all sessions.
-    pub replaced-all : (played inputs.cycles (first_network inputs)).replaced
+    pub replaced-all : (played inputs.cycles (first_network inputs routing)).replaced
         ≡ map lane_before (goings_of inputs)
     replaced-all =
         replaced-before inputs.cycles
@@ -74,14 +75,14 @@ module _ (inputs : Inputs) where
 
     -- So the channel of a number stood at the end of each of its sessions as before the next one.
     pub last-lanes-are : (number : ℕ)
-        → last_lanes (played inputs.cycles (first_network inputs)) number
+        → last_lanes (played inputs.cycles (first_network inputs routing)) number
         ≡ drop 1 (map lane_before (goings_over number (goings_of inputs)))
-        ++ slice_index_or (played inputs.cycles (first_network inputs)).components.lanes number no_lane
+        ++ slice_index_or (played inputs.cycles (first_network inputs routing)).components.lanes number no_lane
         ∷ []
     last-lanes-are number =
-        let all = played inputs.cycles (first_network inputs) in
+        let all = played inputs.cycles (first_network inputs routing) in
         let final = slice_index_or all.components.lanes number no_lane in
         (λ q. drop 1 (map (λ gone. gone.1) (filter (λ gone. is_over number gone.0)
-        (zip (played-stimuli inputs inputs.cycles q).schedule.goings (replaced-all q)))) ++ final ∷ [])
+        (zip (played-stimuli inputs routing inputs.cycles q).schedule.goings (replaced-all q)))) ++ final ∷ [])
         ∙ ap (λ (list : List Lane). drop 1 list ++ final ∷ [])
         (shown-beside lane_before (is_over number) (goings_of inputs))

@@ -16,13 +16,14 @@ use Rattle.aeth_components.specs.Lanes.{is_open}
 use Rattle.aeth_components.specs.Phases.{Moment, pulled, refilled}
 use Rattle.aeth_components.specs.declared.lane.Lane.{Lane}
 use Rattle.aeth_accepted.specs.Inputs.{Inputs}
+use Rattle.aeth_invariant.proofs.Routed.{interface-there}
 use Rattle.aeth_schedule.specs.Rooms.{rooms_of}
 use Rattle.aeth_schedule.specs.Switching.{loaded_of}
 use Rattle.aeth_schedule.specs.declared.going.Going.{Going}
 use Rattle.aeth_stimuli.specs.Loaded.{no_lane}
 use Rattle.aeth_stimuli.specs.Stimuli.{Offer}
 use Rattle.aeth_running.proofs.LastFlits.{last-latched, last-loaded}
-use Rattle.aeth_running.proofs.Played.{played-next, played-time}
+use Rattle.aeth_running.proofs.Played.{played-next, played-routing, played-time}
 use Rattle.aeth_running.proofs.RestingNetworks.{stepped-components}
 use Rattle.aeth_running.proofs.RestingParts.{drives-rest, lands-none, latches-rest}
 use Rattle.aeth_running.proofs.RestingStates.{both-empty, in_turn-rests, state-rests}
@@ -32,32 +33,36 @@ use Rattle.aeth_running.specs.Network.{outside_with, stepped, takes_in, taking_w
 use Rattle.aeth_running.specs.Network.{untils_in}
 use Rattle.aeth_running.specs.Running.{IsServing}
 use Rattle.aeth_running.specs.Still.{IsStill, passed_over}
+use Rattle.aeth_running.proofs.RouterTables.{but-first}
+use Rattle.aeth_running.specs.Routing.{Entering, Routing, entered_with, enterings_in}
 
 -- Where the wires are empty interfaces tell of no last flit.
-last-none : (inputs : Inputs) (t : ℕ)
-    → ((l : ℕ) → flit_on (played t (first_network inputs)).components.wires l ≡ None)
+last-none : (inputs : Inputs) (routing : Routing) (t : ℕ)
+    → ((l : ℕ) → flit_on (played t (first_network inputs routing)).components.wires l ≡ None)
     → (i : ℕ) (ni : InterfaceState)
-    → slice_get (played t (first_network inputs)).components.parts i ≡ Some (Interface ni)
+    → slice_get (played t (first_network inputs routing)).components.parts i ≡ Some (Interface ni)
     → ni.last ≡ None
 unfolding played stepped first_network
-last-none inputs zero empty i ni at =
-    last-loaded inputs.chip (rooms_of inputs) (loaded_of inputs) i ni at
-last-none inputs (suc t) empty i ni at = last-latched _ empty _ i ni at
+last-none inputs routing zero empty i ni at =
+    last-loaded inputs.chip (rooms_of inputs) (loaded_of inputs) i ni
+    (interface-there _ _ (but-first routing inputs.chip (rooms_of inputs) (loaded_of inputs)) i ni at)
+last-none inputs routing (suc t) empty i ni at = last-latched _ empty _ i ni at
 
--- Where no session goes and no word is offered, and the components are as they were once they were
--- ready, all else stays.
+-- Where no rows enter, no session goes and no word is offered, and the components are as they were once
+-- they were ready, all else stays.
 over-nothing : (all : NetworkState) → (stepped all).components ≡ ready_in all
-    → goings_in all.stimuli all.time ≡ [] → offers_in all.stimuli all.time ≡ []
+    → enterings_in all.routing all.time ≡ [] → goings_in all.stimuli all.time ≡ [] → offers_in all.stimuli all.time ≡ []
     → stepped all ≡ passed_over all
 unfolding stepped
-over-nothing all rests ungone unoffered =
+over-nothing all rests unentered ungone unoffered =
     let untils = untils_in all.stimuli all.time all.untils in
     let stood = λ (going : Going).
     slice_index_or all.components.lanes (channel_number going.channel) no_lane in
-    let behind = λ (goings : List Going) (offers : List Offer).
+    let behind = λ (enterings : List Entering) (goings : List Going) (offers : List Offer).
     let until = fold until_with all.untils goings in
     let one : NetworkState = record all {
       components = record all.components {
+        parts = fold entered_with all.components.parts enterings;
         lanes = fold taking_with
             (fold (accepted_with all.time until) (fold gone_with all.components.lanes goings) offers)
             (takes_in all.stimuli all.time);
@@ -75,21 +80,21 @@ over-nothing all rests ungone unoffered =
       replaced = all.replaced ++ map stood (goings_in all.stimuli all.time);
       time = all.time + 1;
     }) rests
-    ∙ (λ i. behind (ungone i) (unoffered i))
+    ∙ (λ i. behind (unentered i) (ungone i) (unoffered i))
     ∙ ap (λ (replaced : List Lane). record (passed_over all) { replaced = replaced })
     (append-nil all.replaced)
 
-module _ (inputs : Inputs) (t : ℕ)
-    (serves : IsServing inputs t (played t (first_network inputs)).components
-    (ready_in (played t (first_network inputs))))
-    (still : IsStill (played t (first_network inputs)))
+module _ (inputs : Inputs) (routing : Routing) (t : ℕ)
+    (serves : IsServing inputs t (played t (first_network inputs routing)).components
+    (ready_in (played t (first_network inputs routing))))
+    (still : IsStill (played t (first_network inputs routing)))
     (hands : (number : ℕ) (lane : Lane)
-    → slice_get (ready_in (played t (first_network inputs))).lanes number ≡ Some lane
-    → refilled (ready_in (played t (first_network inputs))).words t
-    (ready_in (played t (first_network inputs))).parts lane
-    ≡ ((ready_in (played t (first_network inputs))).parts, lane)) where
+    → slice_get (ready_in (played t (first_network inputs routing))).lanes number ≡ Some lane
+    → refilled (ready_in (played t (first_network inputs routing))).words t
+    (ready_in (played t (first_network inputs routing))).parts lane
+    ≡ ((ready_in (played t (first_network inputs routing))).parts, lane)) where
   abbrev all : NetworkState
-  all = played t (first_network inputs)
+  all = played t (first_network inputs routing)
 
   abbrev ready : ComponentsState
   ready = ready_in all
@@ -100,13 +105,13 @@ module _ (inputs : Inputs) (t : ℕ)
     | inl opened ↦
         pulled-open t ready.parts lane opened
         ∙ drawn_out-none ready.parts lane
-        (still.unasked number lane at (ap (is_open lane) (played-time inputs t) ∙ opened))
+        (still.unasked number lane at (ap (is_open lane) (played-time inputs routing t) ∙ opened))
     | inr closed ↦ pulled-closed t ready.parts lane closed
   ]
 
   behind : (stepped all).components ≡ state_behind [] t ready
   behind = stepped-components all
-      ∙ (λ i. state_behind (still.eventless i) (played-time inputs t i) ready)
+      ∙ (λ i. state_behind (still.eventless i) (played-time inputs routing t i) ready)
 
   -- No component sends.
   silent : (l : ℕ) → flit_on (wires_driven ready.parts (length ready.wires) t) l ≡ None
@@ -120,7 +125,9 @@ module _ (inputs : Inputs) (t : ℕ)
   rests =
       let wired = serves.follows.wired in
       let latched = serves.follows.latched in
-      let last = last-none inputs t still.empty in
+      let last = λ (i : ℕ) (ni : InterfaceState) (at : slice_get ready.parts i ≡ Some (Interface ni)).
+      last-none inputs routing t still.empty i ni
+      (interface-there ready.parts all.components.parts serves.prepares.parts i ni at) in
       behind
       ∙ state-rests ready t still.empty hands takes
       (drives-rest ready.parts ready.wires t wired latched still.empty silent last)
@@ -129,12 +136,13 @@ module _ (inputs : Inputs) (t : ℕ)
       (latches-rest ready.parts ready.wires t wired latched still.empty silent last)
       (lands-none ready.parts ready.wires t wired latched still.empty silent last)
 
-  pub components-rest : (played (t + 1) (first_network inputs)).components ≡ ready
+  pub components-rest : (played (t + 1) (first_network inputs routing)).components ≡ ready
   components-rest =
-      ap (λ (one : NetworkState). one.components) (played-next (first_network inputs) t) ∙ rests
+      ap (λ (one : NetworkState). one.components) (played-next (first_network inputs routing) t) ∙ rests
 
-  pub passes-over : 0 < t → played (t + 1) (first_network inputs) ≡ passed_over all
-  passes-over late =
-      let time = played-time inputs t in
-      played-next (first_network inputs) t
-      ∙ over-nothing all rests (still.ungone (omega arith)) still.unoffered
+  pub passes-over : enterings_in routing t ≡ [] → 0 < t → played (t + 1) (first_network inputs routing) ≡ passed_over all
+  passes-over unentered late =
+      let time = played-time inputs routing t in
+      played-next (first_network inputs routing) t
+      ∙ over-nothing all rests
+      ((λ i. enterings_in (played-routing inputs routing t i) (time i)) ∙ unentered) (still.ungone (omega arith)) still.unoffered

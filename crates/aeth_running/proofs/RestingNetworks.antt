@@ -47,6 +47,7 @@ use Rattle.aeth_running.proofs.SettledQueues.{handed-full, handed_on-full, sent-
 use Rattle.aeth_running.specs.Network.{NetworkState, first_network, played, ready_in, state_behind}
 use Rattle.aeth_running.specs.Network.{stepped}
 use Rattle.aeth_running.specs.Running.{IsRunning, IsServing}
+use Rattle.aeth_running.specs.Routing.{Routing}
 
 -- Where no word is offered in a cycle, none arrives in it.
 same-arrivals : (t : ℕ) (xs : List ℕ) → ((a : ℕ) → Contains xs a → a ≡ t → ⊥)
@@ -74,7 +75,7 @@ pub stepped-components : (all : NetworkState)
 unfolding stepped
 stepped-components all = refl
 
-module _ (inputs : Inputs) (ok : IsAccepted (fabric_of inputs))
+module _ (inputs : Inputs) (routing : Routing) (ok : IsAccepted (fabric_of inputs))
     (follows-on : (fabric : Fabric) → IsAccepted fabric → (channel : ℕ → ℕ)
     (events : List Event) (t : ℕ) (handed : ℕ → ℕ) (old new : ComponentsState)
     → Follows fabric channel t t handed old → AreEvents fabric (t + 1) events
@@ -87,23 +88,23 @@ module _ (inputs : Inputs) (ok : IsAccepted (fabric_of inputs))
     (events-are : (t : ℕ) → t < inputs.cycles
     → AreEvents (fabric_of inputs) (t + 1) (events_in (stimuli_of inputs) t))
     (running : (t : ℕ) → t ≤ inputs.cycles
-    → IsRunning inputs t (played t (first_network inputs)).components)
+    → IsRunning inputs t (played t (first_network inputs routing)).components)
     (serving : (t : ℕ) → t < inputs.cycles
-    → IsServing inputs t (played t (first_network inputs)).components
-    (ready_in (played t (first_network inputs)))) where
+    → IsServing inputs t (played t (first_network inputs routing)).components
+    (ready_in (played t (first_network inputs routing)))) where
   abbrev fabric : Fabric
   fabric = fabric_of inputs
 
   abbrev ready : ℕ → ComponentsState
-  ready t = ready_in (played t (first_network inputs))
+  ready t = ready_in (played t (first_network inputs routing))
 
-  components-next : (t : ℕ) → (played (t + 1) (first_network inputs)).components
+  components-next : (t : ℕ) → (played (t + 1) (first_network inputs routing)).components
       ≡ state_behind (events_in (stimuli_of inputs) t) t (ready t)
   components-next t =
-      let all = played t (first_network inputs) in
-      let stimuli = played-stimuli inputs t in
-      let time = played-time inputs t in
-      ap (λ (one : NetworkState). one.components) (played-next (first_network inputs) t)
+      let all = played t (first_network inputs routing) in
+      let stimuli = played-stimuli inputs routing t in
+      let time = played-time inputs routing t in
+      ap (λ (one : NetworkState). one.components) (played-next (first_network inputs routing) t)
       ∙ stepped-components all
       ∙ (λ i. state_behind (events_in (stimuli i) (time i)) (time i) (ready t))
 
@@ -152,7 +153,7 @@ module _ (inputs : Inputs) (ok : IsAccepted (fabric_of inputs))
       (λ soon using. handed-before u c known soon using gone) early going
 
   module _ (t : ℕ) (early : t < inputs.cycles)
-      (empty : (l : ℕ) → flit_on (played t (first_network inputs)).components.wires l ≡ None)
+      (empty : (l : ℕ) → flit_on (played t (first_network inputs routing)).components.wires l ≡ None)
       (unoffered : (row : WordRow) → Contains inputs.words row → row.cycle ≡ t → ⊥) where
     -- No word arrives in the cycle.
     none-arrives : (c : ℕ) → arrived (server_at fabric c) (t + 1) ≡ arrived (server_at fabric c) t
@@ -170,9 +171,9 @@ module _ (inputs : Inputs) (ok : IsAccepted (fabric_of inputs))
     none-sent u c known going next =
         ap (sent (server_at fabric c)) (sym next)
         ∙ sent-same fabric ok u c known going
-        (flit_on (played (u + 1) (first_network inputs)).components.wires)
-        (exact inputs running u (omega arith))
-        (λ l. ap (λ n. flit_on (played n (first_network inputs)).components.wires l) next ∙ empty l)
+        (flit_on (played (u + 1) (first_network inputs routing)).components.wires)
+        (exact inputs routing running u (omega arith))
+        (λ l. ap (λ n. flit_on (played n (first_network inputs routing)).components.wires l) next ∙ empty l)
 
     -- A session in use has handed all on that it accepted, or eight of its words wait.
     settled : (c : ℕ) (known : c < fabric.count) (going : IsGoing fabric c t)

@@ -40,17 +40,18 @@ use Rattle.aeth_running.proofs.StillGoings.{no-goings}
 use Rattle.aeth_running.proofs.StillRows.{no-offers, no-switches, no-windows, no-words}
 use Rattle.aeth_running.proofs.StillTakes.{rest-asked, rest-taken, rests-early}
 use Rattle.aeth_running.proofs.StillWires.{no-carries, no-flits}
+use Rattle.aeth_running.specs.Routing.{Routing}
 
-module _ (inputs : Inputs) (accepted : AreAccepted inputs) (spans : AreSpans inputs accepted)
+module _ (inputs : Inputs) (routing : Routing) (accepted : AreAccepted inputs) (spans : AreSpans inputs accepted)
     (ok : IsAccepted (fabric_of inputs))
     (running : (t : ℕ) → t ≤ inputs.cycles
-    → IsRunning inputs t (played t (first_network inputs)).components)
+    → IsRunning inputs t (played t (first_network inputs routing)).components)
     (serving : (t : ℕ) → t < inputs.cycles
-    → IsServing inputs t (played t (first_network inputs)).components
-    (ready_in (played t (first_network inputs))))
+    → IsServing inputs t (played t (first_network inputs routing)).components
+    (ready_in (played t (first_network inputs routing))))
     (behind : (link : LinkId) (k : ℕ) → k < delay_of inputs.chip.links link → (t : ℕ)
     → t + k < inputs.cycles
-    → option_to_list (flit_on (played (t + k + 1) (first_network inputs)).components.wires
+    → option_to_list (flit_on (played (t + k + 1) (first_network inputs routing)).components.wires
     (wire_at inputs.chip.links link.0 k)) ≡ carries (run_of inputs) link.0 t) where
   sound : IsSound (run_of inputs)
   sound = is_sound inputs accepted spans
@@ -110,45 +111,45 @@ module _ (inputs : Inputs) (accepted : AreAccepted inputs) (spans : AreSpans inp
   empty-of : (t : ℕ) → t < inputs.cycles
       → ((link : LinkId) (j u : ℕ) → j < delay_of inputs.chip.links link → u + j + 1 ≡ t
       → carries (run_of inputs) link.0 u ≡ [])
-      → (l : ℕ) → flit_on (played t (first_network inputs)).components.wires l ≡ None
-  empty-of zero early none l = nothing-first inputs running l
+      → (l : ℕ) → flit_on (played t (first_network inputs routing)).components.wires l ≡ None
+  empty-of zero early none l = nothing-first inputs routing running l
   empty-of (suc t) early none l =
       let next : suc t ≡ t + 1 = omega arith in
-      ap (λ n. flit_on (played n (first_network inputs)).components.wires l) next
-      ∙ no-flits inputs behind t (omega arith) (exact inputs running t (omega arith))
+      ap (λ n. flit_on (played n (first_network inputs routing)).components.wires l) next
+      ∙ no-flits inputs routing behind t (omega arith) (exact inputs routing running t (omega arith))
       (λ link j u short time. none link j u short (omega arith)) l
 
   before-of : (t : ℕ) → t < inputs.cycles
-      → ((l : ℕ) → flit_on (played t (first_network inputs)).components.wires l ≡ None)
+      → ((l : ℕ) → flit_on (played t (first_network inputs routing)).components.wires l ≡ None)
       → (link : LinkId) (j u : ℕ) → j < delay_of inputs.chip.links link → u + j + 1 ≡ t
       → carries (run_of inputs) link.0 u ≡ []
   before-of zero early none link j u short time = absurd (omega arith)
   before-of (suc t) early none link j u short time =
       let next : t + 1 ≡ suc t = omega arith in
-      no-carries inputs behind t (omega arith)
-      (λ l. ap (λ n. flit_on (played n (first_network inputs)).components.wires l) next ∙ none l)
+      no-carries inputs routing behind t (omega arith)
+      (λ l. ap (λ n. flit_on (played n (first_network inputs routing)).components.wires l) next ∙ none l)
       link j u short (omega arith)
 
   module _ (t : ℕ) (early : t < inputs.cycles) where
     abbrev all : NetworkState
-    all = played t (first_network inputs)
+    all = played t (first_network inputs routing)
 
     next-wires : (l : ℕ) → flit_on (stepped all).components.wires l
-        ≡ flit_on (played (t + 1) (first_network inputs)).components.wires l
+        ≡ flit_on (played (t + 1) (first_network inputs routing)).components.wires l
     next-wires l = ap (λ (one : NetworkState). flit_on one.components.wires l)
-        (sym (played-next (first_network inputs) t))
+        (sym (played-next (first_network inputs routing) t))
 
     -- An idle cycle leaves the network.
-    pub still-of : IsIdle (run_of inputs) t → IsStill (played t (first_network inputs))
+    pub still-of : IsIdle (run_of inputs) t → IsStill (played t (first_network inputs routing))
     still-of idle =
-        let stimuli = played-stimuli inputs t in
-        let time = played-time inputs t in
+        let stimuli = played-stimuli inputs routing t in
+        let time = played-time inputs routing t in
         let serves = serving t early in
         let none = idle.unswitched in
         record {
           empty = empty-of t early idle.before;
           silent = λ l. next-wires l
-              ∙ no-flits inputs behind t early (exact inputs running t early) idle.now l;
+              ∙ no-flits inputs routing behind t early (exact inputs routing running t early) idle.now l;
           unoffered = (λ i. offers_in (stimuli i) (time i)) ∙ no-offers inputs t early idle.unoffered;
           ungone = λ late. (λ i. goings_in (stimuli i) (time i))
               ∙ no-goings inputs t none (omega arith);
@@ -165,13 +166,13 @@ module _ (inputs : Inputs) (accepted : AreAccepted inputs) (spans : AreSpans inp
         }
 
     -- And only such a one does.
-    pub idle-of : IsStill (played t (first_network inputs)) → IsIdle (run_of inputs) t
+    pub idle-of : IsStill (played t (first_network inputs routing)) → IsIdle (run_of inputs) t
     idle-of still =
-        let stimuli = played-stimuli inputs t in
-        let time = played-time inputs t in
+        let stimuli = played-stimuli inputs routing t in
+        let time = played-time inputs routing t in
         let serves = serving t early in
         record {
-          now = no-carries inputs behind t early (λ l. sym (next-wires l) ∙ still.silent l);
+          now = no-carries inputs routing behind t early (λ l. sym (next-wires l) ∙ still.silent l);
           before = before-of t early still.empty;
           unoffered = no-words inputs t early
               ((λ i. offers_in (sym stimuli i) (sym time i)) ∙ still.unoffered);

@@ -15,8 +15,9 @@ use Rattle.aeth_fabric.specs.Fabric.{fabric_of}
 use Rattle.aeth_fabric.proofs.PathWires.{wires-place}
 use Rattle.aeth_running.proofs.NetworkWires.{nothing-listed}
 use Rattle.aeth_running.specs.Network.{first_network, played}
+use Rattle.aeth_running.specs.Routing.{Routing}
 
-module _ (inputs : Inputs) where
+module _ (inputs : Inputs) (routing : Routing) where
   -- A wire is that of a link on which a flit is that entered it so many cycles before.
   record IsOnLink (t l : ℕ) : Type 0 where
     link : LinkId
@@ -46,16 +47,16 @@ module _ (inputs : Inputs) where
 
   module _ (behind : (link : LinkId) (k : ℕ) → k < delay_of inputs.chip.links link → (t : ℕ)
       → t + k < inputs.cycles
-      → option_to_list (flit_on (played (t + k + 1) (first_network inputs)).components.wires
+      → option_to_list (flit_on (played (t + k + 1) (first_network inputs routing)).components.wires
       (wire_at inputs.chip.links link.0 k)) ≡ carries (run_of inputs) link.0 t) where
     -- Where no link has a flit on its way the wires have none.
     pub no-flits : (t : ℕ) → t < inputs.cycles
-        → Exact (fabric_of inputs) t (flit_on (played (t + 1) (first_network inputs)).components.wires)
+        → Exact (fabric_of inputs) t (flit_on (played (t + 1) (first_network inputs routing)).components.wires)
         → ((link : LinkId) (j u : ℕ) → j < delay_of inputs.chip.links link → u + j ≡ t
         → carries (run_of inputs) link.0 u ≡ [])
-        → (l : ℕ) → flit_on (played (t + 1) (first_network inputs)).components.wires l ≡ None
+        → (l : ℕ) → flit_on (played (t + 1) (first_network inputs routing)).components.wires l ≡ None
     no-flits t early exact none l =
-        let wires = flit_on (played (t + 1) (first_network inputs)).components.wires in
+        let wires = flit_on (played (t + 1) (first_network inputs routing)).components.wires in
         let cases : (flit : Option Flit) → wires l ≡ flit → flit ≡ None = elim [
           | None ↦ λ is. refl
           | Some flit ↦ λ is.
@@ -63,7 +64,7 @@ module _ (inputs : Inputs) where
               let time = on.time in
               let next : on.cycle + on.inner + 1 ≡ t + 1 = omega arith in
               let listed : option_to_list (wires l) ≡ [] =
-              (λ i. option_to_list (flit_on (played (sym next i) (first_network inputs)).components.wires
+              (λ i. option_to_list (flit_on (played (sym next i) (first_network inputs routing)).components.wires
               (sym on.is i))) ∙ behind on.link on.inner on.short on.cycle (omega arith)
               ∙ none on.link on.inner on.cycle on.short time in
               sym is ∙ nothing-listed (wires l) listed
@@ -72,12 +73,12 @@ module _ (inputs : Inputs) where
 
     -- And where the wires have none, no link has.
     pub no-carries : (t : ℕ) → t < inputs.cycles
-        → ((l : ℕ) → flit_on (played (t + 1) (first_network inputs)).components.wires l ≡ None)
+        → ((l : ℕ) → flit_on (played (t + 1) (first_network inputs routing)).components.wires l ≡ None)
         → (link : LinkId) (j u : ℕ) → j < delay_of inputs.chip.links link → u + j ≡ t
         → carries (run_of inputs) link.0 u ≡ []
     no-carries t early none link j u short time =
         let next : u + j + 1 ≡ t + 1 = omega arith in
         sym (behind link j short u (omega arith))
-        ∙ (λ i. option_to_list (flit_on (played (next i) (first_network inputs)).components.wires
+        ∙ (λ i. option_to_list (flit_on (played (next i) (first_network inputs routing)).components.wires
         (wire_at inputs.chip.links link.0 j)))
         ∙ ap option_to_list (none (wire_at inputs.chip.links link.0 j))

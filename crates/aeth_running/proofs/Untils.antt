@@ -28,6 +28,7 @@ use Rattle.aeth_base.proofs.Filters.{filter-swap}
 use Rattle.aeth_running.proofs.InOrder.{below, below-next, below-wider, none-below}
 use Rattle.aeth_running.proofs.Played.{untils-first, untils-next}
 use Rattle.aeth_running.proofs.Replaced.{go_of}
+use Rattle.aeth_running.specs.Routing.{Routing}
 
 -- The last of what is shown.
 last-shown : {X Y : Type 0} (show : X → Y) (go until : Y → ℕ) (t before : ℕ) (xs : List X)
@@ -38,7 +39,7 @@ last-shown {X} {Y} show go until t before xs =
     ap (λ (ys : List Y). fold (λ (last : ℕ) y. until y) before ys) (filter-map gone show xs)
     ∙ fold-map (λ (last : ℕ) y. until y) show before (filter (λ x. gone (show x)) xs)
 
-module _ (inputs : Inputs) (ordered : IsNonDecreasingBy (λ going. going.lane.go) (goings_of inputs))
+module _ (inputs : Inputs) (routing : Routing) (ordered : IsNonDecreasingBy (λ going. going.lane.go) (goings_of inputs))
   where
     abbrev zeros : List ℕ
     zeros = replicate (2 * length inputs.app.connections) 0
@@ -47,17 +48,17 @@ module _ (inputs : Inputs) (ordered : IsNonDecreasingBy (λ going. going.lane.go
     gone_by t = filter (below go_of t) (goings_of inputs)
 
     -- Until when channels accept words, by the sessions that went before a cycle.
-    untils-are : (t : ℕ) → (played t (first_network inputs)).untils
+    untils-are : (t : ℕ) → (played t (first_network inputs routing)).untils
         ≡ fold until_with zeros (gone_by t)
     untils-are zero =
-        untils-first inputs
+        untils-first inputs routing
         ∙ ap (λ (list : List Going). fold until_with zeros list)
         (sym (none-below go_of 0 (goings_of inputs) (λ k d within. omega arith)))
     untils-are (suc t) =
         let next : suc t ≡ t + 1 = omega arith in
         let here = filter (λ (going : Going). going.lane.go == t) (goings_of inputs) in
-        ap (λ n. (played n (first_network inputs)).untils) next
-        ∙ untils-next inputs t
+        ap (λ n. (played n (first_network inputs routing)).untils) next
+        ∙ untils-next inputs routing t
         ∙ ap (λ (list : List ℕ). fold until_with list here) (untils-are t)
         ∙ sym (fold-append until_with zeros (gone_by t) here)
         ∙ ap (λ (list : List Going). fold until_with zeros list)
@@ -82,7 +83,7 @@ module _ (inputs : Inputs) (ordered : IsNonDecreasingBy (λ going. going.lane.go
       -- Until when the channel accepts words in a cycle.
       abbrev pub until_at : ℕ → ℕ
       until_at t = slice_index
-          (untils_in (stimuli_of inputs) t (played t (first_network inputs)).untils)
+          (untils_in (stimuli_of inputs) t (played t (first_network inputs routing)).untils)
           (channel_number channel)
 
       until-is : (t : ℕ) → t < inputs.cycles
@@ -95,7 +96,7 @@ module _ (inputs : Inputs) (ordered : IsNonDecreasingBy (λ going. going.lane.go
           let until = λ (going : Going). going.until in
           let next = t + 1 in
           ap (λ (list : List ℕ). slice_index list number)
-          (sym (untils-next inputs t) ∙ untils-are next)
+          (sym (untils-next inputs routing t) ∙ untils-are next)
           ∙ written-last (λ (going : Going). channel_number going.channel) until number zeros
           (gone_by next) (omega arith)
           ∙ ap (λ start. fold (λ (last : ℕ) going. until going) start

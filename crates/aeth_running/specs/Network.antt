@@ -20,16 +20,19 @@ use Rattle.aeth_components.specs.declared.event.Event.{Event}
 use Rattle.aeth_components.specs.declared.lane.Lane.{Lane}
 use Rattle.aeth_accepted.specs.Inputs.{Inputs}
 use Rattle.aeth_schedule.specs.declared.going.Going.{Going}
-use Rattle.aeth_stimuli.specs.Loaded.{loaded_components, no_lane}
+use Rattle.aeth_stimuli.specs.Loaded.{loaded_as, no_lane}
 use Rattle.aeth_stimuli.specs.Stimuli.{Offer, Stimuli, Take, stimuli_of}
 use Rattle.aeth_events.specs.Events.{events_in}
 use Rattle.aeth_running.specs.FirstLog.{first_log}
+use Rattle.aeth_running.specs.Routing.{Routing, entered_first, entered_with, enterings_in, kind_of}
 
--- A network: what it is given; its components; for each channel until when the session that went last
--- accepts words, and how many words were offered outside of all sessions; for each session that has
--- gone how its channel stood before; the log, of which nothing has landed; and the cycles done.
+-- A network: what it is given, and by what its routers send on; its components; for each channel until
+-- when the session that went last accepts words, and how many words were offered outside of all
+-- sessions; for each session that has gone how its channel stood before; the log, of which nothing has
+-- landed; and the cycles done.
 pub record NetworkState : Type 0 where
   pub stimuli : Stimuli
+  pub routing : Routing
   pub components : ComponentsState
   pub untils : List ℕ
   pub outside : List ℕ
@@ -99,9 +102,11 @@ module _ (all : Stimuli) (t : ℕ) where
   abbrev pub outside_in : List ℕ → List ℕ → List ℕ
   outside_in untils outside = fold (outside_with t untils) outside (offers_in all t)
 
--- The components, once they are given what a cycle brings but for its events.
+-- The components, once they are given what a cycle brings but for its events: tables have the rows that
+-- enter, and channels what is for them.
 abbrev pub ready_in : NetworkState → ComponentsState
 ready_in old = record old.components {
+  parts = fold entered_with old.components.parts (enterings_in old.routing old.time);
   lanes = lanes_in old.stimuli old.time (untils_in old.stimuli old.time old.untils)
       old.components.lanes;
 }
@@ -125,11 +130,18 @@ unfoldable pub played : ℕ → NetworkState → NetworkState
 played zero all = all
 played (suc cycles) all = stepped (played cycles all)
 
--- The network of inputs before the first cycle.
-unfoldable pub first_network : Inputs → NetworkState
-first_network inputs = record {
+-- The components of inputs before the first cycle, with the first rows in the tables of their routers.
+abbrev pub routed_components : Inputs → Routing → ComponentsState
+routed_components inputs routing =
+    let loaded = loaded_as (kind_of routing) inputs in
+    record loaded { parts = entered_first routing loaded.parts }
+
+-- The network of inputs before the first cycle, whose routers send on so.
+unfoldable pub first_network : Inputs → Routing → NetworkState
+first_network inputs routing = record {
   stimuli = stimuli_of inputs;
-  components = loaded_components inputs;
+  routing = routing;
+  components = routed_components inputs routing;
   untils = replicate (2 * length inputs.app.connections) 0;
   outside = replicate (2 * length inputs.app.connections) 0;
   replaced = [];

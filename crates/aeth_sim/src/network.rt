@@ -6,6 +6,7 @@ ghost use Rattle.aeth_components.specs.Turns.{flits_on};
 ghost use Rattle.aeth_report.specs.RunLog.{log_of};
 ghost use Rattle.aeth_accepted.specs.Inputs.{AreAccepted, Inputs, run_of};
 ghost use Rattle.aeth_running.specs.Network.{first_network, played, stepped};
+ghost use Rattle.aeth_running.specs.Routing.{ByHeaders};
 ghost use Rattle.aeth_running.specs.Quiet.{AreStill, IsNextBusy};
 ghost use Rattle.aeth_running.specs.Told.{told};
 ghost use Rattle.aeth_network.specs.Carried.{carried_in};
@@ -74,7 +75,7 @@ impl Network {
           pulls = receivers.now;
           switches = switches.now;
           cycles = cycles;
-        })) }
+        }) ByHeaders) }
         ensures run { IfOk result (IsNetworkOf (record {
           chip = chip.now;
           app = app.now;

@@ -1,4 +1,6 @@
 use Rattle.std.proofs.Common.{◌≡◌, ◌+◌, ◌++◌, ◌%◌, ◌∙◌, List, ap, arith, length, refl, subst, sym}
+use Rattle.aeth_running.proofs.RouterTables.{headers-route}
+use Rattle.aeth_running.specs.Routing.{ByHeaders}
 use Rattle.std.proofs.lemmas.List.FromFn.{length-map-range_with_len}
 use Rattle.std.specs.List.{join_with_byte}
 use Rattle.aeth_text.specs.Limits.{comma}
@@ -52,7 +54,7 @@ push_rows-requires c =
     let before = c.loop-cycle.invariant.network in
     let network = c.cycle.ensures.run inputs before in
     let enough = wires-enough inputs c.cycle.new.self network
-    (c.networks_run.ensures inputs before.accepted) in
+    (c.networks_run.ensures inputs before.accepted c.cycle.new.self.routing network.routed) in
     let links = c.links-links.ensures.links in
     let chip = ap (λ (chip : ChipData). length chip.links) c.chip.ensures in
     let wires = ap length c.wires.ensures.wires in

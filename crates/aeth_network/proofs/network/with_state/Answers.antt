@@ -3,7 +3,7 @@ use Rattle.std.specs.Prelude.{vec_capacity}
 use Rattle.aeth_stimuli.specs.Stimuli.{Stimuli}
 use Rattle.aeth_running.specs.FirstLog.{first_log}
 use Rattle.aeth_running.specs.Network.{first_network}
-use Rattle.aeth_network.specs.Cursors.{stimuli_with}
+use Rattle.aeth_network.specs.Cursors.{routing_with, stimuli_with}
 use Rattle.aeth_network.specs.Networks.{IsNetwork, network_of}
 use Rattle.aeth_network.proofs.FirstGoings.{fresh-goings}
 use Rattle.aeth_network.proofs.FirstNetwork.{AreCursors-first, IsNetwork-first, first-from}
@@ -31,10 +31,11 @@ log-is c =
     ) refl
 
 -- The network is the first.
-same : (c : goal.In_ok-log) → network_of (stimuli_with c.args.given) c.args.state c.in_ok-log.log 0
-    ≡ first_network c.args.inputs.now
+same : (c : goal.In_ok-log) → network_of (stimuli_with c.args.given) (routing_with c.args.given)
+    c.args.state c.in_ok-log.log 0
+    ≡ first_network c.args.inputs.now (routing_with c.args.given)
 same c =
-    first-from c.args.inputs.now (stimuli_with c.args.given) c.args.state c.in_ok-log.log
+    first-from c.args.inputs.now (stimuli_with c.args.given) (routing_with c.args.given) c.args.state c.in_ok-log.log
     c.requires.given c.requires.state (log-is c)
 
 -- What holds of networks holds of it.
@@ -44,9 +45,9 @@ invariant_of-result c =
     let accepted = c.are_accepted.ensures in
     let capacity = vec_capacity c.args.state.replaced in (
       subst (IsNetwork capacity) (sym (same c)) (IsNetwork-first inputs accepted
-          (c.stimuli_are_stimuli.ensures inputs accepted) capacity c.requires.state.capacity),
-      AreCursors-first _ _ refl refl refl refl refl,
-      record { inputs = inputs; of = first-of inputs accepted _ (same c) },
+          (routing_with c.args.given) c.requires.routed (c.stimuli_are_stimuli.ensures inputs accepted) capacity c.requires.state.capacity),
+      AreCursors-first _ _ _ refl refl refl refl refl refl,
+      record { inputs = inputs; of = first-of inputs accepted _ c.requires.routed _ (same c) },
     )
 
 -- It is the first.

@@ -6,30 +6,30 @@ use Rattle.aeth_running.proofs.laws.networks_carry.Goals as goal
 
 -- Its wires have what the fabric of its run carries.
 pub returns-clause-first : goal.returns-clause-first
-returns-clause-first c = λ inputs accepted l t early known.
-    carried inputs
-    (c.networks_run.ensures inputs accepted)
+returns-clause-first c = λ inputs accepted routing routes l t early known.
+    carried inputs routing
+    (c.networks_run.ensures inputs accepted routing routes)
     (c.wires_carry.ensures (fabric_of inputs) (c.runs_have_fabrics.ensures inputs accepted)) l t early
     ∙ c.fabrics_carry.ensures.first inputs accepted l t known
 
 pub returns-clause-behind : goal.returns-clause-behind
-returns-clause-behind c = λ inputs accepted link k within t early.
-    carried inputs
-    (c.networks_run.ensures inputs accepted)
+returns-clause-behind c = λ inputs accepted routing routes link k within t early.
+    carried inputs routing
+    (c.networks_run.ensures inputs accepted routing routes)
     (c.wires_carry.ensures (fabric_of inputs) (c.runs_have_fabrics.ensures inputs accepted))
     (wire_at inputs.chip.links link.0 k) (t + k) early
     ∙ c.fabrics_carry.ensures.behind inputs accepted link k within t
 
 pub returns-clause-early : goal.returns-clause-early
-returns-clause-early c = λ inputs accepted link k within t soon early.
+returns-clause-early c = λ inputs accepted routing routes link k within t soon early.
     nothing-listed _
-    (carried inputs
-    (c.networks_run.ensures inputs accepted)
+    (carried inputs routing
+    (c.networks_run.ensures inputs accepted routing routes)
     (c.wires_carry.ensures (fabric_of inputs) (c.runs_have_fabrics.ensures inputs accepted))
     (wire_at inputs.chip.links link.0 k) t early
     ∙ c.fabrics_carry.ensures.early inputs accepted link k within t soon)
 
 pub returns-clause-empty : goal.returns-clause-empty
-returns-clause-empty c = λ inputs accepted l.
-    nothing-first inputs
-    (c.networks_run.ensures inputs accepted) l
+returns-clause-empty c = λ inputs accepted routing routes l.
+    nothing-first inputs routing
+    (c.networks_run.ensures inputs accepted routing routes) l

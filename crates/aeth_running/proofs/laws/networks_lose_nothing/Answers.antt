@@ -4,24 +4,24 @@ use Rattle.aeth_running.proofs.laws.networks_lose_nothing.Goals as goal
 
 -- Its wires are exact, and its components stand as the private servers say.
 pub returns-clause-passed : goal.returns-clause-passed
-returns-clause-passed c = λ inputs accepted t early.
+returns-clause-passed c = λ inputs accepted routing routes t early.
     c.no_flit_is_lost.ensures.passed (fabric_of inputs) (c.runs_have_fabrics.ensures inputs accepted) t _
-    (exact inputs
-    (c.networks_run.ensures inputs accepted) t early)
+    (exact inputs routing
+    (c.networks_run.ensures inputs accepted routing routes) t early)
 
 pub returns-clause-read : goal.returns-clause-read
-returns-clause-read c = λ inputs accepted t early.
+returns-clause-read c = λ inputs accepted routing routes t early.
     c.no_flit_is_lost.ensures.read (fabric_of inputs) (c.runs_have_fabrics.ensures inputs accepted) t _
-    (exact inputs
-    (c.networks_run.ensures inputs accepted) t early)
+    (exact inputs routing
+    (c.networks_run.ensures inputs accepted routing routes) t early)
 
 pub returns-clause-room : goal.returns-clause-room
-returns-clause-room c = λ inputs accepted t within.
+returns-clause-room c = λ inputs accepted routing routes t within.
     c.queues_fit.ensures.buffer (fabric_of inputs) (c.runs_have_fabrics.ensures inputs accepted) t _
-    (standing inputs
-    (c.networks_run.ensures inputs accepted) t within)
+    (standing inputs routing
+    (c.networks_run.ensures inputs accepted routing routes) t within)
 
 pub returns-clause-kept : goal.returns-clause-kept
-returns-clause-kept c = λ inputs accepted t within.
-    received inputs
-    (c.networks_run.ensures inputs accepted) t within
+returns-clause-kept c = λ inputs accepted routing routes t within.
+    received inputs routing
+    (c.networks_run.ensures inputs accepted routing routes) t within

@@ -1,25 +1,27 @@
 use Rattle.aeth_running.proofs.RestedNetworks.{components-rest, passes-over}
 use Rattle.aeth_running.proofs.RestingNetworks.{hands-rest}
+use Rattle.aeth_running.proofs.StillTables.{no-enterings}
 use Rattle.aeth_running.proofs.laws.still_cycles_rest.Goals as goal
 
 -- Refilling hands nothing on, no component sends, and no receiver takes.
 pub returns-clause-components : goal.returns-clause-components
-returns-clause-components c = λ inputs accepted t early still.
-    let idle = (c.idle_cycles_are_still.ensures inputs accepted t early).0 still in
-    let serving = c.networks_serve.ensures inputs accepted in
-    components-rest inputs t (serving t early) still
-    (hands-rest inputs (c.runs_have_fabrics.ensures inputs accepted)
+returns-clause-components c = λ inputs accepted routing routes t early still.
+    let idle = (c.idle_cycles_are_still.ensures inputs accepted routing routes t early).0 still in
+    let serving = c.networks_serve.ensures inputs accepted routing routes in
+    components-rest inputs routing t (serving t early) still
+    (hands-rest inputs routing (c.runs_have_fabrics.ensures inputs accepted)
     c.cycles_are_cycles.ensures.follows c.switches_are_made.ensures
-    (c.events_are_events.ensures.cycles inputs accepted) (c.networks_run.ensures inputs accepted)
+    (c.events_are_events.ensures.cycles inputs accepted) (c.networks_run.ensures inputs accepted routing routes)
     serving t early still.empty idle.unoffered)
 
 -- Nor does a session go, and no word is offered.
 pub returns-clause-later : goal.returns-clause-later
-returns-clause-later c = λ inputs accepted t early late still.
-    let idle = (c.idle_cycles_are_still.ensures inputs accepted t early).0 still in
-    let serving = c.networks_serve.ensures inputs accepted in
-    passes-over inputs t (serving t early) still
-    (hands-rest inputs (c.runs_have_fabrics.ensures inputs accepted)
+returns-clause-later c = λ inputs accepted routing routes t early late still.
+    let idle = (c.idle_cycles_are_still.ensures inputs accepted routing routes t early).0 still in
+    let serving = c.networks_serve.ensures inputs accepted routing routes in
+    passes-over inputs routing t (serving t early) still
+    (hands-rest inputs routing (c.runs_have_fabrics.ensures inputs accepted)
     c.cycles_are_cycles.ensures.follows c.switches_are_made.ensures
-    (c.events_are_events.ensures.cycles inputs accepted) (c.networks_run.ensures inputs accepted)
-    serving t early still.empty idle.unoffered) late
+    (c.events_are_events.ensures.cycles inputs accepted) (c.networks_run.ensures inputs accepted routing routes)
+    serving t early still.empty idle.unoffered)
+    (no-enterings inputs routing routes t idle.unswitched) late

@@ -43,6 +43,10 @@ returns-clause-takes c =
     c.deref-2.result.now c.deref-4.result.now c.args.from.take c.behind-take.result
     c.deref-2.ensures.value c.deref-4.ensures.value c.behind-take.ensures
 
+-- So are the rows that enter tables.
+pub returns-clause-entering : goal.returns-clause-entering
+returns-clause-entering c = c.behind_entering-entering.ensures
+
 -- The places are those of the next cycle.
 pub returns-clause-behind : goal.returns-clause-behind
 returns-clause-behind c =
@@ -58,4 +62,5 @@ returns-clause-behind c =
           ∙ ap (passed (λ (one : Take). one.cycle) next) c.deref-2.ensures.value;
       window_is = subst (AreOver c.place_behind-window.result next) c.windows.ensures
           c.place_behind-window.ensures;
+      entering_is = c.behind_entering-entering.ensures.place;
     }

@@ -2,7 +2,7 @@ use Rattle.std.proofs.Common.{◌<◌, ◌∙◌, ap, arith, length, subst, sym}
 use Rattle.aeth_components.specs.Components.{ComponentsState}
 use Rattle.aeth_running.specs.Network.{NetworkState, stepped}
 use Rattle.aeth_running.specs.Still.{IsStill}
-use Rattle.aeth_network.specs.Cursors.{stimuli_with}
+use Rattle.aeth_network.specs.Cursors.{routing_with, stimuli_with}
 use Rattle.aeth_network.proofs.Cycling.{can-bring, in-order}
 use Rattle.aeth_network.proofs.Skipped.{brought-is, brought-network, brought-of}
 use Rattle.aeth_network.proofs.network.RoutedNetwork.begin.Goals as goal
@@ -20,7 +20,7 @@ pub bring-requires : goal.bring-requires
 bring-requires c =
     let inside = c.self.inside in
     let rows = c.rows-rows.ensures in
-    can-bring (stimuli_with inside.given) inside.state inside.log inside.time c.self.invariant.0
+    can-bring (stimuli_with inside.given) (routing_with inside.given) inside.state inside.log inside.time c.self.invariant.0
     c.rows-rows.result rows.goings rows.offers rows.takes
 
 -- What is brought is all that the cycle does.
@@ -31,8 +31,10 @@ returns-clause-steps c =
     let has = c.self.invariant.2 in
     let start = c.requires.time in
     let some = c.requires.some in
-    brought-is has.inputs (stimuli_with inside.given) inside.state inside.log inside.time
-    c.self.invariant.0 has.of (c.networks_rest.ensures.one has.inputs has.of.accepted)
+    brought-is has.inputs (stimuli_with inside.given) (routing_with inside.given) inside.state inside.log
+    inside.time
+    c.self.invariant.0 has.of
+    (c.networks_rest.ensures.one has.inputs has.of.accepted (routing_with inside.given) has.of.routed)
     (subst IsStill (sym c.self.view_is) c.requires.still)
     (subst (λ (all : NetworkState). all.time < all.log.cycles) (sym c.self.view_is) (omega arith))
     c.rows-rows.result rows.goings rows.offers rows.takes c.bring.new.self c.bring.ensures rows.events
@@ -59,18 +61,20 @@ invariant_of-self c =
     let start = c.requires.time in
     let some = c.requires.some in
     let still = subst IsStill (sym c.self.view_is) c.requires.still in
+    let one = c.networks_rest.ensures.one has.inputs has.of.accepted (routing_with inside.given)
+    has.of.routed in
     let early : inside.time < inside.log.cycles =
     subst (λ (all : NetworkState). all.time < all.log.cycles) (sym c.self.view_is) (omega arith) in (
-      brought-network has.inputs (stimuli_with inside.given) inside.state inside.log inside.time
-          c.self.invariant.0 has.of (c.networks_rest.ensures.one has.inputs has.of.accepted) still early
+      brought-network has.inputs (stimuli_with inside.given) (routing_with inside.given) inside.state
+          inside.log inside.time c.self.invariant.0 has.of one still early
           c.rows-rows.result rows.goings rows.offers rows.takes c.bring.new.self c.bring.ensures
           rows.events,
       rows.behind,
       record {
         inputs = has.inputs;
-        of = brought-of has.inputs (stimuli_with inside.given) inside.state inside.log inside.time
-            c.self.invariant.0 has.of (c.networks_rest.ensures.one has.inputs has.of.accepted) still
-            early c.rows-rows.result rows.goings rows.offers rows.takes c.bring.new.self
+        of = brought-of has.inputs (stimuli_with inside.given) (routing_with inside.given) inside.state
+            inside.log inside.time c.self.invariant.0 has.of one still early
+            c.rows-rows.result rows.goings rows.offers rows.takes c.bring.new.self
             c.bring.ensures rows.events;
       },
     )

@@ -1,7 +1,7 @@
 use Rattle.std.proofs.Common.{◌≡◌, ◌∙◌, ap, arith, length}
 use Rattle.aeth_schedule.specs.declared.going.Going.{Going}
 use Rattle.aeth_running.specs.Told.{told}
-use Rattle.aeth_network.specs.Cursors.{stimuli_with}
+use Rattle.aeth_network.specs.Cursors.{routing_with, stimuli_with}
 use Rattle.aeth_network.specs.Networks.{network_of}
 use Rattle.aeth_network.specs.Telling.{channels_by}
 use Rattle.aeth_network.proofs.Passed.{passed-few}
@@ -41,10 +41,11 @@ returns-clause-told c =
       flits = state.components.flits;
     } =
     rw (← c.goings.ensures, ← c.deref-2.ensures.value, ← c.deref.ensures.value) c.tell.ensures in
-    same ∙ told-by (network_of (stimuli_with inside.given) state inside.log inside.time) ∙ ap told c.self.view_is
+    same ∙ told-by (network_of (stimuli_with inside.given) (routing_with inside.given) state inside.log
+    inside.time) ∙ ap told c.self.view_is
 
 -- It is that of the run of accepted inputs.
 pub returns-clause-run : goal.returns-clause-run
 returns-clause-run c = λ inputs is done.
     returns-clause-told c ∙ log-of inputs c.args.self is done
-    ∙ c.networks_log.ensures inputs is.accepted
+    ∙ c.networks_log.ensures inputs is.accepted c.args.self.routing is.routed

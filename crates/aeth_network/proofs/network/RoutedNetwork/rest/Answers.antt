@@ -7,7 +7,7 @@ use Rattle.aeth_running.specs.Network.{NetworkState, played}
 use Rattle.aeth_running.specs.Quiet.{AreStill}
 use Rattle.aeth_stimuli.specs.Stimuli.{Take}
 use Rattle.aeth_network.specs.Behind.{passed}
-use Rattle.aeth_network.specs.Cursors.{stimuli_with}
+use Rattle.aeth_network.specs.Cursors.{routing_with, stimuli_with}
 use Rattle.aeth_network.specs.Networks.{IsNetwork, network_of}
 use Rattle.aeth_network.specs.Runs.{IsNetworkOf}
 use Rattle.aeth_network.proofs.Cycling.{in-order}
@@ -59,11 +59,12 @@ returns-clause-played c =
     let inside = c.self.inside in
     let has = c.self.invariant.2 in
     let to = c.args.to in
-    let all = network_of (stimuli_with inside.given) inside.state inside.log inside.time in
+    let all = network_of (stimuli_with inside.given) (routing_with inside.given) inside.state inside.log
+    inside.time in
     let last = c.place_before-last.ensures.place
     ∙ ap (passed (λ (one : Take). one.cycle) to) c.deref.ensures.value in
     rests-behind has.inputs (vec_capacity inside.state.replaced) all c.self.invariant.0 has.of
-    (c.networks_rest.ensures.later has.inputs has.of.accepted) to
+    (c.networks_rest.ensures.later has.inputs has.of.accepted all.routing has.of.routed) to
     (subst (λ (one : NetworkState). one.time ≤ to) (sym c.self.view_is) c.requires.from)
     (subst (λ (one : NetworkState). to ≤ one.log.cycles) (sym c.self.view_is) c.requires.to)
     (subst (λ (one : NetworkState). 0 < to → 0 < one.time) (sym c.self.view_is) c.requires.late)
@@ -92,8 +93,9 @@ invariant_of-self c =
     let has = c.self.invariant.2 in
     let to = c.args.to in
     let capacity = vec_capacity inside.state.replaced in
-    let all = network_of (stimuli_with inside.given) inside.state inside.log inside.time in
-    let later = c.networks_rest.ensures.later has.inputs has.of.accepted in
+    let all = network_of (stimuli_with inside.given) (routing_with inside.given) inside.state inside.log
+    inside.time in
+    let later = c.networks_rest.ensures.later has.inputs has.of.accepted all.routing has.of.routed in
     let from : inside.time ≤ to =
     subst (λ (one : NetworkState). one.time ≤ to) (sym c.self.view_is) c.requires.from in
     let within : to ≤ inside.log.cycles =

@@ -8,14 +8,15 @@ pub returns-clause-run : goal.returns-clause-run
 returns-clause-run c = λ inputs is.
     let carry = c.networks_carry.ensures in
     let lose = c.networks_lose_nothing.ensures in
-    wires-of inputs
+    let all = c.args.self.now in
+    wires-of inputs all.routing
     (record {
-      first = carry.first inputs is.accepted;
-      behind = carry.behind inputs is.accepted;
-      early = carry.early inputs is.accepted;
-      empty = carry.empty inputs is.accepted;
-      passed = lose.passed inputs is.accepted;
-      read = lose.read inputs is.accepted;
+      first = carry.first inputs is.accepted all.routing is.routed;
+      behind = carry.behind inputs is.accepted all.routing is.routed;
+      early = carry.early inputs is.accepted all.routing is.routed;
+      empty = carry.empty inputs is.accepted all.routing is.routed;
+      passed = lose.passed inputs is.accepted all.routing is.routed;
+      read = lose.read inputs is.accepted all.routing is.routed;
     })
     c.wires.result.now c.args.self.now.time is.within
     (c.wires.ensures ∙ ap (λ (all : NetworkState). all.components.wires) (c.self.view_is ∙ is.is))

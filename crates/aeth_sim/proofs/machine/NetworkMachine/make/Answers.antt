@@ -1,8 +1,10 @@
 use Rattle.std.proofs.Common.{◌≡◌, ◌∙◌, ◌-◌, ◌<◌, length}
+use Rattle.aeth_running.proofs.RouterTables.{headers-route}
 use Rattle.std.proofs.lemmas.Result.{IfOk-weaker}
 use Rattle.aeth_accepted.specs.Inputs.{Inputs, run_of}
 use Rattle.aeth_report.specs.RunLog.{log_of}
 use Rattle.aeth_running.specs.Network.{NetworkState, first_network, played}
+use Rattle.aeth_running.specs.Routing.{ByHeaders}
 use Rattle.aeth_running.specs.Told.{told}
 use Rattle.aeth_network.proofs.Playing.{first-count, first-left, first-plays}
 use Rattle.aeth_sim.proofs.machine.NetworkMachine.make.Goals as goal
@@ -19,11 +21,11 @@ returns-clause-plays c =
       switches = c.args.switches.now;
       cycles = c.args.cycles;
     } in
-    IfOk-weaker c.new.result (λ (network : NetworkState). network ≡ first_network inputs)
+    IfOk-weaker c.new.result (λ (network : NetworkState). network ≡ first_network inputs ByHeaders)
     (λ (network : NetworkState). told (played (network.log.cycles - network.time) network)
     ≡ log_of (run_of inputs))
-    (λ network is. first-plays inputs network is
-    ∙ c.networks_log.ensures inputs c.requires.accepted) c.new.ensures.first
+    (λ network is. first-plays inputs ByHeaders network is
+    ∙ c.networks_log.ensures inputs c.requires.accepted ByHeaders (headers-route inputs)) c.new.ensures.first
 
 -- All cycles are left.
 pub returns-clause-left : goal.returns-clause-left
@@ -37,9 +39,9 @@ returns-clause-left c =
       switches = c.args.switches.now;
       cycles = c.args.cycles;
     } in
-    IfOk-weaker c.new.result (λ (network : NetworkState). network ≡ first_network inputs)
+    IfOk-weaker c.new.result (λ (network : NetworkState). network ≡ first_network inputs ByHeaders)
     (λ (network : NetworkState). network.log.cycles - network.time ≡ c.args.cycles)
-    (λ network is. first-left inputs network is) c.new.ensures.first
+    (λ network is. first-left inputs ByHeaders network is) c.new.ensures.first
 
 -- There are components.
 pub returns-clause-count : goal.returns-clause-count
@@ -53,6 +55,6 @@ returns-clause-count c =
       switches = c.args.switches.now;
       cycles = c.args.cycles;
     } in
-    IfOk-weaker c.new.result (λ (network : NetworkState). network ≡ first_network inputs)
+    IfOk-weaker c.new.result (λ (network : NetworkState). network ≡ first_network inputs ByHeaders)
     (λ (network : NetworkState). 0 < length network.components.parts)
-    (λ network is. first-count inputs c.requires.accepted network is) c.new.ensures.first
+    (λ network is. first-count inputs c.requires.accepted ByHeaders network is) c.new.ensures.first

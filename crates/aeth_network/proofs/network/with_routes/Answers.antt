@@ -1,0 +1,31 @@
+use Rattle.std.proofs.Common.{◌≡◌, ◌∙◌, ap, subst, sym}
+use Rattle.std.proofs.lemmas.Result.{IfOk-weaker}
+use Rattle.aeth_running.specs.Network.{NetworkState, first_network}
+use Rattle.aeth_running.specs.Routing.{IsRoutingFor}
+use Rattle.aeth_network.specs.Cursors.{routing_with}
+use Rattle.aeth_network.specs.Routes.{routing_in}
+use Rattle.aeth_network.specs.Runs.{IsNetworkOf}
+use Rattle.aeth_network.proofs.Playing.{first-of}
+use Rattle.aeth_network.proofs.network.with_routes.Goals as goal
+
+-- The tables are such as routers need.
+pub with_given-requires-clause-routed : goal.with_given-requires-clause-routed
+with_given-requires-clause-routed c =
+    subst (IsRoutingFor c.args.inputs.now) (sym c.in_ok-given.ensures.routing) c.requires
+
+-- It is the network of its inputs, before their first cycle.
+pub returns-clause-first : goal.returns-clause-first
+returns-clause-first c =
+    let inputs = c.args.inputs.now in
+    IfOk-weaker c.with_given.result
+    (λ (network : NetworkState). network ≡ first_network inputs (routing_with c.in_ok-given.given))
+    (λ (network : NetworkState). network ≡ first_network inputs (routing_in c.args.tables))
+    (λ network is. is ∙ ap (first_network inputs) c.in_ok-given.ensures.routing) c.with_given.ensures
+
+pub returns-clause-run : goal.returns-clause-run
+returns-clause-run c =
+    let inputs = c.args.inputs.now in
+    let routing = routing_in c.args.tables in
+    IfOk-weaker c.with_given.result
+    (λ (network : NetworkState). network ≡ first_network inputs routing) (IsNetworkOf inputs)
+    (first-of inputs c.are_accepted.ensures routing c.requires) (returns-clause-first c)

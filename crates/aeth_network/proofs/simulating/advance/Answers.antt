@@ -1,0 +1,53 @@
+use Rattle.std.proofs.Common.{◌∙◌, ap, arith, sym}
+use Rattle.aeth_running.specs.Network.{NetworkState}
+use Rattle.aeth_running.proofs.Played.{stepped-time}
+use Rattle.aeth_network.proofs.CarriedLemmas.{counts-on}
+use Rattle.aeth_network.proofs.Skipped.{played-behind, skipped-cycles, skipped-time}
+use Rattle.aeth_network.proofs.simulating.advance.Goals as goal
+
+-- The cycles before the next busy one leave the network.
+pub skip-requires-clause-from : goal.skip-requires-clause-from
+skip-requires-clause-from g c = c.requires.next.from
+
+pub skip-requires-clause-to : goal.skip-requires-clause-to
+skip-requires-clause-to g c = c.requires.next.to
+
+pub skip-requires-clause-still : goal.skip-requires-clause-still
+skip-requires-clause-still g c = c.requires.next.still
+
+-- The run has one more.
+pub cycle_counted-requires-clause-order : goal.cycle_counted-requires-clause-order
+cycle_counted-requires-clause-order g c = c.requires.order ∙ sym c.skip.ensures.parts
+
+pub cycle_counted-requires-clause-time : goal.cycle_counted-requires-clause-time
+cycle_counted-requires-clause-time g c =
+    let time = skipped-time c.args.network.now c.skip.new.self c.args.next c.requires.next.from
+    c.skip.ensures.played in
+    let cycles = skipped-cycles c.args.network.now c.skip.new.self _ c.skip.ensures.played in
+    let within = c.requires.within in
+    omega (arith, time, cycles, within)
+
+-- It is done.
+pub returns-clause-time : goal.returns-clause-time
+returns-clause-time g c =
+    let time = skipped-time c.args.network.now c.skip.new.self c.args.next c.requires.next.from
+    c.skip.ensures.played in
+    let more = ap (λ (all : NetworkState). all.time) c.cycle_counted.ensures.steps
+    ∙ stepped-time c.skip.new.self in
+    omega (arith, time, more)
+
+pub returns-clause-played : goal.returns-clause-played
+returns-clause-played g c =
+    played-behind c.args.network.now c.skip.new.self c.cycle_counted.new.self c.args.next
+    c.requires.next.from c.skip.ensures.played c.cycle_counted.ensures.steps
+
+-- No component comes or goes.
+pub returns-clause-parts : goal.returns-clause-parts
+returns-clause-parts g c = c.cycle_counted.ensures.parts ∙ c.skip.ensures.parts
+
+-- Cycles that are passed over cost nothing.
+pub returns-clause-counted : goal.returns-clause-counted
+returns-clause-counted g c =
+    counts-on c.args.network.now c.skip.new.self c.cycle_counted.new.self c.args.next
+    c.args.steps.now c.cycle_counted.new.steps c.requires.next.from (returns-clause-played g c)
+    c.skip.ensures.wires c.cycle_counted.ensures.counted
