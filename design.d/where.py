@@ -17,6 +17,7 @@ FILES = {
     "tables": ["chip", "app", "plan", "use"],
     "route-tables": ["chip", "app", "plan", "use"],
     "simulate": ["chip", "app", "plan", "words", "receivers", "switches"],
+    "simulate-tables": ["chip", "app", "plan", "words", "receivers", "switches"],
     "links": ["chip", "app", "plan", "words", "receivers", "switches"],
     "audit": ["chip", "app", "plan", "switches", "log"],
     "chain": ["chip", "app", "plan", "use", "chain", "words", "receivers"],

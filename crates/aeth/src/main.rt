@@ -3,8 +3,9 @@
 
 use aeth_cli::start;
 use aeth_sim::Network;
+use aeth_table_network::TableNetwork;
 use std::process::ExitCode;
 
 fn main(rt: HostRuntime) -> ExitCode {
-    start::<Network, _>(&rt, rt.stdout(), rt.stderr())
+    start::<Network, TableNetwork, _>(&rt, rt.stdout(), rt.stderr())
 }

@@ -1,203 +1,88 @@
--- The words of a command that simulates name a number of cycles within the limit.
-use Rattle.std.proofs.Common.{◌≡◌, ◌≤◌, ℕ, Bool, true, false, List, [], ◌∷◌, Option, Some, None, refl, subst}
-use Rattle.std.proofs.Common.{if◌then◌else◌}
-use Rattle.std.specs.Prelude.{⊤, codes}
-use Rattle.std.specs.Option.{option_and_then}
-use Rattle.std.specs.Str.{bytes_eq}
-use Rattle.aeth_base.specs.Limits.{max_cycles, max_path_delay, max_slots, min_path_links}
-use Rattle.aeth_base.specs.Name.{name_of}
-use Rattle.aeth_answers.specs.Words.{file_name_of, number_within, slot_set_of}
-use Rattle.aeth_chain_items.specs.ItemNames.{item_names_of}
-use Rattle.aeth_demo.specs.Limits.{max_demo_number}
-use Rattle.aeth_answers.proofs.Reading.{number_within-bounds}
+-- Laws of the commands that words are.
+use Rattle.std.proofs.Common.{◌≡◌, ◌≤◌, ℕ, List, [], ◌∷◌, Option, Some, None, Result, subst, sym}
+use Rattle.std.specs.Prelude.{⊤}
+use Rattle.std.specs.Option.{option_map, option_or}
+use Rattle.aeth_answers.specs.Job.{Job}
+use Rattle.aeth_answers.specs.Places.{Files}
+use Rattle.aeth_answers.specs.Stop.{Answers, IfAnswer}
+use Rattle.aeth_answers.specs.declared.answer.Stop.{Stop}
+use Rattle.aeth_base.specs.Limits.{max_cycles}
+use Rattle.aeth_design_commands.specs.Commands.{design_command}
+use Rattle.aeth_design_commands.specs.declared.command.DesignCommand.{DesignCommand}
+use Rattle.aeth_explain_commands.specs.Commands.{explain_command}
+use Rattle.aeth_explain_commands.specs.declared.command.ExplainCommand.{ExplainCommand}
+use Rattle.aeth_plan_commands.specs.Commands.{plan_command}
+use Rattle.aeth_plan_commands.specs.declared.command.PlanCommand.{PlanCommand}
+use Rattle.aeth_run_commands.specs.Commands.{run_command}
+use Rattle.aeth_run_commands.specs.Outcomes.{Outcomes}
+use Rattle.aeth_run_commands.specs.declared.command.RunCommand.{RunCommand}
+use Rattle.aeth_run_commands.specs.declared.command.RunCommand.TheVariants as run
+use Rattle.aeth_run_commands.specs.declared.simulate.SimulatedRun.{SimulatedRun}
+use Rattle.aeth_run_commands.proofs.RangeLemmas.{IsShort, command_short}
+use Rattle.aeth_cli.specs.Commands.{AnswersWords, IsAnswerTo, command_of, task_of}
+use Rattle.aeth_cli.specs.Commands.Links.{links_command}
 use Rattle.aeth_cli.specs.declared.commands.Command.{Command}
 use Rattle.aeth_cli.specs.declared.commands.Command.TheVariants as command
-use Rattle.aeth_files.specs.declared.runs.RunFiles.{RunFiles}
-use Rattle.aeth_cli.specs.Limits.{max_gap, max_logged_cycles}
-use Rattle.aeth_cli.specs.Commands.{command_of}
-use Rattle.aeth_cli.specs.Commands.Allocate.{allocate_command}
-use Rattle.aeth_cli.specs.Commands.App.{app_command}
-use Rattle.aeth_cli.specs.Commands.Audit.{audit_command}
-use Rattle.aeth_cli.specs.Commands.Chain.{chain_command}
-use Rattle.aeth_cli.specs.Commands.Check.{check_command}
-use Rattle.aeth_cli.specs.Commands.Chip.{chip_command}
-use Rattle.aeth_cli.specs.Commands.Demo.{demo_command}
-use Rattle.aeth_cli.specs.Commands.Explain.{explain_command}
-use Rattle.aeth_cli.specs.Commands.Links.{links_command}
-use Rattle.aeth_cli.specs.Commands.RouteTables.{route_tables_command}
-use Rattle.aeth_cli.specs.Commands.Server.{server_command}
-use Rattle.aeth_cli.specs.Commands.Simulate.{simulate_command, turn_of}
-use Rattle.aeth_cli.specs.Commands.Slots.{slots_command}
-use Rattle.aeth_cli.specs.Commands.Tables.{tables_command}
+use Rattle.aeth_cli.specs.declared.commands.links.LoggedRun.{LoggedRun}
 
--- Where a command simulates, its cycles are within the limit.
-abbrev IsShort : Option Command → Type 0
-IsShort None = ⊤
-IsShort (Some (command.Simulate files cycles turn)) = cycles ≤ max_cycles
-IsShort (Some other) = ⊤
-
--- What comes of a value is short, where it is for each value that there can be.
-short_then : {A : Type 0} (value : Option A) (next : A → Option Command)
-    → ((one : A) → value ≡ Some one → IsShort (next one)) → IsShort (option_and_then next value)
-short_then None next short = tt
-short_then (Some one) next short = short one refl
+-- Where a command is on a run, it is short.
+abbrev RunIsShort : Option Command → Type 0
+RunIsShort (Some (command.Run one)) = IsShort (Some one)
+RunIsShort other = ⊤
 
 -- One of two commands is short, where both are.
-short_if : (test : Bool) (one other : Option Command) → IsShort one → IsShort other
-    → IsShort (if test then one else other)
-short_if true one other first second = first
-short_if false one other first second = second
+short_or : (one other : Option Command) → RunIsShort one → RunIsShort other
+    → RunIsShort (option_or one other)
+short_or None other first second = second
+short_or (Some one) other first second = first
 
-slots_short : (words : List (List ℕ)) → IsShort (slots_command words)
-slots_short (size ∷ need ∷ gap ∷ free ∷ []) =
-    short_then (number_within 1 max_slots size) _ (λ n _.
-    short_then (number_within 1 max_slots need) _ (λ _ _.
-    short_then (number_within 0 max_gap gap) _ (λ _ _.
-    short_then (slot_set_of n free) _ (λ _ _.
-    tt {0}))))
-slots_short words = tt
+short_run : (said : Option RunCommand) → IsShort said → RunIsShort (option_map command.Run said)
+short_run None short = tt
+short_run (Some one) short = short
 
-server_short : (words : List (List ℕ)) → IsShort (server_command words)
-server_short (size ∷ need ∷ links ∷ slots ∷ []) =
-    short_then (number_within 1 max_slots size) _ (λ n _.
-    short_then (number_within 1 max_slots need) _ (λ _ _.
-    short_then (number_within min_path_links max_path_delay links) _ (λ _ _.
-    short_then (slot_set_of n slots) _ (λ _ _.
-    tt {0}))))
-server_short words = tt
+-- A command of another kind is short.
+short_design : (said : Option DesignCommand) → RunIsShort (option_map command.Design said)
+short_design None = tt
+short_design (Some one) = tt
 
-chip_short : (words : List (List ℕ)) → IsShort (chip_command words)
-chip_short (chip ∷ []) =
-    short_then (file_name_of chip) _ (λ _ _.
-    tt {0})
-chip_short words = tt
+short_explain : (said : Option ExplainCommand) → RunIsShort (option_map command.Explain said)
+short_explain None = tt
+short_explain (Some one) = tt
 
-app_short : (words : List (List ℕ)) → IsShort (app_command words)
-app_short (chip ∷ app ∷ []) =
-    short_then (file_name_of chip) _ (λ _ _.
-    short_then (file_name_of app) _ (λ _ _.
-    tt {0}))
-app_short words = tt
+short_plan : (said : Option PlanCommand) → RunIsShort (option_map command.Plan said)
+short_plan None = tt
+short_plan (Some one) = tt
 
-allocate_short : (words : List (List ℕ)) → IsShort (allocate_command words)
-allocate_short (chip ∷ app ∷ []) =
-    short_then (file_name_of chip) _ (λ _ _.
-    short_then (file_name_of app) _ (λ _ _.
-    tt {0}))
-allocate_short words = tt
-
-check_short : (words : List (List ℕ)) → IsShort (check_command words)
-check_short (chip ∷ app ∷ plan ∷ []) =
-    short_then (file_name_of chip) _ (λ _ _.
-    short_then (file_name_of app) _ (λ _ _.
-    short_then (file_name_of plan) _ (λ _ _.
-    tt {0})))
-check_short words = tt
-
-explain_short : (words : List (List ℕ)) → IsShort (explain_command words)
-explain_short (chip ∷ app ∷ []) =
-    short_then (file_name_of chip) _ (λ _ _.
-    short_then (file_name_of app) _ (λ _ _.
-    tt {0}))
-explain_short (chip ∷ app ∷ cert ∷ []) =
-    short_then (file_name_of chip) _ (λ _ _.
-    short_then (file_name_of app) _ (λ _ _.
-    short_then (file_name_of cert) _ (λ _ _.
-    tt {0})))
-explain_short words = tt
-
-tables_short : (words : List (List ℕ)) → IsShort (tables_command words)
-tables_short (chip ∷ app ∷ plan ∷ name ∷ []) =
-    short_then (file_name_of chip) _ (λ _ _.
-    short_then (file_name_of app) _ (λ _ _.
-    short_then (file_name_of plan) _ (λ _ _.
-    short_then (name_of name) _ (λ _ _.
-    tt {0}))))
-tables_short words = tt
-
-route_tables_short : (words : List (List ℕ)) → IsShort (route_tables_command words)
-route_tables_short (chip ∷ app ∷ plan ∷ name ∷ []) =
-    short_then (file_name_of chip) _ (λ _ _.
-    short_then (file_name_of app) _ (λ _ _.
-    short_then (file_name_of plan) _ (λ _ _.
-    short_then (name_of name) _ (λ _ _.
-    tt {0}))))
-route_tables_short words = tt
-
-audit_short : (words : List (List ℕ)) → IsShort (audit_command words)
-audit_short (chip ∷ app ∷ plan ∷ switches ∷ log ∷ cycles ∷ []) =
-    short_then (file_name_of chip) _ (λ _ _.
-    short_then (file_name_of app) _ (λ _ _.
-    short_then (file_name_of plan) _ (λ _ _.
-    short_then (file_name_of switches) _ (λ _ _.
-    short_then (file_name_of log) _ (λ _ _.
-    short_then (number_within 1 max_cycles cycles) _ (λ _ _.
-    tt {0}))))))
-audit_short words = tt
-
-chain_short : (words : List (List ℕ)) → IsShort (chain_command words)
-chain_short (chip ∷ app ∷ plan ∷ name ∷ items ∷ words ∷ receivers ∷ cycles ∷ []) =
-    short_then (file_name_of chip) _ (λ _ _.
-    short_then (file_name_of app) _ (λ _ _.
-    short_then (file_name_of plan) _ (λ _ _.
-    short_then (file_name_of words) _ (λ _ _.
-    short_then (file_name_of receivers) _ (λ _ _.
-    short_then (name_of name) _ (λ _ _.
-    short_then (item_names_of items) _ (λ _ _.
-    short_then (number_within 1 max_cycles cycles) _ (λ _ _.
-    tt {0}))))))))
-chain_short words = tt
-
-demo_short : (words : List (List ℕ)) → IsShort (demo_command words)
-demo_short (number ∷ []) =
-    short_then (number_within 0 max_demo_number number) _ (λ _ _.
-    tt {0})
-demo_short words = tt
-
-links_short : (words : List (List ℕ)) → IsShort (links_command words)
-links_short (chip ∷ app ∷ plan ∷ words ∷ receivers ∷ switches ∷ cycles ∷ []) =
-    short_then (file_name_of chip) _ (λ _ _.
-    short_then (file_name_of app) _ (λ _ _.
-    short_then (file_name_of plan) _ (λ _ _.
-    short_then (file_name_of words) _ (λ _ _.
-    short_then (file_name_of receivers) _ (λ _ _.
-    short_then (file_name_of switches) _ (λ _ _.
-    short_then (number_within 1 max_logged_cycles cycles) _ (λ _ _.
-    tt {0})))))))
-links_short words = tt
-
-simulate_short : (words : List (List ℕ)) → IsShort (simulate_command words)
-simulate_short (chip ∷ app ∷ plan ∷ words ∷ receivers ∷ switches ∷ cycles ∷ rest) =
-    short_then (file_name_of chip) _ (λ _ _.
-    short_then (file_name_of app) _ (λ _ _.
-    short_then (file_name_of plan) _ (λ _ _.
-    short_then (file_name_of words) _ (λ _ _.
-    short_then (file_name_of receivers) _ (λ _ _.
-    short_then (file_name_of switches) _ (λ _ _.
-    short_then (number_within 1 max_cycles cycles) _ (λ count told.
-    short_then (turn_of rest) _ (λ _ _.
-    (number_within-bounds 1 max_cycles cycles count told).1))))))))
-simulate_short words = tt
+short_links : (said : Option LoggedRun) → RunIsShort (option_map command.Links said)
+short_links None = tt
+short_links (Some one) = tt
 
 -- Each command is short.
-command_short : (words : List (List ℕ)) → IsShort (command_of words)
-command_short [] = tt
-command_short (name ∷ words) =
-    short_if (bytes_eq name (codes "slots")) _ _ (slots_short words) (
-    short_if (bytes_eq name (codes "server")) _ _ (server_short words) (
-    short_if (bytes_eq name (codes "chip")) _ _ (chip_short words) (
-    short_if (bytes_eq name (codes "app")) _ _ (app_short words) (
-    short_if (bytes_eq name (codes "allocate")) _ _ (allocate_short words) (
-    short_if (bytes_eq name (codes "check")) _ _ (check_short words) (
-    short_if (bytes_eq name (codes "explain")) _ _ (explain_short words) (
-    short_if (bytes_eq name (codes "tables")) _ _ (tables_short words) (
-    short_if (bytes_eq name (codes "route-tables")) _ _ (route_tables_short words) (
-    short_if (bytes_eq name (codes "simulate")) _ _ (simulate_short words) (
-    short_if (bytes_eq name (codes "links")) _ _ (links_short words) (
-    short_if (bytes_eq name (codes "audit")) _ _ (audit_short words) (
-    short_if (bytes_eq name (codes "chain")) _ _ (chain_short words) (
-    short_if (bytes_eq name (codes "demo")) _ _ (demo_short words) (tt {0}))))))))))))))
+all_short : (words : List (List ℕ)) → RunIsShort (command_of words)
+all_short [] = tt
+all_short (name ∷ words) =
+    short_or _ _ (short_design (design_command name words)) (
+    short_or _ _ (short_explain (explain_command name words)) (
+    short_or _ _ (short_plan (plan_command name words)) (
+    short_or _ _ (short_run (run_command name words) (command_short name words))
+    (short_links (links_command name words)))))
 
-pub simulate-cycles : (words : List (List ℕ)) (files : RunFiles) (cycles turn : ℕ)
-    → command_of words ≡ Some (command.Simulate files cycles turn) → cycles ≤ max_cycles
-simulate-cycles words files cycles turn is = subst IsShort is (command_short words)
+-- So the words of a simulation name a number of cycles within the limit.
+pub simulate-cycles : (words : List (List ℕ)) (one : SimulatedRun)
+    → command_of words ≡ Some (command.Run (run.Simulate one)) → one.cycles ≤ max_cycles
+simulate-cycles words one is = subst RunIsShort is (all_short words)
+
+pub tables-cycles : (words : List (List ℕ)) (one : SimulatedRun)
+    → command_of words ≡ Some (command.Run (run.SimulateTables one)) → one.cycles ≤ max_cycles
+tables-cycles words one is = subst RunIsShort is (all_short words)
+
+-- What answers the task of a command answers words that are the command.
+pub AnswersWords-command : (outcomes : Outcomes) (old new : Files) (said : Option Command)
+    (one : Command) (came : Result Job Stop) → said ≡ Some one
+    → Answers old new (task_of outcomes one) came → AnswersWords outcomes old new said came
+AnswersWords-command outcomes old new said one came is answers = record {
+  after = answers.after;
+  faultless = answers.faultless;
+  answers = subst (λ (s : Option Command). IfAnswer came (IsAnswerTo outcomes old new s)) (sym is)
+      answers.answers;
+}

@@ -1,9 +1,2 @@
-mod AllocationLemmas
-mod AuditJobs
 mod CommandLemmas
-mod DemoLemmas
 mod PromiseLemmas
-mod ToldLemmas
-mod VerdictJobs
-mod ExplainLemmas
-mod CertifiedLemmas

@@ -3,11 +3,9 @@ use Rattle.std.proofs.Common.{◌≡◌, ◌∙◌, ◌≤◌, ◌<◌, ℕ, Lis
 use Rattle.std.proofs.Common.{ap, refl, subst, sym, arith}
 use Rattle.std.proofs.Math.Nat.{eq-or-lt_of_le}
 use Rattle.std.proofs.lemmas.Option.{same_Some}
-use Rattle.aeth_accepted.specs.Inputs.{Inputs}
 use Rattle.aeth_io.specs.Causes.{IsFaultless}
 use Rattle.aeth_io.specs.declared.shelf.Shelf as shelf
 use Rattle.aeth_io.specs.declared.sink.Sink as sink
-use Rattle.aeth_report.specs.Log.{LogData}
 use Rattle.aeth_answers.specs.Job.{Job, err_text, usage}
 use Rattle.aeth_answers.specs.Places.{Files, IsAfter, Places, files_of}
 use Rattle.aeth_answers.specs.Status.{memory_status, read_fault_status, usage_status}
@@ -15,57 +13,58 @@ use Rattle.aeth_answers.specs.Status.{write_fault_status}
 use Rattle.aeth_answers.specs.Task.{IsReadFault}
 use Rattle.aeth_answers.specs.Writing.{EndsWith, IsCutShort, IsWritten}
 use Rattle.aeth_answers.proofs.TaskLemmas.{ComesTo-job}
+use Rattle.aeth_run_commands.specs.Outcomes.{Outcomes}
 use Rattle.aeth_cli.specs.declared.commands.Command.{Command}
 use Rattle.aeth_cli.specs.Commands.{IsAnswerTo, WordsComeTo, asked_job, command_of, task_of}
 use Rattle.aeth_cli.specs.Promise.{Promise, sinks_of}
 
-module _ (outcome : Inputs → LogData) (old new : Files) (answer : Job) where
+module _ (outcomes : Outcomes) (old new : Files) (answer : Job) where
   -- The status of an answer is at most that of a read fault.
-  answer_within : (said : Option Command) → IsAnswerTo outcome old new said answer
+  answer_within : (said : Option Command) → IsAnswerTo outcomes old new said answer
       → answer.status ≤ read_fault_status
   answer_within None is = rw is (omega arith)
   answer_within (Some command) is = is.within
 
   -- Below that, the words come to the answer.
-  answer_comes : (said : Option Command) → IsAnswerTo outcome old new said answer
-      → answer.status < read_fault_status → WordsComeTo outcome old.content said answer
+  answer_comes : (said : Option Command) → IsAnswerTo outcomes old new said answer
+      → answer.status < read_fault_status → WordsComeTo outcomes old.content said answer
   answer_comes None is below = is
   answer_comes (Some command) is below = is.job below
 
   -- An answer is usage where the words are no command.
-  answer_is_usage : (said : Option Command) → IsAnswerTo outcome old new said answer
+  answer_is_usage : (said : Option Command) → IsAnswerTo outcomes old new said answer
       → answer.status ≡ usage_status → said ≡ None
   answer_is_usage None is _ = refl
   answer_is_usage (Some command) is named = absurd (is.command named)
 
   -- A read fault answers a command.
-  answer_is_fault : (said : Option Command) → IsAnswerTo outcome old new said answer
+  answer_is_fault : (said : Option Command) → IsAnswerTo outcomes old new said answer
       → answer.status ≡ read_fault_status
       → (command : Command) × (said ≡ Some command)
-      × IsReadFault old new (task_of outcome command) answer
+      × IsReadFault old new (task_of outcomes command) answer
   answer_is_fault None is fault = absurd (omega (arith, ap (λ (job : Job). job.status) is, fault))
   answer_is_fault (Some command) is fault = (command, refl, is.fault fault)
 
 -- What words come to is their job, where the contents on which it rests are told.
-words_job : (outcome : Inputs → LogData) (content : List ℕ → Option (List ℕ))
-    (said : Option Command) (answer asked : Job) → WordsComeTo outcome content said answer
-    → asked_job outcome content said ≡ Some asked → answer ≡ asked
-words_job outcome content None answer asked is told = is ∙ same_Some usage asked told
-words_job outcome content (Some command) answer asked is told =
-    ComesTo-job content (task_of outcome command) answer asked is told
+words_job : (outcomes : Outcomes) (content : List ℕ → Option (List ℕ))
+    (said : Option Command) (answer asked : Job) → WordsComeTo outcomes content said answer
+    → asked_job outcomes content said ≡ Some asked → answer ≡ asked
+words_job outcomes content None answer asked is told = is ∙ same_Some usage asked told
+words_job outcomes content (Some command) answer asked is told =
+    ComesTo-job content (task_of outcomes command) answer asked is told
 
 -- The text of an answer that isn't done goes to `err`.
 err_text-whole : (answer : Job) → answer.status ≡ read_fault_status → err_text answer ≡ answer.text
 err_text-whole answer fault = rw fault refl
 
-module _ {H O E : Type 0} (outcome : Inputs → LogData) (h : shelf.Ghosts H) (o : sink.Ghosts O)
+module _ {H O E : Type 0} (outcomes : Outcomes) (h : shelf.Ghosts H) (o : sink.Ghosts O)
     (e : sink.Ghosts E) (words : List (List ℕ)) (old new : Places H O E)
     (after : IsAfter (files_of h old.shelf) (files_of h new.shelf)) where
   -- Where memory was wanting, the promise is kept, if no call on the shelf failed and the sinks are as
   -- before.
   pub Promise-memory : IsFaultless (h.faults old.shelf) (h.faults new.shelf)
       → new.out ≡ old.out → new.err ≡ old.err
-      → Promise outcome h o e words old new memory_status
+      → Promise outcomes h o e words old new memory_status
   Promise-memory faultless out err =
       let out_same : o.faults new.out ≡ o.faults old.out = ap o.faults out in
       let err_same : e.faults new.err ≡ e.faults old.err = ap e.faults err in record {
@@ -88,22 +87,22 @@ module _ {H O E : Type 0} (outcome : Inputs → LogData) (h : shelf.Ghosts H) (o
         complete = λ _ _ _. inr refl;
       }
 
-  module _ (answer : Job) (is : IsAnswerTo outcome (files_of h old.shelf) (files_of h new.shelf)
+  module _ (answer : Job) (is : IsAnswerTo outcomes (files_of h old.shelf) (files_of h new.shelf)
       (command_of words) answer)
       (out_later : o.faults old.out ≤ o.faults new.out)
       (err_later : e.faults old.err ≤ e.faults new.err) where
     -- Once the text of an answer was written, its status keeps the promise.
     Promise-written : IsWritten o e (sinks_of old) (sinks_of new) answer
-        → Promise outcome h o e words old new answer.status
+        → Promise outcomes h o e words old new answer.status
     Promise-written written =
         let from = files_of h old.shelf in
         let to = files_of h new.shelf in
         let said = command_of words in
-        let within = answer_within outcome from to answer said is in
-        let comes = answer_comes outcome from to answer said is in
+        let within = answer_within outcomes from to answer said is in
+        let comes = answer_comes outcomes from to answer said is in
         let same : answer.status < read_fault_status → (asked : Job)
-        → asked_job outcome from.content said ≡ Some asked → answer ≡ asked =
-        λ below asked told. words_job outcome from.content said answer asked (comes below) told in
+        → asked_job outcomes from.content said ≡ Some asked → answer ≡ asked =
+        λ below asked told. words_job outcomes from.content said answer asked (comes below) told in
         record {
           statuses = omega (arith, within);
           shelf_is = after;
@@ -115,8 +114,8 @@ module _ {H O E : Type 0} (outcome : Inputs → LogData) (h : shelf.Ghosts H) (o
           answered = λ below. (answer, comes below, refl, written.out, written.err);
           err_kept = written.err_kept;
           out_kept = λ _. written.out_kept;
-          usage_only = answer_is_usage outcome from to answer said is;
-          read_fault = λ fault. let it = answer_is_fault outcome from to answer said is fault in (
+          usage_only = answer_is_usage outcomes from to answer said is;
+          read_fault = λ fault. let it = answer_is_fault outcomes from to answer said is fault in (
             it.0,
             answer,
             it.1,
@@ -131,7 +130,7 @@ module _ {H O E : Type 0} (outcome : Inputs → LogData) (h : shelf.Ghosts H) (o
           complete = λ out_fine err_fine shelf_fine.
               elim (eq-or-lt_of_le within) [
                 | inl fault ↦
-                    let it = answer_is_fault outcome from to answer said is fault in
+                    let it = answer_is_fault outcomes from to answer said is fault in
                     absurd (shelf_fine it.2.name it.2.rose)
                 | inr below ↦ inl below
               ];
@@ -139,7 +138,7 @@ module _ {H O E : Type 0} (outcome : Inputs → LogData) (h : shelf.Ghosts H) (o
 
     -- A sink that failed gives a write fault.
     Promise-cut : IsCutShort o e (sinks_of old) (sinks_of new) answer
-        → Promise outcome h o e words old new write_fault_status
+        → Promise outcomes h o e words old new write_fault_status
     Promise-cut cut = record {
       statuses = omega arith;
       shelf_is = after;
@@ -166,9 +165,9 @@ module _ {H O E : Type 0} (outcome : Inputs → LogData) (h : shelf.Ghosts H) (o
     -- Either way the status keeps the promise.
     pub Promise-ended : (status : ℕ)
         → EndsWith o e (sinks_of old) (sinks_of new) answer status
-        → Promise outcome h o e words old new status
+        → Promise outcomes h o e words old new status
     Promise-ended status ends =
-        let Keeps : ℕ → Type 0 = λ one. Promise outcome h o e words old new one in
+        let Keeps : ℕ → Type 0 = λ one. Promise outcomes h o e words old new one in
         elim ends.ended [
           | inl whole ↦ subst Keeps (sym whole.0) (Promise-written whole.1)
           | inr cut ↦ subst Keeps (sym cut.0) (Promise-cut cut.1)

@@ -2,22 +2,22 @@
 --
 -- The words are those after the program's name. Each clause holds of every shelf and every pair of
 -- sinks. Of contents a clause speaks where the shelf tells them, of texts where a sink tells what was
--- written. The job is that of a machine, which says what the log of a run is. Want of memory is the
--- one answer whose cause is left open, but it never stands for a fault.
+-- written. The job is that of two machines, each of which says what the log of a run is: one for
+-- `simulate` and `demo`, one for `simulate-tables`. Want of memory is the one answer whose cause is left
+-- open, but it never stands for a fault.
 -- This project's own.
 use Rattle.std.specs.Prelude.{ℕ, ◌≡◌, ◌≢◌, ◌<◌, ◌≤◌, ◌⊎◌, List, Some, None}
-use Rattle.aeth_accepted.specs.Inputs.{Inputs}
 use Rattle.aeth_io.specs.Causes.{IsFaultless, Rose}
 use Rattle.aeth_io.specs.Sink.{appended}
 use Rattle.aeth_io.specs.declared.shelf.Shelf as shelf
 use Rattle.aeth_io.specs.declared.sink.Sink as sink
-use Rattle.aeth_report.specs.Log.{LogData}
 use Rattle.aeth_answers.specs.Job.{Job, err_text, out_text}
 use Rattle.aeth_answers.specs.Places.{IsAfter, Places, Sinks, files_of}
 use Rattle.aeth_answers.specs.Status.{done_status, memory_status, read_fault_status, usage_status}
 use Rattle.aeth_answers.specs.Status.{write_fault_status}
 use Rattle.aeth_answers.specs.Task.{IsReadFault}
 use Rattle.aeth_answers.specs.Writing.{IsCutShort}
+use Rattle.aeth_run_commands.specs.Outcomes.{Outcomes}
 use Rattle.aeth_cli.specs.declared.commands.Command.{Command}
 use Rattle.aeth_cli.specs.Commands.{IsAnswerTo, WordsComeTo, command_of, job, task_of}
 
@@ -25,9 +25,9 @@ use Rattle.aeth_cli.specs.Commands.{IsAnswerTo, WordsComeTo, command_of, job, ta
 abbrev pub sinks_of : {H O E : Type 0} → Places H O E → Sinks O E
 sinks_of places = record { out = places.out; err = places.err }
 
--- The program was run with these words and a machine of this outcome over a shelf and two sinks,
+-- The program was run with these words and a machine of this outcomes over a shelf and two sinks,
 -- which are given by what they tell, and ended with a status.
-pub record Promise {H O E : Type 0} (outcome : Inputs → LogData) (h : shelf.Ghosts H)
+pub record Promise {H O E : Type 0} (outcomes : Outcomes) (h : shelf.Ghosts H)
     (o : sink.Ghosts O) (e : sink.Ghosts E) (words : List (List ℕ)) (old new : Places H O E)
     (status : ℕ) : Type 0 where
   -- The status is one of 0 to 6.
@@ -38,18 +38,18 @@ pub record Promise {H O E : Type 0} (outcome : Inputs → LogData) (h : shelf.Gh
   pub err_later : e.faults old.err ≤ e.faults new.err
   -- A status below that of a read fault is the status of the job.
   pub status_is : status < read_fault_status
-      → (asked : Job) → job outcome (h.content old.shelf) words ≡ Some asked → status ≡ asked.status
+      → (asked : Job) → job outcomes (h.content old.shelf) words ≡ Some asked → status ≡ asked.status
   -- Just the text of that job was written: to `out` where the job is done, else to `err`.
   pub out_is : status < read_fault_status
-      → (asked : Job) → job outcome (h.content old.shelf) words ≡ Some asked
+      → (asked : Job) → job outcomes (h.content old.shelf) words ≡ Some asked
       → o.written new.out ≡ appended (o.written old.out) (out_text asked)
   pub err_is : status < read_fault_status
-      → (asked : Job) → job outcome (h.content old.shelf) words ≡ Some asked
+      → (asked : Job) → job outcomes (h.content old.shelf) words ≡ Some asked
       → e.written new.err ≡ appended (e.written old.err) (err_text asked)
   -- Where the shelf doesn't tell a file, the same holds of the job that comes of some bytes in its
   -- place.
   pub answered : status < read_fault_status
-      → (answer : Job) × WordsComeTo outcome (h.content old.shelf) (command_of words) answer
+      → (answer : Job) × WordsComeTo outcomes (h.content old.shelf) (command_of words) answer
       × (status ≡ answer.status)
       × (o.written new.out ≡ appended (o.written old.out) (out_text answer))
       × (e.written new.err ≡ appended (e.written old.err) (err_text answer))
@@ -62,13 +62,13 @@ pub record Promise {H O E : Type 0} (outcome : Inputs → LogData) (h : shelf.Gh
   -- judged before it was judged and not refused.
   pub read_fault : status ≡ read_fault_status
       → (command : Command) × (answer : Job) × (command_of words ≡ Some command)
-      × IsReadFault (files_of h old.shelf) (files_of h new.shelf) (task_of outcome command) answer
+      × IsReadFault (files_of h old.shelf) (files_of h new.shelf) (task_of outcomes command) answer
       × (e.written new.err ≡ appended (e.written old.err) answer.text)
       × (new.out ≡ old.out)
   -- A sink failed in this run: it has a proper prefix of its text, and the other has nothing.
   pub write_fault : status ≡ write_fault_status
       → (answer : Job)
-      × IsAnswerTo outcome (files_of h old.shelf) (files_of h new.shelf) (command_of words) answer
+      × IsAnswerTo outcomes (files_of h old.shelf) (files_of h new.shelf) (command_of words) answer
       × IsCutShort o e (sinks_of old) (sinks_of new) answer
   -- Memory was wanting: no call on the shelf failed, and both sinks are as before.
   pub memory_shelf : status ≡ memory_status → IsFaultless (h.faults old.shelf) (h.faults new.shelf)

@@ -17,8 +17,8 @@ use std::{env, io};
 
 /// Runs the command that the arguments after the program's name are, over the files of the host,
 /// and gives the exit code with which the program ends: the number of the status. Runs are played by
-/// machines of the type `M`.
-pub fn start<M: Machine, R: Env + Files + AllocGlobal + Clone + Drop>(
+/// machines of the type `M`, those of `simulate-tables` by machines of the type `T`.
+pub fn start<M: Machine, T: Machine, R: Env + Files + AllocGlobal + Clone + Drop>(
     rt: &R,
     out: Stdout,
     err: Stderr,
@@ -39,7 +39,7 @@ pub fn start<M: Machine, R: Env + Files + AllocGlobal + Clone + Drop>(
     let mut out = HostSink::new(out);
     let mut err = HostSink::new(err);
     // The types say which stream is which.
-    exit_code::<M, HostShelf<R>, HostSink<Stdout>, HostSink<Stderr>>(
+    exit_code::<M, T, HostShelf<R>, HostSink<Stdout>, HostSink<Stderr>>(
         rt.alloc(),
         words_of(&arguments),
         &mut shelf,
@@ -49,19 +49,20 @@ pub fn start<M: Machine, R: Env + Files + AllocGlobal + Clone + Drop>(
 }
 
 /// Runs a command, and gives the status with which it ends as an exit code.
-fn exit_code<M: Machine, H: Shelf, O: Sink, E: Sink>(
+fn exit_code<M: Machine, T: Machine, H: Shelf, O: Sink, E: Sink>(
     alloc: Global,
     words: &[String],
     shelf: &mut H,
     out: &mut O,
     err: &mut E,
 ) -> ExitCode
-    ensures promise { Promise M.outcome H.Shelf O.Sink E.Sink (map string_bytes words.now)
+    ensures promise { Promise (record { headers = M.outcome; tables = T.outcome })
+        H.Shelf O.Sink E.Sink (map string_bytes words.now)
         (record { shelf = shelf.old; out = out.old; err = err.old })
         (record { shelf = shelf.new; out = out.new; err = err.new }) (exit_status result) }
     ensures status { exit_status result ≤ memory_status }
 {
-    ExitCode::from(run::<M, H, O, E>(alloc, words, shelf, out, err))
+    ExitCode::from(run::<M, T, H, O, E>(alloc, words, shelf, out, err))
 }
 
 fn out_of_memory() -> ExitCode

@@ -4,7 +4,6 @@
 mod commands;
 mod host;
 pub mod laws;
-mod planned_uses;
 mod program;
 
 pub use aeth_answers::Status;

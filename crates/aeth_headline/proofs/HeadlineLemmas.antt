@@ -25,21 +25,25 @@ use Rattle.aeth_answers.specs.Status.{refused_status}
 use Rattle.aeth_answers.specs.Task.{job_with}
 use Rattle.aeth_cli.specs.declared.commands.Command.{Command}
 use Rattle.aeth_cli.specs.declared.commands.Command.TheVariants as command
+use Rattle.aeth_design_commands.specs.declared.command.DesignCommand.TheVariants as design
+use Rattle.aeth_run_commands.specs.declared.command.RunCommand.TheVariants as run
 use Rattle.aeth_files.specs.declared.runs.RunFiles.{RunFiles}
+use Rattle.aeth_run_commands.specs.declared.simulate.SimulatedRun.{SimulatedRun}
 use Rattle.aeth_cli.specs.Commands.{asked_job, command_of, job, task_of}
-use Rattle.aeth_cli.specs.Commands.Allocate.{allocate_task, outcome_job, refusals_text}
-use Rattle.aeth_cli.specs.Commands.Simulate.{simulate_task}
+use Rattle.aeth_design_commands.specs.Allocate.{allocate_task, outcome_job, refusals_text}
+use Rattle.aeth_run_commands.specs.Simulate.{simulate_task}
 use Rattle.aeth_cli.specs.Promise.{Promise}
-use Rattle.aeth_cli.specs.Told.{IsAllocated, IsSimulated}
+use Rattle.aeth_command_laws.specs.Told.{IsAllocated, IsSimulated}
 use Rattle.aeth_headline.specs.Headline.{AreRefusals, Headline, HoldsOfRun, IsPrintedPlan}
 use Rattle.aeth_headline.specs.Headline.{IsPrintedRun, allocated, design_of, network_outcome}
+use Rattle.aeth_headline.specs.Headline.{network_outcomes}
 
 -- The job of words that are a command is that of its task.
 command_job : (content : List ℕ → Option (List ℕ)) (said : Option Command) (one : Command)
-    (asked : Job) → said ≡ Some one → asked_job network_outcome content said ≡ Some asked
-    → job_with content (task_of network_outcome one) ≡ Some asked
+    (asked : Job) → said ≡ Some one → asked_job network_outcomes content said ≡ Some asked
+    → job_with content (task_of network_outcomes one) ≡ Some asked
 command_job content said one asked is told =
-    subst (λ (s : Option Command). asked_job network_outcome content s ≡ Some asked) is told
+    subst (λ (s : Option Command). asked_job network_outcomes content s ≡ Some asked) is told
 
 -- Where the job of an outcome is done, no unit is refused, and it prints the plan.
 outcome_done : (chip : ChipData) (app : AppData) (outcome : OutcomeData) (refused : List Refused)
@@ -65,8 +69,10 @@ refused_text asked text is = rw is refl
 
 -- The laws on which the headline stands.
 pub record Laws : Type 0 where
-  pub ends : (words : List (List ℕ)) (files : RunFiles) (cycles turn : ℕ)
-      → command_of words ≡ Some (command.Simulate files cycles turn) → cycles ≤ max_cycles
+  pub ends : (words : List (List ℕ)) (one : SimulatedRun)
+      → command_of words ≡ Some (command.Run (run.Simulate one)) → one.cycles ≤ max_cycles
+  pub ends_tables : (words : List (List ℕ)) (one : SimulatedRun)
+      → command_of words ≡ Some (command.Run (run.SimulateTables one)) → one.cycles ≤ max_cycles
   pub simulated : (content : List ℕ → Option (List ℕ)) (files : RunFiles) (cycles : ℕ)
       (asked : Job) → cycles ≤ max_cycles
       → job_with content (simulate_task network_outcome files cycles) ≡ Some asked
@@ -103,18 +109,17 @@ refused_last chip app refused listed = listed
 
 module _ {H O E : Type 0} (laws : Laws) (h : shelf.Ghosts H) (o : sink.Ghosts O) (e : sink.Ghosts E)
     (words : List (List ℕ)) (old new : Places H O E) (status : ℕ)
-    (promise : Promise network_outcome h o e words old new status) where
-  -- A simulation that is done.
-  printed_run : (files : RunFiles) (cycles turn : ℕ)
-      → command_of words ≡ Some (command.Simulate files cycles turn) → status ≡ done_status
-      → (asked : Job) → job network_outcome (h.content old.shelf) words ≡ Some asked
-      → IsPrintedRun h o e old new files cycles asked
-  printed_run files cycles turn is done asked told =
+    (promise : Promise network_outcomes h o e words old new status) where
+  -- A simulation that is done, of either network.
+  printed_run : (one : SimulatedRun) → one.cycles ≤ max_cycles → status ≡ done_status
+      → (asked : Job) → job network_outcomes (h.content old.shelf) words ≡ Some asked
+      → job_with (h.content old.shelf) (simulate_task network_outcome one.files one.cycles)
+      ≡ Some asked
+      → IsPrintedRun h o e old new one asked
+  printed_run one few done asked told is =
       let below : status < read_fault_status = omega (arith, done) in
-      let it = laws.simulated (h.content old.shelf) files cycles asked
-      (laws.ends words files cycles turn is)
-      (command_job (h.content old.shelf) (command_of words) (command.Simulate files cycles turn) asked
-      is told) (sym (promise.status_is below asked told) ∙ done) in
+      let it = laws.simulated (h.content old.shelf) one.files one.cycles asked few is
+      (sym (promise.status_is below asked told) ∙ done) in
       record {
         stands_on = it;
         printed = promise.out_is below asked told
@@ -124,15 +129,16 @@ module _ {H O E : Type 0} (laws : Laws) (h : shelf.Ghosts H) (o : sink.Ghosts O)
       }
 
   module _ (chip_name app_name : List ℕ)
-      (is : command_of words ≡ Some (command.Allocate chip_name app_name)) (asked : Job)
-      (told : job network_outcome (h.content old.shelf) words ≡ Some asked) where
+      (is : command_of words ≡ Some (command.Design (design.Allocate chip_name app_name)))
+      (asked : Job)
+      (told : job network_outcomes (h.content old.shelf) words ≡ Some asked) where
     -- An allocation whose status is below a read fault, and which refuses no file.
     stands_on : status < read_fault_status → status ≢ refused_status
         → IsAllocated (h.content old.shelf) chip_name app_name asked
     stands_on below kept =
         laws.allocated (h.content old.shelf) chip_name app_name asked
         (command_job (h.content old.shelf) (command_of words)
-        (command.Allocate chip_name app_name) asked is told)
+        (command.Design (design.Allocate chip_name app_name)) asked is told)
         (λ refused. kept (promise.status_is below asked told ∙ refused))
 
     -- One that is done.
@@ -179,7 +185,13 @@ module _ {H O E : Type 0} (laws : Laws) (h : shelf.Ghosts H) (o : sink.Ghosts O)
   -- The headline, from the promise.
   pub headline : Headline h o e old new words status
   headline = record {
-    simulates = printed_run;
+    simulates = λ one is done asked told. printed_run one (laws.ends words one is) done asked told
+        (command_job (h.content old.shelf) (command_of words) (command.Run (run.Simulate one)) asked
+        is told);
+    simulates_tables = λ one is done asked told.
+        printed_run one (laws.ends_tables words one is) done asked told
+        (command_job (h.content old.shelf) (command_of words) (command.Run (run.SimulateTables one))
+        asked is told);
     plans = λ chip app is done asked told. printed_plan chip app is asked told done;
     refuses = λ chip app is refused asked told. are_refusals chip app is asked told refused;
   }

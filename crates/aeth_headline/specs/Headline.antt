@@ -1,4 +1,5 @@
--- The headline: what holds of what the program printed, for `simulate` and for `allocate`.
+-- The headline: what holds of what the program printed, for `simulate`, for `simulate-tables` and for
+-- `allocate`.
 --
 --   HoldsOfRun      what holds of the run of inputs: each field is one sentence
 --   IsPrintedRun      a simulation that is done
@@ -36,20 +37,29 @@ use Rattle.aeth_report.specs.RunLog.{channel_log, flow_log, log_of}
 use Rattle.aeth_report.specs.declared.log.Landing.{Landing}
 use Rattle.aeth_report.specs.declared.session.Session.{Session}
 use Rattle.aeth_running.specs.Network.{first_network, played}
+use Rattle.aeth_running.specs.Routing.{ByHeaders}
 use Rattle.aeth_server.specs.Landing.{IsDue}
 use Rattle.aeth_answers.specs.Job.{Job}
 use Rattle.aeth_answers.specs.Places.{Places}
 use Rattle.aeth_answers.specs.Status.{done_status, not_granted_status}
 use Rattle.aeth_cli.specs.declared.commands.Command.TheVariants as command
-use Rattle.aeth_files.specs.declared.runs.RunFiles.{RunFiles}
+use Rattle.aeth_design_commands.specs.declared.command.DesignCommand.TheVariants as design
+use Rattle.aeth_run_commands.specs.declared.command.RunCommand.TheVariants as run
+use Rattle.aeth_run_commands.specs.declared.simulate.SimulatedRun.{SimulatedRun}
+use Rattle.aeth_run_commands.specs.Outcomes.{Outcomes}
 use Rattle.aeth_cli.specs.Commands.{command_of, job}
-use Rattle.aeth_cli.specs.Commands.Allocate.{refusals_text}
-use Rattle.aeth_cli.specs.Told.{IsAllocated, IsSimulated}
+use Rattle.aeth_design_commands.specs.Allocate.{refusals_text}
+use Rattle.aeth_command_laws.specs.Told.{IsAllocated, IsSimulated}
 
 -- The log that a network gives: that of one private server for each session, with no network between
 -- them.
 abbrev pub network_outcome : Inputs → LogData
 network_outcome inputs = log_of (run_of inputs)
+
+-- Both networks give it: the one whose routers read headers, and the one whose routers look slot tables
+-- up.
+abbrev pub network_outcomes : Outcomes
+network_outcomes = record { headers = network_outcome; tables = network_outcome }
 
 -- What holds of the run of inputs.
 pub record HoldsOfRun (inputs : Inputs) : Type 0 where
@@ -57,7 +67,7 @@ pub record HoldsOfRun (inputs : Inputs) : Type 0 where
   pub one_flit : (l t : ℕ) → length (carries (run_of inputs) l t) ≤ 1
   -- In the network the first wire of the link has just that flit, or none.
   pub wires : (l t : ℕ) → t < inputs.cycles → l < length inputs.chip.links
-      → option_to_list (flit_on (played (t + 1) (first_network inputs)).components.wires l)
+      → option_to_list (flit_on (played (t + 1) (first_network inputs ByHeaders)).components.wires l)
       ≡ carries (run_of inputs) l t
   -- Row k of a session is its word k + 1, in the cycle in which it lands on the session's private
   -- server: words land in order, and once.
@@ -102,8 +112,8 @@ module _ {H O E : Type 0} (h : shelf.Ghosts H) (o : sink.Ghosts O) (e : sink.Gho
     (old new : Places H O E) where
   -- The files told accepted inputs, `out` got the text of the log of their run, and the sentences hold
   -- of it.
-  pub record IsPrintedRun (files : RunFiles) (cycles : ℕ) (asked : Job) : Type 0 where
-    pub stands_on : IsSimulated network_outcome (h.content old.shelf) files cycles asked
+  pub record IsPrintedRun (one : SimulatedRun) (asked : Job) : Type 0 where
+    pub stands_on : IsSimulated network_outcome (h.content old.shelf) one.files one.cycles asked
     pub printed : o.written new.out ≡ appended (o.written old.out)
         (text_of stands_on.inputs.app (log_of (run_of stands_on.inputs)))
     pub holds : HoldsOfRun stands_on.inputs
@@ -133,16 +143,21 @@ module _ {H O E : Type 0} (h : shelf.Ghosts H) (o : sink.Ghosts O) (e : sink.Gho
   -- What a run of the program keeps, over a shelf that tells the contents of the files: the job that
   -- is asked for rests on these.
   pub record Headline (words : List (List ℕ)) (status : ℕ) : Type 0 where
-    pub simulates : (files : RunFiles) (cycles turn : ℕ)
-        → command_of words ≡ Some (command.Simulate files cycles turn) → status ≡ done_status
-        → (asked : Job) → job network_outcome (h.content old.shelf) words ≡ Some asked
-        → IsPrintedRun files cycles asked
+    pub simulates : (one : SimulatedRun)
+        → command_of words ≡ Some (command.Run (run.Simulate one)) → status ≡ done_status
+        → (asked : Job) → job network_outcomes (h.content old.shelf) words ≡ Some asked
+        → IsPrintedRun one asked
+    pub simulates_tables : (one : SimulatedRun)
+        → command_of words ≡ Some (command.Run (run.SimulateTables one)) → status ≡ done_status
+        → (asked : Job) → job network_outcomes (h.content old.shelf) words ≡ Some asked
+        → IsPrintedRun one asked
     pub plans : (chip_name app_name : List ℕ)
-        → command_of words ≡ Some (command.Allocate chip_name app_name) → status ≡ done_status
-        → (asked : Job) → job network_outcome (h.content old.shelf) words ≡ Some asked
+        → command_of words ≡ Some (command.Design (design.Allocate chip_name app_name))
+        → status ≡ done_status
+        → (asked : Job) → job network_outcomes (h.content old.shelf) words ≡ Some asked
         → IsPrintedPlan chip_name app_name asked
     pub refuses : (chip_name app_name : List ℕ)
-        → command_of words ≡ Some (command.Allocate chip_name app_name)
+        → command_of words ≡ Some (command.Design (design.Allocate chip_name app_name))
         → status ≡ not_granted_status
-        → (asked : Job) → job network_outcome (h.content old.shelf) words ≡ Some asked
+        → (asked : Job) → job network_outcomes (h.content old.shelf) words ≡ Some asked
         → AreRefusals chip_name app_name asked

@@ -1,13 +1,14 @@
-// The program with a network as its machine, as `main` runs it.
+// The program with networks as its machines, as `main` runs it.
 ghost use Rattle.aeth_answers.specs.Places.{Places};
 ghost use Rattle.aeth_headline.specs.Headline.{Headline};
 ghost use Rattle.std.specs.Prelude.{map, string_bytes};
 
 use aeth_io::{Shelf, Sink};
 use aeth_sim::Network;
+use aeth_table_network::TableNetwork;
 use std::alloc::Global;
 
-/// The program, as `main` runs it: `aeth_cli::run` with `Network` as the machine. What it keeps is one
+/// The program, as `main` runs it: `aeth_cli::run` with networks as the machines. What it keeps is one
 /// record, in `specs/Headline.antt`.
 pub fn run<H: Shelf, O: Sink, E: Sink>(
     alloc: Global,
@@ -33,5 +34,5 @@ pub fn run<H: Shelf, O: Sink, E: Sink>(
     aeth_report::laws::rows_are_landings();
     aeth_report::laws::channels_are_independent();
     aeth_running::laws::networks_carry();
-    aeth_cli::run::<Network, H, O, E>(alloc, words, shelf, out, err)
+    aeth_cli::run::<Network, TableNetwork, H, O, E>(alloc, words, shelf, out, err)
 }

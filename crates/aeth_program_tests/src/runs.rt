@@ -2,6 +2,7 @@
 use aeth_cli::run;
 use aeth_io::{MemShelf, MemSink, Shelf};
 use aeth_sim::Network;
+use aeth_table_network::TableNetwork;
 use std::alloc::Global;
 use std::str;
 use std::test::Fail;
@@ -91,7 +92,7 @@ pub(crate) fn said_to<H: Shelf>(
     err: &mut MemSink,
 ) -> Result<String, Fail> {
     let words = words_of(alloc, line)?;
-    let status = run::<Network, H, MemSink, MemSink>(alloc, &words, shelf, out, err);
+    let status = run::<Network, TableNetwork, H, MemSink, MemSink>(alloc, &words, shelf, out, err);
     let mut text = format!(in alloc; "{status}")?;
     push_written(alloc, &mut text, " out ", out)?;
     push_written(alloc, &mut text, " err ", err)?;

@@ -1,6 +1,10 @@
-use Rattle.aeth_cli.proofs.CommandLemmas.{simulate-cycles}
+use Rattle.aeth_cli.proofs.CommandLemmas.{simulate-cycles, tables-cycles}
 use Rattle.aeth_cli.proofs.laws.simulations_end.Goals as goal
 
 -- The words of `simulate` name a number of cycles within the limit.
-pub returns : goal.returns
-returns c = simulate-cycles
+pub returns-clause-headers : goal.returns-clause-headers
+returns-clause-headers c = simulate-cycles
+
+-- So do those of `simulate-tables`.
+pub returns-clause-tables : goal.returns-clause-tables
+returns-clause-tables c = tables-cycles

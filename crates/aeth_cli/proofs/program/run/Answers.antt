@@ -6,5 +6,6 @@ pub returns-in-Ok : goal.returns-in-Ok
 returns-in-Ok g c =
     let ends = c.end_with.ensures in
     rw c.number.ensures
-    (Promise-ended g.M.Machine.outcome g.H.Shelf g.O.Sink g.E.Sink _ _ _ c.in-Ok.ensures.after
-    c.in-Ok.answer c.in-Ok.ensures.answers ends.out_later ends.err_later _ ends)
+    (Promise-ended
+    (record { headers = g.M.Machine.outcome; tables = g.T.Machine.outcome })
+    g.H.Shelf g.O.Sink g.E.Sink _ _ _ c.in-Ok.ensures.after c.in-Ok.answer c.in-Ok.ensures.answers ends.out_later ends.err_later _ ends)

@@ -1,4 +1,6 @@
 use Rattle.aeth_accepted.specs.Inputs.{run_of}
+use Rattle.aeth_running.proofs.RouterTables.{headers-route}
+use Rattle.aeth_running.specs.Routing.{ByHeaders}
 use Rattle.aeth_headline.specs.Headline.{network_outcome}
 use Rattle.aeth_headline.proofs.HeadlineLemmas.{headline}
 use Rattle.aeth_headline.proofs.headline.run.Goals as goal
@@ -7,12 +9,13 @@ use Rattle.aeth_headline.proofs.headline.run.Goals as goal
 pub returns : goal.returns
 returns g c =
     headline (record {
-      ends = c.simulations_end.ensures;
+      ends = c.simulations_end.ensures.headers;
+      ends_tables = c.simulations_end.ensures.tables;
       simulated = c.simulated_runs.ensures network_outcome;
       allocated = c.allocated_designs.ensures;
       holds = λ inputs accepted. record {
         one_flit = c.links_carry_one.ensures.one inputs accepted;
-        wires = c.networks_carry.ensures.first inputs accepted;
+        wires = c.networks_carry.ensures.first inputs accepted ByHeaders (headers-route inputs);
         landings = c.rows_are_landings.ensures (run_of inputs)
             (c.runs_are_sound.ensures.sound inputs accepted);
         independent = λ other. c.channels_are_independent.ensures (run_of inputs) (run_of other);

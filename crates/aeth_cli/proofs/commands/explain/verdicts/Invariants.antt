@@ -1,9 +1,0 @@
-use Rattle.std.proofs.Common.{◌≡◌, drop}
-use Rattle.aeth_cli.specs.Commands.Explain.{verdicts_job}
-use Rattle.aeth_cli.proofs.commands.explain.verdicts.Given as goal
-
--- What is left comes to what all comes to.
-abbrev pub invariant-loop-i : goal.invariant-loop-i
-invariant-loop-i l =
-    verdicts_job l.design l.line (drop l.i l.refusals.tries) (drop l.i l.blocks)
-    ≡ verdicts_job l.design 2 l.refusals.tries l.blocks

@@ -1,6 +1,0 @@
-use Rattle.aeth_cli.proofs.ToldLemmas.{allocated}
-use Rattle.aeth_cli.proofs.laws.allocated_designs.Goals as goal
-
--- A job of `allocate` that refuses no file is the allocation of a chip and an application.
-pub returns : goal.returns
-returns c = allocated (record { chip = c.files.ensures; app = c.files-2.ensures })

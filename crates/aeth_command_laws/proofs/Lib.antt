@@ -1,0 +1,2 @@
+mod CertifiedLemmas
+mod ToldLemmas

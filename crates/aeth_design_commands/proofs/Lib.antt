@@ -1,0 +1,2 @@
+mod AllocationLemmas
+mod SlotJobs

@@ -1,0 +1,2 @@
+mod ExplainLemmas
+mod VerdictJobs

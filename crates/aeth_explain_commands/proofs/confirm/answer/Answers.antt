@@ -1,0 +1,26 @@
+use Rattle.std.proofs.lemmas.Result.{err_from_is_err_and}
+use Rattle.aeth_answers.specs.Places.{files_of}
+use Rattle.aeth_answers.proofs.FileLemmas.{Answers-stopped, Answers-then}
+use Rattle.aeth_files.specs.Files.{design_file}
+use Rattle.aeth_playing.specs.declared.inputs.Design.{Design}
+use Rattle.aeth_explain_commands.specs.Explain.{cert_task}
+use Rattle.aeth_explain_commands.proofs.confirm.answer.Goals as goal
+
+-- There is no design.
+pub returns-in_err-design : goal.returns-in_err-design
+returns-in_err-design g c =
+    let p = err_from_is_err_and c.from_residual.result c.from_residual.ensures.1 in
+    rw (p.1, p.2)
+    (Answers-stopped (files_of g.H.Shelf c.args.shelf.now)
+    (files_of g.H.Shelf c.read_design.new.shelf) (design_file c.args.chip.now c.args.app.now)
+    (λ (design : Design). design) (λ design. cert_task design c.args.cert.now) _
+    c.in_err-design.ensures.judges)
+
+-- What comes of the design is answered.
+pub returns : goal.returns
+returns g c =
+    Answers-then (files_of g.H.Shelf c.args.shelf.now)
+    (files_of g.H.Shelf c.read_design.new.shelf) (files_of g.H.Shelf c.cert_answer.new.shelf)
+    (design_file c.args.chip.now c.args.app.now) (λ (one : Design). one)
+    c.in_ok-design.design (λ design. cert_task design c.args.cert.now)
+    c.cert_answer.result c.in_ok-design.ensures.judges c.cert_answer.ensures

@@ -1,0 +1,34 @@
+use Rattle.std.proofs.lemmas.Result.{err_from_is_err_and}
+use Rattle.aeth_playing.specs.declared.inputs.Planned.{Planned}
+use Rattle.aeth_answers.specs.Places.{files_of}
+use Rattle.aeth_answers.proofs.FileLemmas.{Answers-stopped, Answers-then}
+use Rattle.aeth_files.specs.Plans.{accepted_file}
+use Rattle.aeth_plan_commands.specs.Chain.{words_task}
+use Rattle.aeth_plan_commands.proofs.chain.planned_answer.Goals as goal
+
+-- There is no accepted plan.
+pub returns-in_err-planned : goal.returns-in_err-planned
+returns-in_err-planned g c =
+    let p = err_from_is_err_and c.from_residual.result c.from_residual.ensures.1 in
+    let design = c.args.design.now in
+    let files = c.args.files.now in
+    let run = c.args.run.now in
+    rw (p.1, p.2)
+    (Answers-stopped (files_of g.H.Shelf c.args.shelf.now)
+    (files_of g.H.Shelf c.read_accepted.new.shelf)
+    (accepted_file design.chip design.app files.plan) (λ (planned : Planned). planned.plan)
+    (λ plan. words_task design files plan run.u run.items.items run.cycles) _
+    c.in_err-planned.ensures.judges)
+
+-- What comes of the plan is answered.
+pub returns : goal.returns
+returns g c =
+    let design = c.args.design.now in
+    let files = c.args.files.now in
+    let run = c.args.run.now in
+    Answers-then (files_of g.H.Shelf c.args.shelf.now)
+    (files_of g.H.Shelf c.read_accepted.new.shelf) (files_of g.H.Shelf c.words_answer.new.shelf)
+    (accepted_file design.chip design.app files.plan) (λ (planned : Planned). planned.plan)
+    c.in_ok-planned.planned
+    (λ plan. words_task design files plan run.u run.items.items run.cycles) c.words_answer.result
+    c.in_ok-planned.ensures.judges c.words_answer.ensures

@@ -1,0 +1,2 @@
+mod DemoLemmas
+pub mod RangeLemmas
