@@ -1,4 +1,5 @@
-"""Tests of README.md and of the pages of help: each command that they show prints what stands there."""
+"""Tests of README.md and of the pages of help: each command that they show prints what stands there; and of all documents:
+each file that they name is there."""
 import re
 import shutil
 import subprocess
@@ -7,6 +8,8 @@ import unittest
 from home import Home, PROGRAM, TOP
 
 README = (TOP / "README.md").read_text()
+DOCUMENTS = {path: path.read_text() for place in ("*.md", "docs/*.md", "bench/*.md", "crates/*/README.md")
+             for path in sorted(TOP.glob(place))}
 
 
 def sessions():
@@ -14,6 +17,44 @@ def sessions():
     for block in re.findall(r"^```\n(\$ .*?)^```", README, re.M | re.S):
         parts = re.split(r"^\$ ", block.replace("\\\n", ""), flags=re.M)[1:]
         yield [tuple(part.split("\n", 1)) for part in parts]
+
+
+def anchors(text):
+    """The headings of a document, as a link names them."""
+    headings = re.findall(r"^#+ (.*)", text, re.M)
+    return {re.sub(r"[^\w -]", "", heading.lower()).replace(" ", "-") for heading in headings}
+
+
+class Documents(unittest.TestCase):
+    def test_links(self):
+        for path, text in DOCUMENTS.items():
+            for name, link, anchor in re.findall(r"\[([^]]*)\]\((?!http)([^)#]*)#?([^)]*)\)", text):
+                target = (path.parent / link).resolve() if link else path
+                self.assertTrue(target.exists(), f"{path}: {link}")
+                if anchor:
+                    self.assertIn(anchor, anchors(target.read_text()), path)
+                word = re.fullmatch(r"`(\w+)`", name)
+                if word and target.suffix in (".antt", ".rt"):
+                    has = re.search(rf"\b{word[1]}\b", target.read_text() + " " + target.stem)
+                    self.assertTrue(has, f"{path}: {word[1]}")
+
+    def test_paths(self):
+        """A path from the top, or within the crate whose page names it; NAME stands for any."""
+        for path, text in DOCUMENTS.items():
+            own = path.parent if path.parent.parent.name == "crates" else TOP
+            within = r"(?:crates|src|specs|proofs|must-fail)/" if own != TOP else "crates/"
+            for name in re.findall(rf"`({within}[\w/+]+\.\w+)`", text):
+                if "NAME" not in name:
+                    home = TOP if name.startswith("crates/") else own
+                    self.assertTrue((home / name).exists(), f"{path}: {name}")
+
+    def test_crates(self):
+        """The page of each crate names what it stands on, as crates.txt does."""
+        for line in (TOP / "crates.txt").read_text().splitlines()[1:]:
+            crate, below = line.split(":")
+            said = re.search(r"Stands on (.*?)\.(?=\s|$)", DOCUMENTS[TOP / "crates" / crate / "README.md"], re.S)
+            self.assertEqual(set(re.findall(r"`(\w+)`", said[1])), set(below.split()), crate)
+            self.assertRegex(README + DOCUMENTS[TOP / "docs/ARCHITECTURE.md"], rf"\b{crate}\b")
 
 
 @unittest.skipUnless(PROGRAM, "there is no program: `./aeth` or `rt ci` builds it")
