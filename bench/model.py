@@ -1,10 +1,11 @@
-"""Prints what `allocate`, `explain`, `route-tables`, `simulate`, `links`, `audit`, `chain` and `demo` must print, from
-the rules in docs/RULES.md alone.
+"""Prints what `allocate`, `explain`, `route-tables`, `simulate`, `simulate-tables`, `links`, `audit`, `chain` and `demo`
+must print, from the rules in docs/RULES.md alone.
 
     python3 bench/model.py allocate CHIP APP
     python3 bench/model.py explain CHIP APP [CERT]
     python3 bench/model.py route-tables CHIP APP PLAN USE
     python3 bench/model.py simulate CHIP APP PLAN WORDS RECEIVERS SWITCHES CYCLES
+    python3 bench/model.py simulate-tables CHIP APP PLAN WORDS RECEIVERS SWITCHES CYCLES
     python3 bench/model.py links CHIP APP PLAN WORDS RECEIVERS SWITCHES CYCLES
     python3 bench/model.py audit CHIP APP PLAN SWITCHES LOG CYCLES
     python3 bench/model.py chain CHIP APP PLAN USE CHAIN WORDS RECEIVERS CYCLES
