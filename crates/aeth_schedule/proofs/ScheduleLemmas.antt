@@ -36,11 +36,42 @@ use Rattle.aeth_schedule.specs.Rooms.{queue_number}
 use Rattle.aeth_schedule.specs.declared.lines.Line.{Line}
 use Rattle.std.proofs.lemmas.List.FromFn.{get_or-map-range_with_len, length-map-range_with_len}
 use Rattle.aeth_schedule.specs.Made.{AreRows, IsSetting, IsTask, events_over, loaded_over}
+use Rattle.aeth_schedule.specs.Goings.{goings_from}
 use Rattle.aeth_schedule.specs.Made.{timed_over}
+use Rattle.aeth_schedule.specs.Tasks.{AreSpansFor}
+use Rattle.aeth_schedule.specs.Windows.{windows_over}
 use Rattle.aeth_schedule.specs.Values.{values_of}
 use Rattle.aeth_schedule.specs.Switching.{events_by, loaded_of, switches_from, timed_of}
 use Rattle.aeth_schedule.specs.Timed.{within}
 use Rattle.aeth_schedule.proofs.LineLemmas.{changed-of, line-at, lines-all, rows-with}
+
+-- What is made of a list of rows is the same with other spans, where these are the same as soon as a
+-- switch follows the first row.
+module _ (groups : GroupsData) (spans other : SpanData) (all : List (List Line)) where
+  pub timed-by : (rows : List SwitchRow) (cycles : ℕ) → (2 ≤ length rows → spans ≡ other)
+      → timed_over groups spans all rows cycles ≡ timed_over groups other all rows cycles
+  timed-by [] cycles same = refl
+  timed-by (first ∷ []) cycles same = refl
+  timed-by (first ∷ row ∷ rows) cycles same =
+      ap (λ (s : SpanData). timed_over groups s all (first ∷ row ∷ rows) cycles)
+      (same (omega arith))
+
+  pub goings-by : (words : List WordRow) (cycles : ℕ) (rows : List SwitchRow)
+      → (2 ≤ length rows → spans ≡ other)
+      → goings_from groups spans all words cycles rows
+      ≡ goings_from groups other all words cycles rows
+  goings-by words cycles [] same = refl
+  goings-by words cycles (first ∷ []) same = refl
+  goings-by words cycles (first ∷ row ∷ rows) same =
+      ap (λ (s : SpanData). goings_from groups s all words cycles (first ∷ row ∷ rows))
+      (same (omega arith))
+
+pub windows-by : (spans other : SpanData) (rows : List SwitchRow)
+    → (2 ≤ length rows → spans ≡ other) → windows_over spans rows ≡ windows_over other rows
+windows-by spans other [] same = refl
+windows-by spans other (first ∷ []) same = refl
+windows-by spans other (first ∷ row ∷ rows) same =
+    ap (λ (s : SpanData). windows_over s (first ∷ row ∷ rows)) (same (omega arith))
 
 module _ (inputs : Inputs) (accepted : AreAccepted inputs) where
   -- There are as many shapes as rows.
@@ -196,34 +227,42 @@ module _ (inputs : Inputs) (accepted : AreAccepted inputs) where
         ]
       ])
 
+  -- The spans of the plan serve.
+  pub planned-spans : ((u v : ℕ) → u < length (groups_of inputs.app).uses
+      → v < length (groups_of inputs.app).uses → (span_of (run_of inputs).spans u v).0
+      ≡ lag_of inputs.chip inputs.app (groups_of inputs.app) inputs.plan u v)
+      → AreSpansFor inputs (run_of inputs).spans
+  planned-spans lags =
+      let size = length-groups_of inputs.app in
+      record {
+        uses = spans-are;
+        lags = λ u v from to. rw (lags u v from to) (lag-short u v (omega (arith, size, from)));
+        planned = λ some. refl;
+      }
+
   -- What events and sessions are made from.
   module _ (groups : GroupsData) (spans : SpanData) (all : List (List Line))
-      (groups_are : groups ≡ groups_of inputs.app) (spans_are : spans ≡ (run_of inputs).spans)
+      (groups_are : groups ≡ groups_of inputs.app) (spans_are : AreSpansFor inputs spans)
       (all_are : all ≡ all_lines inputs) where
     setting-of : IsSetting groups spans all
-    setting-of =
-        rw (groups_are, spans_are, all_are) (record { spans_are = spans-are; lines_are = lines-are })
+    setting-of = record {
+      spans_are = rw groups_are spans_are.uses;
+      lines_are = rw (groups_are, all_are) lines-are;
+    }
 
     pub task-of : (words : List WordRow) (starts : List ℕ) (cycles : ℕ) → words ≡ inputs.words
         → starts ≡ map (λ c. length (values_of inputs.words c))
         (range_with_len 0 (length inputs.app.connections))
-        → cycles ≡ inputs.cycles
-        → ((u v : ℕ) → u < length (groups_of inputs.app).uses
-        → v < length (groups_of inputs.app).uses
-        → (span_of (run_of inputs).spans u v).0
-        ≡ lag_of inputs.chip inputs.app (groups_of inputs.app) inputs.plan u v)
-        → IsTask groups spans all words starts cycles
-    task-of words starts cycles words_are starts_are cycles_are lags =
+        → cycles ≡ inputs.cycles → IsTask groups spans all words starts cycles
+    task-of words starts cycles words_are starts_are cycles_are =
         let count : length starts ≡ length inputs.app.connections =
         ap (λ (list : List ℕ). length list) starts_are
         ∙ length-map-range_with_len (λ c. length (values_of inputs.words c)) 0
         (length inputs.app.connections) in
-        let size = length-groups_of inputs.app in
         let fit = all-fit in
         record {
           setting = setting-of;
-          lags = rw (groups_are, spans_are) (λ u v from to.
-              rw (lags u v from to) (lag-short u v (omega (arith, size, from))));
+          lags = rw groups_are spans_are.lags;
           few = rw words_are accepted.words.few;
           order = rw words_are accepted.words.order;
           connections = rw count accepted.design.app_is.connections;

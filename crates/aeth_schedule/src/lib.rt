@@ -2,6 +2,7 @@
 //! first cycle.
 #![tactic(auto)]
 
+mod durations;
 mod going;
 mod lines;
 mod placing;

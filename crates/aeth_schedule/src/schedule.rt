@@ -5,6 +5,7 @@ ghost use Rattle.aeth_schedule.specs.Lines.{all_lines, lines_of};
 ghost use Rattle.aeth_schedule.specs.Schedule.{schedule_of};
 ghost use Rattle.aeth_schedule.specs.Tasks.{IsTaskOf};
 
+use crate::durations::spans_for;
 use crate::going::{Going, goings_of};
 use crate::lines::Lines;
 use crate::placing::starts;
@@ -15,7 +16,7 @@ use crate::windows::{Window, windows_of};
 use aeth_accepted::RunInputs;
 use aeth_base::{NoMemory, UseId};
 use aeth_components::Event;
-use aeth_tables::{spans, tables};
+use aeth_tables::tables;
 use std::alloc::Global;
 use std::marker::Model;
 
@@ -54,16 +55,9 @@ impl Schedule {
     pub fn of(alloc: Global, inputs: &RunInputs) -> Result<Schedule, NoMemory>
         ensures { IfOk result (λ schedule. schedule ≡ schedule_of inputs.now) }
     {
-        aeth_tables::laws::switches();
         inputs.are_accepted();
         let all = lines_of_uses(alloc, inputs)?;
-        let spans = spans(
-            alloc,
-            inputs.chip(),
-            inputs.app(),
-            inputs.groups(),
-            inputs.plan(),
-        )?;
+        let spans = spans_for(alloc, inputs)?;
         let starts = starts(alloc, inputs.app(), inputs.words())?;
         let task = Task {
             groups: inputs.groups(),

@@ -1,7 +1,11 @@
 use Rattle.std.proofs.Common.{refl}
+use Rattle.aeth_accepted.specs.Inputs.{run_of}
+use Rattle.aeth_group.specs.Members.{groups_of}
 use Rattle.aeth_schedule.specs.Goings.{goings_of}
+use Rattle.aeth_schedule.specs.Lines.{all_lines}
 use Rattle.aeth_schedule.specs.Rooms.{rooms_of}
-use Rattle.aeth_schedule.proofs.ScheduleLemmas.{all-fit, lines-are, loaded-same, rows-are, timed-same}
+use Rattle.aeth_schedule.proofs.ScheduleLemmas.{all-fit, goings-by, lines-are, loaded-same, rows-are}
+use Rattle.aeth_schedule.proofs.ScheduleLemmas.{timed-by, timed-same, windows-by}
 use Rattle.aeth_schedule.proofs.schedule.made.Goals as goal
 
 -- Each switch enters a use case that has its channels.
@@ -42,6 +46,9 @@ unfolding goings_of rooms_of
 returns c =
     let inputs = c.args.inputs.now in
     let accepted = c.are_accepted.ensures in
+    let groups = groups_of inputs.app in
+    let task = c.args.task.now.spans.now in
+    let planned = c.requires.spans.planned in
     rw (
       c.in_ok-loaded_of.ensures,
       c.in_ok-timed_events.ensures.events,
@@ -53,10 +60,14 @@ returns c =
       c.switches.ensures,
       c.chip.ensures,
       c.requires.groups,
-      c.requires.spans,
       c.requires.lines,
       c.requires.words,
       c.requires.cycles,
+      timed-by groups task (run_of inputs).spans (all_lines inputs) inputs.switches inputs.cycles
+          planned,
+      goings-by groups task (run_of inputs).spans (all_lines inputs) inputs.words inputs.cycles
+          inputs.switches planned,
+      windows-by task (run_of inputs).spans inputs.switches planned,
       timed-same inputs accepted inputs.switches refl,
       loaded-same inputs accepted inputs.switches refl,
     ) refl
