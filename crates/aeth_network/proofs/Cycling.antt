@@ -1,5 +1,5 @@
 -- What a cycle brings, read off the rows between two places, and the components that it makes ready.
-use Rattle.std.proofs.Common.{◌≡◌, ◌≤◌, ◌<◌, ◌+◌, ◌==◌, ◌++◌, ◌∙◌, ◌-◌, ◌^◌, ℕ, zero, List, [], ◌∷◌}
+use Rattle.std.proofs.Common.{◌≡◌, ◌≤◌, ◌<◌, ◌+◌, ◌==◌, ◌++◌, ◌∙◌, ◌-◌, ◌^◌, ℕ, List, [], ◌∷◌}
 use Rattle.std.proofs.Common.{ap, arith, cond, drop, filter, fold, get_or, inl, inr, length, map}
 use Rattle.std.proofs.Common.{nat_lt, refl, subst, suc, sym, take}
 use Rattle.std.specs.Prelude.{All, slice_range, vec_capacity}

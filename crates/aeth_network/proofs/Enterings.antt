@@ -1,5 +1,5 @@
 -- Rows that enter the tables of a network's routers, and those of use cases.
-use Rattle.std.proofs.Common.{◌≡◌, ◌≤◌, ◌<◌, ◌+◌, ◌-◌, ◌==◌, ◌∙◌, ℕ, All, Bool, List, [], ◌∷◌, ap, arith}
+use Rattle.std.proofs.Common.{◌≡◌, ◌<◌, ◌+◌, ◌-◌, ◌==◌, ◌∙◌, ℕ, All, Bool, List, [], ◌∷◌, ap, arith}
 use Rattle.std.proofs.Common.{drop, filter, fold, inl, inr, length, map, nat_lt, refl, subst, sym, take, true}
 use Rattle.std.specs.Prelude.{Ok, slice_range}
 use Rattle.std.proofs.lemmas.Bool.{cases_Bool}
@@ -8,7 +8,6 @@ use Rattle.std.proofs.lemmas.List.{drop-map, get_or-map, length-map, take-map}
 use Rattle.std.proofs.lemmas.List.Elements.{All-cons, All-head, All-map, All-nil, All-tail, All-weaker}
 use Rattle.aeth_router.proofs.RowLemmas.{row-fits}
 use Rattle.aeth_router.specs.Rows.{IsRowFor, is_for, with_table}
-use Rattle.aeth_router.specs.TableRouter.{TableRouterState}
 use Rattle.aeth_router.specs.declared.part.Part.{Part}
 use Rattle.aeth_router.specs.declared.part.Part.TheVariants.{Interface, Router, Stage, TableRouter}
 use Rattle.aeth_router.specs.declared.router_row.RouterRow.{RouterRow}

@@ -1,5 +1,5 @@
 -- The rows that are in the tables of routers in a cycle are those of the use case in force.
-use Rattle.std.proofs.Common.{◌≡◌, ◌≤◌, ◌<◌, ◌+◌, ◌∙◌, ℕ, All, Bool, List, [], ◌∷◌, ap, arith, cond}
+use Rattle.std.proofs.Common.{◌≡◌, ◌≤◌, ◌+◌, ◌∙◌, ℕ, All, Bool, List, [], ◌∷◌, ap, arith, cond}
 use Rattle.std.proofs.Common.{filter, fold, inl, inr, map, nat_lt, refl, sym}
 use Rattle.std.specs.Prelude.{Ok}
 use Rattle.std.specs.List.Sorted.{IsNonDecreasingBy}

@@ -1,7 +1,6 @@
 -- The tables of accepted inputs are such as routers need, and those that are made of a list.
-use Rattle.std.proofs.Common.{◌≡◌, ◌≤◌, ◌<◌, ◌∙◌, ℕ, All, Contains, List, [], ◌∷◌, ap, arith, length, map}
+use Rattle.std.proofs.Common.{◌≡◌, ◌<◌, ℕ, All, Contains, List, [], ◌∷◌, arith, length, map}
 use Rattle.std.proofs.Common.{refl, subst, sym}
-use Rattle.std.specs.List.{range_with_len}
 use Rattle.std.proofs.lemmas.List.Elements.{All-head, All-map, All-tail}
 use Rattle.std.proofs.lemmas.List.FromFn.{get_or-map-range_with_len}
 use Rattle.aeth_base.proofs.Members.{Contains-slice_get}
@@ -16,14 +15,12 @@ use Rattle.aeth_accepted.specs.Inputs.{AreAccepted, Inputs, run_of}
 use Rattle.aeth_fabric.specs.Fabric.{fabric_of}
 use Rattle.aeth_rtable.specs.InForce.{rows_in_force}
 use Rattle.aeth_rtable.specs.Sending.{from_rows}
-use Rattle.aeth_running.specs.Idle.{FallsOn}
 use Rattle.aeth_running.specs.Routing.{AreRowsOn, ByTables, Entering, IsRoutingFor, IsSwitched}
-use Rattle.aeth_running.specs.Routing.{Routing, later_rows, rows_at}
+use Rattle.aeth_running.specs.Routing.{rows_at}
 use Rattle.aeth_schedule.specs.Switching.{later_switches}
 use Rattle.aeth_schedule.specs.Windows.{Writes}
 use Rattle.aeth_network.proofs.Enterings.{first-known, later-known}
 use Rattle.aeth_network.specs.Routes.{entered_by, entering_of, first_use, routing_by, rows_in}
-use Rattle.aeth_network.specs.Routes.{tables_as}
 use Rattle.aeth_network.specs.declared.tables.EnteredUse.{EnteredUse}
 use Rattle.aeth_table_network.specs.Tables.{all_rows, rows_of_use, tables_of}
 use Rattle.aeth_table_network.proofs.InForce.{over-rising}

@@ -1,4 +1,4 @@
-use Rattle.std.proofs.Common.{◌≡◌, ◌∙◌, ℕ, List, ap, map, subst, sym}
+use Rattle.std.proofs.Common.{◌∙◌, ℕ, List, ap, subst, sym}
 use Rattle.std.specs.List.Sorted.{IsNonDecreasingBy}
 use Rattle.aeth_running.specs.Routing.{Entering, Routing, later_rows}
 use Rattle.aeth_network.proofs.Enterings.{behind-mapped, passed-mapped, rises-mapped}

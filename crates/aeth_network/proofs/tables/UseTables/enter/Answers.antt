@@ -1,4 +1,4 @@
-use Rattle.std.proofs.Common.{◌∙◌, ◌-◌, All, List, ap, drop, fold, map, subst, sym}
+use Rattle.std.proofs.Common.{◌∙◌, ◌-◌, All, List, ap, drop, fold, subst, sym}
 use Rattle.std.specs.Prelude.{slice_range}
 use Rattle.std.proofs.lemmas.List.Elements.{All-drop, All-take}
 use Rattle.std.proofs.lemmas.List.Folds.{fold-map}
