@@ -39,6 +39,7 @@ use Rattle.aeth_report.specs.declared.session.Session.{Session}
 use Rattle.aeth_running.specs.Network.{first_network, played}
 use Rattle.aeth_running.specs.Routing.{ByHeaders}
 use Rattle.aeth_server.specs.Landing.{IsDue}
+use Rattle.aeth_table_network.specs.Tables.{tables_of}
 use Rattle.aeth_answers.specs.Job.{Job}
 use Rattle.aeth_answers.specs.Places.{Places}
 use Rattle.aeth_answers.specs.Status.{done_status, not_granted_status}
@@ -68,6 +69,11 @@ pub record HoldsOfRun (inputs : Inputs) : Type 0 where
   -- In the network the first wire of the link has just that flit, or none.
   pub wires : (l t : ℕ) → t < inputs.cycles → l < length inputs.chip.links
       → option_to_list (flit_on (played (t + 1) (first_network inputs ByHeaders)).components.wires l)
+      ≡ carries (run_of inputs) l t
+  -- So it has in the network whose routers look slot tables up.
+  pub wires_by_tables : (l t : ℕ) → t < inputs.cycles → l < length inputs.chip.links
+      → option_to_list
+      (flit_on (played (t + 1) (first_network inputs (tables_of inputs))).components.wires l)
       ≡ carries (run_of inputs) l t
   -- Row k of a session is its word k + 1, in the cycle in which it lands on the session's private
   -- server: words land in order, and once.

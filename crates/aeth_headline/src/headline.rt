@@ -34,5 +34,6 @@ pub fn run<H: Shelf, O: Sink, E: Sink>(
     aeth_report::laws::rows_are_landings();
     aeth_report::laws::channels_are_independent();
     aeth_running::laws::networks_carry();
+    aeth_table_network::laws::tables_route();
     aeth_cli::run::<Network, TableNetwork, H, O, E>(alloc, words, shelf, out, err)
 }

@@ -1,6 +1,7 @@
 use Rattle.aeth_accepted.specs.Inputs.{run_of}
 use Rattle.aeth_running.proofs.RouterTables.{headers-route}
 use Rattle.aeth_running.specs.Routing.{ByHeaders}
+use Rattle.aeth_table_network.specs.Tables.{tables_of}
 use Rattle.aeth_headline.specs.Headline.{network_outcome}
 use Rattle.aeth_headline.proofs.HeadlineLemmas.{headline}
 use Rattle.aeth_headline.proofs.headline.run.Goals as goal
@@ -16,6 +17,8 @@ returns g c =
       holds = λ inputs accepted. record {
         one_flit = c.links_carry_one.ensures.one inputs accepted;
         wires = c.networks_carry.ensures.first inputs accepted ByHeaders (headers-route inputs);
+        wires_by_tables = c.networks_carry.ensures.first inputs accepted (tables_of inputs)
+            (c.tables_route.ensures inputs accepted);
         landings = c.rows_are_landings.ensures (run_of inputs)
             (c.runs_are_sound.ensures.sound inputs accepted);
         independent = λ other. c.channels_are_independent.ensures (run_of inputs) (run_of other);
