@@ -1,12 +1,13 @@
 -- Channels by their numbers.
-use Rattle.std.proofs.Common.{◌≡◌, ◌<◌, ◌∙◌, ◌*◌, ℕ, true, refl, sym, ap, inl, inr, arith}
+use Rattle.std.proofs.Common.{◌≡◌, ◌<◌, ◌∙◌, ◌*◌, ℕ, refl, inl, inr, arith}
 use Rattle.std.specs.Prelude.{◌==◌, ◌/◌, ◌%◌}
-use Rattle.std.proofs.lemmas.Bool.{cases_Bool, eq-eqb, eqb-false, eqb-true, false_from_ne_true}
+use Rattle.std.proofs.lemmas.Bool.{cases_Bool, eqb-false, eqb-true}
+use Rattle.std.proofs.lemmas.Bool.Decides.{nat_tests}
 use Rattle.aeth_base.specs.declared.ids.Channel.{Channel}
 use Rattle.aeth_base.specs.declared.ids.Side.{Side}
 use Rattle.aeth_base.specs.declared.ids.Side.TheVariants.{Back, Fwd}
 use Rattle.aeth_trace.specs.Channels.{channel_number, is_channel, side_number}
-use Rattle.aeth_report.proofs.ChannelLemmas.{is_channel-itself, same_channel}
+use Rattle.aeth_trace.proofs.IndexLemmas.{same_sides}
 
 -- A side has one of two numbers, and no other side has it.
 side-small : (side : Side) → side_number side < 2
@@ -64,15 +65,7 @@ channel-of connections number within = elim (cases_Bool (number % 2 == 0)) [
 -- Numbers tell channels apart.
 pub numbers-tell : (channel other : Channel)
     → (channel_number other == channel_number channel) ≡ is_channel channel other
-numbers-tell channel other = elim (cases_Bool (is_channel channel other)) [
-  | inl is ↦
-      let same = same_channel channel other is in
-      eq-eqb (channel_number other) (channel_number channel) (sym (ap channel_number same)) ∙ sym is
-  | inr not ↦
-      false_from_ne_true (channel_number other == channel_number channel) (λ equal.
-      let same = channel-same channel other
-      (sym (eqb-true (channel_number other) (channel_number channel) equal)) in
-      let itself : is_channel channel other ≡ true =
-      ap (is_channel channel) (sym same) ∙ is_channel-itself channel in
-      absurd (cc (itself, not))) ∙ sym not
-]
+numbers-tell channel other =
+    let either : (channel_number other == channel_number channel)
+    ≡ (channel_number channel == channel_number other) = grind (arith, nat_tests) in
+    either ∙ same_sides channel.conn.0 other.conn.0 channel.side other.side

@@ -1,34 +1,27 @@
 -- What a cycle of components keeps of a channel: all but how many words were handed on, have landed and
 -- were taken. And what holds of all components still does.
-use Rattle.std.proofs.Common.{◌≡◌, ◌∙◌, ℕ, List, [], ◌∷◌, Option, Some, None, fold, length, map}
-use Rattle.std.proofs.Common.{slice_get}
-use Rattle.std.proofs.Common.{refl, sym, ap, subst, inl, inr, arith}
-use Rattle.std.specs.Prelude.{option_map}
+use Rattle.std.proofs.Common.{◌≡◌, ◌∙◌, ℕ, List, Option, length, map}
+use Rattle.std.proofs.Common.{refl, sym, ap, subst, arith}
 use Rattle.std.specs.List.{All, range_with_len}
-use Rattle.std.proofs.Math.Seq.{map-set_same}
-use Rattle.std.proofs.lemmas.Bool.{cases_Bool}
 use Rattle.std.proofs.lemmas.List.{length-map}
 use Rattle.std.proofs.lemmas.List.Elements.{All-map}
-use Rattle.std.proofs.lemmas.Option.{get_or_from_slice_get, slice_get-map}
 use Rattle.aeth_clocked.specs.declared.flit.Flit.{Flit}
-use Rattle.aeth_router.specs.declared.part.Part.{Part}
-use Rattle.aeth_components.proofs.CountingLemmas.{IsLane-counted, counted-closed, counted-open}
+use Rattle.aeth_components.proofs.CountingLemmas.{IsLane-counted}
 use Rattle.aeth_components.proofs.CountingLemmas.{length-flits_counted, length-notes}
-use Rattle.aeth_components.proofs.FrameLemmas.{frames-absorb, frames-after, from-map}
+use Rattle.aeth_components.proofs.FrameLemmas.{frames-absorb, frames-after}
 use Rattle.aeth_components.proofs.FrameLemmas.{length-wires_driven}
+use Rattle.aeth_components.proofs.KeptLemmas.{IsUncounted, kept-counted, kept-latched}
 use Rattle.aeth_components.proofs.PartLemmas.{frames-switched}
 use Rattle.aeth_components.proofs.TurnLemmas.{All-turns, IsLane-pulled, IsLane-refilled}
 use Rattle.aeth_components.proofs.TurnLemmas.{frames-pulled}
-use Rattle.aeth_components.proofs.TurnLemmas.{frames-refilled, frames-turns, pulled-closed}
-use Rattle.aeth_components.proofs.TurnLemmas.{pulled-open}
-use Rattle.aeth_components.proofs.TurnLemmas.{refilled-closed, refilled-open}
+use Rattle.aeth_components.proofs.TurnLemmas.{frames-refilled, frames-turns}
 use Rattle.aeth_components.specs.Components.{ComponentsState, Cycle, IsComponents, driven_from}
 use Rattle.aeth_components.specs.Components.{frames_of}
 use Rattle.aeth_components.specs.Components.{latched_of, moment_of, ready_of, switched_from}
 use Rattle.aeth_components.specs.Counting.{counted}
 use Rattle.aeth_components.specs.Frames.{Frame, IsWired, frame_of}
-use Rattle.aeth_components.specs.Lanes.{IsLane, is_open}
-use Rattle.aeth_components.specs.Phases.{Moment, in_turn, pulled, refilled, turned, turned_at}
+use Rattle.aeth_components.specs.Lanes.{IsLane}
+use Rattle.aeth_components.specs.Phases.{Moment, in_turn, pulled, refilled}
 use Rattle.aeth_components.specs.declared.event.Event.{Event}
 use Rattle.aeth_components.specs.declared.lane.Lane.{Lane}
 use Rattle.aeth_running.specs.Network.{state_behind}
@@ -37,61 +30,14 @@ use Rattle.aeth_running.specs.Network.{state_behind}
 abbrev pub kept_of : Lane → Lane
 kept_of lane = record lane { handed = 0; landed = 0; taken = 0 }
 
-module _ (turn : List Part → Lane → List Part × Lane)
-    (same : (parts : List Part) (lane : Lane) → kept_of (turn parts lane).1 ≡ kept_of lane) where
-  kept-turned : (moment : Moment) (number : ℕ) (found : Option Lane)
-      → slice_get moment.lanes number ≡ found
-      → map kept_of (turned_at turn moment number found).lanes ≡ map kept_of moment.lanes
-  kept-turned moment number None at = refl
-  kept-turned moment number (Some lane) at =
-      map-set_same kept_of moment.lanes number (turn moment.parts lane).1 lane
-      (same moment.parts lane
-      ∙ ap kept_of (sym (get_or_from_slice_get moment.lanes number lane lane at)))
-
-  kept-turns : (numbers : List ℕ) (moment : Moment)
-      → map kept_of (fold (turned turn) moment numbers).lanes ≡ map kept_of moment.lanes
-  kept-turns [] moment = refl
-  kept-turns (number ∷ numbers) moment =
-      kept-turns numbers (turned turn moment number)
-      ∙ kept-turned moment number (slice_get moment.lanes number) refl
-
-kept-refilled : (words : List ℕ) (t : ℕ) (parts : List Part) (lane : Lane)
-    → kept_of (refilled words t parts lane).1 ≡ kept_of lane
-kept-refilled words t parts lane = elim (cases_Bool (is_open lane t)) [
-  | inl is ↦ ap (λ (done : List Part × Lane). kept_of done.1) (refilled-open words t parts lane is)
-  | inr not ↦
-      ap (λ (done : List Part × Lane). kept_of done.1) (refilled-closed words t parts lane not)
-]
-
-kept-pulled : (t : ℕ) (parts : List Part) (lane : Lane)
-    → kept_of (pulled t parts lane).1 ≡ kept_of lane
-kept-pulled t parts lane = elim (cases_Bool (is_open lane t)) [
-  | inl is ↦ ap (λ (done : List Part × Lane). kept_of done.1) (pulled-open t parts lane is)
-  | inr not ↦ ap (λ (done : List Part × Lane). kept_of done.1) (pulled-closed t parts lane not)
-]
-
-kept-counted : (t : ℕ) (parts : List Part) (lanes : List Lane)
-    → map kept_of (map (counted t parts) lanes) ≡ map kept_of lanes
-kept-counted t parts [] = refl
-kept-counted t parts (lane ∷ lanes) =
-    let one : kept_of (counted t parts lane) ≡ kept_of lane =
-    elim (cases_Bool (is_open lane t)) [
-      | inl is ↦ ap kept_of (counted-open t parts lane is)
-      | inr not ↦ ap kept_of (counted-closed t parts lane not)
-    ] in
-    ap (λ (x : Lane). x ∷ map kept_of (map (counted t parts) lanes)) one
-    ∙ ap (λ (xs : List Lane). kept_of lane ∷ xs) (kept-counted t parts lanes)
+-- It tells none of them.
+uncounted : IsUncounted kept_of
+uncounted = λ lane handed landed taken. refl
 
 module _ (words : List ℕ) (events : List Event) (t : ℕ) (wires : List (Option Flit))
     (moment : Moment) where
   abbrev drove : Moment
   drove = driven_from t (ready_of words events t moment)
-
-  kept-latched : map kept_of (latched_of words events t wires moment).lanes ≡ map kept_of moment.lanes
-  kept-latched =
-      kept-turns (pulled t) (kept-pulled t) (range_with_len 0 (length drove.lanes)) drove
-      ∙ kept-turns (refilled words t) (kept-refilled words t)
-      (range_with_len 0 (length moment.lanes)) (switched_from events moment)
 
   frames-latched : map frame_of (latched_of words events t wires moment).parts
       ≡ map frame_of moment.parts
@@ -122,8 +68,8 @@ module _ (events : List Event) (t : ℕ) (old : ComponentsState) where
   -- A cycle's channels, but for their counts.
   pub lanes-kept : map kept_of (state_behind events t old).lanes ≡ map kept_of old.lanes
   lanes-kept =
-      kept-counted t latched.parts latched.lanes
-      ∙ kept-latched old.words events t new.wires (moment_of old)
+      kept-counted kept_of uncounted t latched.parts latched.lanes
+      ∙ kept-latched kept_of uncounted old.words events t new.wires (moment_of old)
 
   pub frames-kept : frames_of (state_behind events t old) ≡ frames_of old
   frames-kept = frames-latched old.words events t new.wires (moment_of old)
@@ -178,17 +124,3 @@ module _ (events : List Event) (t : ℕ) (old : ComponentsState) where
         flits = omega (arith, few, size, wires);
         few = omega (arith, fewer, size);
       }
-
--- A channel before a cycle stands behind it, but for its counts.
-pub record IsBehind (lanes : List Lane) (number : ℕ) (before : Lane) : Type 0 where
-  pub lane : Lane
-  pub at : slice_get lanes number ≡ Some lane
-  pub same : kept_of before ≡ kept_of lane
-
-pub lane-behind : (old new : List Lane) → map kept_of new ≡ map kept_of old → (number : ℕ)
-    (lane : Lane) → slice_get old number ≡ Some lane → IsBehind new number lane
-lane-behind old new same number lane at =
-    let (after, there, kept) = from-map kept_of new number (kept_of lane)
-    (ap (λ (xs : List Lane). slice_get xs number) same
-    ∙ slice_get-map kept_of old number ∙ ap (option_map kept_of) at) in
-    record { lane = after; at = there; same = kept }

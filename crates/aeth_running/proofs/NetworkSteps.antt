@@ -25,10 +25,11 @@ use Rattle.aeth_schedule.specs.declared.going.Going.{Going}
 use Rattle.aeth_invariant.specs.Events.{AreEvents}
 use Rattle.aeth_invariant.specs.Places.{ArePlaced}
 use Rattle.aeth_invariant.specs.Running.{Prepares}
+use Rattle.aeth_components.proofs.KeptLemmas.{lane-kept}
 use Rattle.aeth_running.proofs.ChannelStates.{HasChannel, StandsAt, Unused, Used}
 use Rattle.aeth_running.proofs.FabricSessions.{Before, Behind, Ordered, Same, placed-known}
 use Rattle.aeth_running.proofs.GoingSessions.{GoesNow}
-use Rattle.aeth_running.proofs.KeptLanes.{cycle-behind, lane-behind, lanes-kept}
+use Rattle.aeth_running.proofs.KeptLanes.{cycle-behind, kept_of, lanes-kept}
 use Rattle.aeth_running.proofs.NetworkLaws.{CycleLaws}
 use Rattle.aeth_running.proofs.Preparing.{prepares}
 use Rattle.aeth_running.proofs.ReadyChannels.{IsReady, ready}
@@ -225,17 +226,17 @@ module _ (inputs : Inputs) (routing : Routing) (routes : IsRoutingFor inputs rou
     then-channel channel known =
         let one = readies channel known in
         let events = events_in network.stimuli network.time in
-        let kept = lane-behind (ready_in network).lanes
+        let (after, there, same) = lane-kept kept_of (ready_in network).lanes
         (state_behind events network.time (ready_in network)).lanes
-        (lanes-kept events network.time (ready_in network)) (channel_number channel) one.lane one.at in
-        let same = kept.same in
+        (sym (lanes-kept events network.time (ready_in network))) (channel_number channel) one.lane
+        one.at in
         record {
-          lane = kept.lane;
+          lane = after;
           until = one.until_now;
-          at = kept.at;
+          at = there;
           until_at = one.until_at;
           pull_is = sym (ap (λ (lane : Lane). lane.pull) same) ∙ one.pull_is;
-          stands = stands-same inputs (t + 1) channel one.until_now one.lane kept.lane
+          stands = stands-same inputs (t + 1) channel one.until_now one.lane after
               (ap (λ (lane : Lane). lane.accepted) same) (ap (λ (lane : Lane). lane.first) same)
               one.stands;
         }

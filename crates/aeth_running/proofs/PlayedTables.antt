@@ -1,7 +1,7 @@
 -- The tables of routers in a network behind some cycles are those of the rows in force, and the rows of a
 -- routing can enter them.
 use Rattle.std.proofs.Common.{◌≡◌, ◌<◌, ◌∙◌, ◌+◌, ℕ, zero, suc, All, IsTrue, List, [], Some, ap, arith}
-use Rattle.std.proofs.Common.{fold, length, map, refl, slice_get, subst, sym, true}
+use Rattle.std.proofs.Common.{fold, length, map, refl, subst, sym, true}
 use Rattle.std.specs.List.Sorted.{IsNonDecreasingBy}
 use Rattle.std.proofs.lemmas.List.Elements.{All-nil, All-weaker}
 use Rattle.aeth_chip.specs.Chip.{ChipData}

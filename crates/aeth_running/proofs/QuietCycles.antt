@@ -227,7 +227,7 @@ module _ (inputs : Inputs) (routing : Routing) (routes : IsRoutingFor inputs rou
         let ready = ready_in now in
         let parts : ready.parts ≡ all.components.parts =
         ap (λ (one : ComponentsState). one.parts) ready-is in
-        silent-mute ready.parts ready.wires n serves.follows.wired serves.follows.latched empty-ready
+        silent-mute ready.parts ready.wires n serves.follows.wired
         (λ l. sym (wires-are l) ∙ silent l) i part
         (ap (λ (list : List Part). slice_get list i) parts ∙ at)
 

@@ -12,6 +12,7 @@ use Rattle.aeth_refinement.specs.Carried.{Exact}
 use Rattle.aeth_refinement.specs.Fabric.{server_at}
 use Rattle.aeth_accepted.specs.Inputs.{Inputs}
 use Rattle.aeth_fabric.specs.Fabric.{fabric_of}
+use Rattle.aeth_components.proofs.KeptLemmas.{lane-kept}
 use Rattle.aeth_invariant.proofs.Routed.{frames-but_tables}
 use Rattle.aeth_invariant.specs.Events.{AreEvents}
 use Rattle.aeth_invariant.specs.Following.{Follows}
@@ -21,7 +22,7 @@ use Rattle.aeth_invariant.specs.Served.{handed_after}
 use Rattle.aeth_invariant.specs.Telling.{HasTold}
 use Rattle.aeth_invariant.specs.View.{net_of}
 use Rattle.aeth_running.proofs.KeptLanes.{components-kept, cycle-behind, flits-kept, frames-kept}
-use Rattle.aeth_running.proofs.KeptLanes.{lane-behind, lanes-kept, length-kept, wires-kept}
+use Rattle.aeth_running.proofs.KeptLanes.{kept_of, lanes-kept, length-kept, wires-kept}
 use Rattle.aeth_running.proofs.NetworkLaws.{CycleLaws}
 use Rattle.aeth_running.specs.Network.{state_behind}
 use Rattle.aeth_running.specs.Running.{HasLast, IsLatest, IsRunning}
@@ -86,13 +87,13 @@ module _ (inputs : Inputs) (laws : CycleLaws) (ok : IsAccepted (fabric_of inputs
   lasts : (c : ℕ) → IsLatest inputs (t + 1) c → HasLast inputs (t + 1) c (state_behind events t ready)
   lasts c latest =
       let told = tells c latest in
-      let kept = lane-behind (state_behind events t ready).lanes ready.lanes
-      (sym (lanes-kept events t ready)) (channel_of inputs c) told.lane told.at in
+      let (before, there, same) = lane-kept kept_of (state_behind events t ready).lanes ready.lanes
+      (lanes-kept events t ready) (channel_of inputs c) told.lane told.at in
       record {
         lane = told.lane;
         at = told.at;
         is = record {
-          first_is = ap (λ (one : Lane). one.first) kept.same ∙ firsts c latest kept.lane kept.at;
+          first_is = ap (λ (one : Lane). one.first) same ∙ firsts c latest before there;
           landed_is = told.landed_is;
           taken_is = told.taken_is;
         };
