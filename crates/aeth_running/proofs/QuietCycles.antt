@@ -1,36 +1,24 @@
 -- Networks of accepted inputs in a stretch of cycles that leave them: which cycle ends it.
-use Rattle.std.proofs.Common.{◌≡◌, ◌≤◌, ◌<◌, ◌∙◌, ◌+◌, ℕ, zero, suc, All, Contains, List, [], None}
-use Rattle.std.proofs.Common.{Option, Some, ap, arith, false, fold, length, map, refl, slice_get, subst}
-use Rattle.std.proofs.Common.{sym}
+use Rattle.std.proofs.Common.{◌≡◌, ◌<◌, ◌∙◌, ◌+◌, ℕ, zero, suc, All, Contains, List, [], None}
+use Rattle.std.proofs.Common.{Some, ap, arith, false, fold, length, refl, slice_get, subst, sym}
 use Rattle.aeth_clocked.specs.Wires.{flit_on}
-use Rattle.aeth_clocked.specs.declared.flit.Flit.{Flit}
 use Rattle.aeth_router.specs.declared.part.Part.{Part}
 use Rattle.aeth_report.specs.Sessions.{Switch}
-use Rattle.aeth_components.specs.Changes.{switched}
-use Rattle.aeth_components.specs.Components.{ComponentsState, Cycle, moment_of, wires_driven}
-use Rattle.aeth_components.specs.Frames.{frame_of}
+use Rattle.aeth_trace.specs.declared.words.WordRow.{WordRow}
+use Rattle.aeth_components.specs.Components.{ComponentsState, moment_of, wires_driven}
 use Rattle.aeth_components.specs.Lanes.{is_open}
 use Rattle.aeth_components.specs.Phases.{Moment, refilled}
 use Rattle.aeth_components.specs.Turns.{sends_own}
 use Rattle.aeth_components.specs.declared.event.Event.{Event}
 use Rattle.aeth_components.specs.declared.lane.Lane.{Lane}
-use Rattle.aeth_refinement.specs.Accepted.{IsAccepted}
-use Rattle.aeth_refinement.specs.Fabric.{Fabric}
-use Rattle.aeth_refinement.specs.Switches.{Switched}
 use Rattle.aeth_accepted.specs.Inputs.{AreAccepted, Inputs, run_of}
 use Rattle.aeth_accepted.proofs.SoundRuns.{AreSpans}
-use Rattle.aeth_fabric.specs.Fabric.{fabric_of}
 use Rattle.aeth_schedule.specs.Switching.{later_switches}
 use Rattle.aeth_schedule.specs.Windows.{IsWithin}
 use Rattle.aeth_stimuli.specs.Stimuli.{Stimuli, stimuli_of}
 use Rattle.aeth_events.specs.Events.{events_in}
-use Rattle.aeth_invariant.specs.Events.{AreEvents}
-use Rattle.aeth_invariant.specs.Following.{Follows}
-use Rattle.aeth_invariant.specs.Framed.{IsFramed}
-use Rattle.aeth_invariant.specs.Served.{handed_after}
-use Rattle.aeth_invariant.specs.View.{net_of}
 use Rattle.aeth_running.proofs.Played.{played-routing, played-stimuli, played-time}
-use Rattle.aeth_running.proofs.RestingNetworks.{hands-rest, stepped-components}
+use Rattle.aeth_running.proofs.RestingNetworks.{stepped-components}
 use Rattle.aeth_running.proofs.RestingStates.{in_turn-rests}
 use Rattle.aeth_running.proofs.StillEvents.{no-events}
 use Rattle.aeth_running.proofs.StillGoings.{no-goings}
@@ -39,7 +27,7 @@ use Rattle.aeth_running.specs.Idle.{FallsOn}
 use Rattle.aeth_running.specs.Network.{NetworkState, accepted_with, first_network, gone_with}
 use Rattle.aeth_running.specs.Network.{goings_in, offers_in, played, ready_in, state_behind, stepped}
 use Rattle.aeth_running.specs.Network.{takes_in, taking_with, untils_in}
-use Rattle.aeth_running.specs.Running.{IsRunning, IsServing}
+use Rattle.aeth_running.specs.Running.{IsServing}
 use Rattle.aeth_running.specs.Still.{IsStill}
 use Rattle.aeth_running.specs.Quiet.{IsQuiet, ready_lanes}
 use Rattle.aeth_running.proofs.MuteParts.{mute-silent, silent-mute}
@@ -140,23 +128,17 @@ module _ (inputs : Inputs) (routing : Routing)
 
 module _ (inputs : Inputs) (routing : Routing) (routes : IsRoutingFor inputs routing)
     (accepted : AreAccepted inputs) (spans : AreSpans inputs accepted)
-    (ok : IsAccepted (fabric_of inputs))
-    (follows-on : (fabric : Fabric) → IsAccepted fabric → (channel : ℕ → ℕ)
-    (events : List Event) (t : ℕ) (handed : ℕ → ℕ) (old new : ComponentsState)
-    → Follows fabric channel t t handed old → AreEvents fabric (t + 1) events
-    → Cycle events t old new → Follows fabric channel t (t + 1)
-    (handed_after fabric (net_of handed (switched events old.parts) old.wires) t) new)
-    (switches : (fabric : Fabric) (e : ℕ) (events : List Event) (parts : List Part)
-    (handed : ℕ → ℕ) (wires : List (Option Flit)) (count : ℕ)
-    → IsFramed fabric (map frame_of parts) count → AreEvents fabric e events
-    → Switched fabric e (net_of handed parts wires) (net_of handed (switched events parts) wires))
-    (events-are : (t : ℕ) → t < inputs.cycles
-    → AreEvents (fabric_of inputs) (t + 1) (events_in (stimuli_of inputs) t))
-    (running : (t : ℕ) → t ≤ inputs.cycles
-    → IsRunning inputs t (played t (first_network inputs routing)).components)
     (serving : (t : ℕ) → t < inputs.cycles
     → IsServing inputs t (played t (first_network inputs routing)).components
     (ready_in (played t (first_network inputs routing))))
+    (hands-rest : (t : ℕ) → t < inputs.cycles
+    → ((l : ℕ) → flit_on (played t (first_network inputs routing)).components.wires l ≡ None)
+    → ((row : WordRow) → Contains inputs.words row → row.cycle ≡ t → ⊥)
+    → (number : ℕ) (lane : Lane)
+    → slice_get (ready_in (played t (first_network inputs routing))).lanes number ≡ Some lane
+    → refilled (ready_in (played t (first_network inputs routing))).words t
+    (ready_in (played t (first_network inputs routing))).parts lane
+    ≡ ((ready_in (played t (first_network inputs routing))).parts, lane))
     (rests : (t : ℕ) → t < inputs.cycles → IsStill (played t (first_network inputs routing))
     → (played (t + 1) (first_network inputs routing)).components
     ≡ ready_in (played t (first_network inputs routing)))
@@ -189,8 +171,7 @@ module _ (inputs : Inputs) (routing : Routing) (routes : IsRoutingFor inputs rou
 
     hands : (number : ℕ) (lane : Lane) → slice_get (ready_in now).lanes number ≡ Some lane
         → refilled (ready_in now).words n (ready_in now).parts lane ≡ ((ready_in now).parts, lane)
-    hands = hands-rest inputs routing ok follows-on switches events-are running serving n early empty-now
-        (no-words inputs n early unoffered)
+    hands = hands-rest n early empty-now (no-words inputs n early unoffered)
 
     -- Behind it they have what the components send that stand so.
     wires-are : (l : ℕ) → flit_on (stepped now).components.wires l
