@@ -11,14 +11,23 @@ def definitions(chip_map):
     return svg.tag("defs", TIP, chip_map.strip.free_cells())
 
 
-def draw_router(chip_map, router):
+def tells_of_router(router, entries):
+    """The entries of a router's slot table, in words."""
+    told = []
+    for (source, target), slots in sorted(entries.items()):
+        named = svg.count(len(slots), "slot").split(" ")[1]
+        told.append(f"{source} {svg.ARROW} {target} in {named} {' '.join(map(str, sorted(slots)))}")
+    return f"router {router}: " + ("; ".join(told) if told else "no entry in its slot table")
+
+
+def draw_router(chip_map, router, tells):
     left, top = chip_map.box(router)
     width, height = chip_map.box_width, chip_map.band
     name = svg.fit(router, width - 8, 14)
     x, y = left + width / 2, top + height / 2 + 4
     return svg.tag(
         "g",
-        svg.title(f"router {router}"),
+        svg.title(tells),
         svg.tag("rect", class_="box", x=left, y=top, width=width, height=height, rx=4),
         svg.tag("text", name, class_="bold mid big", x=x, y=y),
     )
@@ -58,7 +67,7 @@ def draw_link(chip_map, link, used):
 
 def draw_chip(chip_map):
     """The chip without its channels."""
-    design, used = chip_map.design, chip_map.design.used_slots()
+    design, used, entries = chip_map.design, chip_map.design.used_slots(), chip_map.design.entries()
     parts = [draw_link(chip_map, link, used[link.number]) for link in design.links]
-    parts += [draw_router(chip_map, router) for router in design.routers]
+    parts += [draw_router(chip_map, router, tells_of_router(router, entries[router])) for router in design.routers]
     return parts + [draw_interface(chip_map, interface) for interface in design.interfaces]

@@ -2,6 +2,7 @@
 
 The files are read only after `aeth` has accepted them, so nothing is judged here.
 """
+from collections import defaultdict
 from dataclasses import dataclass
 
 import toml_lines
@@ -62,6 +63,15 @@ class Design:
             link = self.links[number]
             yield link, [(start + offset) % self.slots for start in channel.starts]
             offset += link.delay
+
+    def entries(self):
+        """For each router the slots in which it sends what comes from one node on to another: its slot table."""
+        found = {router: defaultdict(list) for router in self.routers}
+        for channel in self.channels:
+            passages = list(self.passages(channel))
+            for (before, _), (link, slots) in zip(passages, passages[1:]):
+                found[link.source][before.source, link.target] += slots
+        return found
 
     def used_slots(self):
         """How many slots of each link are in use."""

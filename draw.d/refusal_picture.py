@@ -200,7 +200,7 @@ def draw_refusal(chip_data, app_data, refusal):
     head, top = draw_head(sentences_of(told, READING), title, width)
     ended = EndedLinks(chip_map, refusal, width, chip_map.height + 2 * MARGIN)
     inner = [draw_link(chip_map, link) for link in design.links]
-    inner += [chip_parts.draw_router(chip_map, router) for router in design.routers]
+    inner += [chip_parts.draw_router(chip_map, router, f"router {router}") for router in design.routers]
     inner += [chip_parts.draw_interface(chip_map, interface) for interface in design.interfaces]
     inner += draw_ends(chip_map, refusal) + ended.draw()
     body = svg.tag("g", "\n" + "\n".join(inner) + "\n", transform=f"translate({MARGIN} {top + 8})")

@@ -109,6 +109,18 @@ class Readme(WithProgram):
 
 
 class Plans(WithProgram):
+    def test_routers_tell_their_entries(self):
+        """Those that `route-tables` prints, by the names of nodes in place of the numbers of ports and links."""
+        for design, uses in ((PAIR, ("u0", "u1")), (VIDEO, ("decode", "menu", "record"))):
+            for use in uses:
+                told = Counter()
+                for title in texts(read(self.draw("plan", *design, use)), "title"):
+                    for slots in re.findall(r" in slots? ([\d ]+)", title) if title.startswith("router ") else []:
+                        told[title.split(" ")[1].rstrip(":")] += len(slots.split())
+                hops = [line.split(" ")[1] for line in self.aeth("route-tables", *design, use).splitlines() if line.startswith("hop")]
+                names = tomllib.loads((TOP / design[0]).read_text())["routers"]
+                self.assertEqual(told, Counter(names[int(number)] for number in hops))
+
     def cells(self, root, channel):
         """The cells of a channel in a picture."""
         group = next(e for e in root.iter() if e.get("class", "").startswith("c k") and texts(e, "title")[0].startswith(channel))
