@@ -313,7 +313,9 @@ class Inputs(WithProgram):
             ((*PAIR, "nosuch"), 2, "refused use 1 UnknownUse 0 nosuch\n"),
         ):
             self.assertEqual(self.home.draw("plan", *words), (status, "", said))
-        self.assertEqual(self.home.draw("run", *PAIR_RUN, "0"), (1, "", "usage\n"))
+        for cycles in ("0", "1000001"):
+            said = f"draw: CYCLES is `{cycles}`, and must be 1 to 1,000,000, in digits alone\n"
+            self.assertEqual(self.home.draw("run", *PAIR_RUN, cycles), (1, "", said))
 
     def test_no_picture(self):
         for words in ((), ("nosuch",), ("plan", *PAIR), ("plan", *PAIR, "u1", "c0", "up"), ("run", *PAIR_RUN)):

@@ -185,9 +185,9 @@ class Waves(WithProgram):
     def test_statuses_of_aeth(self):
         for words, status, said in (
             (("nosuch", *ONE_RUN[1:], "7"), 4, "read fault chip\n"),
-            ((*ONE_RUN, "0"), 1, "usage\n"),
-            ((*ONE_RUN, "10001"), 1, "usage\n"),
-            ((*ONE_RUN, "x"), 1, "usage\n"),
+            ((*ONE_RUN, "0"), 1, "draw: CYCLES is `0`, and must be 1 to 10,000, in digits alone\n"),
+            ((*ONE_RUN, "10001"), 1, "draw: CYCLES is `10001`, and must be 1 to 10,000, in digits alone\n"),
+            ((*ONE_RUN, "x"), 1, "draw: CYCLES is `x`, and must be 1 to 10,000, in digits alone\n"),
             ((ONE[1], *ONE_RUN[1:], "7"), 2, "refused chip 2 WrongKey 0 connection\n"),
         ):
             self.assertEqual(self.home.draw("wave", *words), (status, "", said))
