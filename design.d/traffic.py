@@ -61,13 +61,14 @@ def words_text(rows):
 
 
 def late_rows(app, use, cycles):
-    """Receivers that take as late as they declare: nothing for the cycles of their delay, and then all that has landed."""
+    """Receivers that take as late as they declare: nothing for the cycles of their delay, and then all that has landed.
+    The last row of each, at the end of the cycles or behind it, lets it take for good."""
     rows = []
     for connection, side, wish in channels_of(app, use):
         delay = wish["delay"]
         for start in range(0, cycles, delay + 1) if delay else ():
-            rows += [(start, connection, side, 0), (start + delay, connection, side, ALL)]
-    return [row for row in rows if row[0] < cycles]
+            rows += [(start, connection, side, 0), (min(start + delay, MOST_CYCLES), connection, side, ALL)]
+    return rows
 
 
 def receivers_text(app, use, cycles, late, stalls):
