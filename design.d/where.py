@@ -1,11 +1,14 @@
 """What a refusal of `aeth` means, in words: file, line, key, what stands there, and the rule that it breaks."""
+from functools import cache
 from pathlib import Path
 import math
 
 from aeth import run_aeth
-from files import toml_lines
+from files import read, toml_lines
+from paths import why_none
 from places import WALKS, row_line
 from rules import broken_at, columns_of, rules_of, rules_of_logs, rules_of_plans
+from usage import usage
 
 # The file words of each command, in the order of its words.
 FILES = {
@@ -26,6 +29,10 @@ SECTIONS = {
     "chip": "Chip files", "app": "Application files", "plan": "Plans", "cert": "Certificates",
     "words": "Trace files", "receivers": "Trace files", "switches": "Trace files", "log": "Logs of links",
 }
+HELP = (
+    "More slots, a greater detour, a lower rate or a greater latency may help: `./design fit` tries tables and detours, and "
+    "`./aeth explain` tells which links were too full."
+)
 MOST_BYTES = 33_554_432
 MOST_DEPTH = 80  # of arrays and inline tables, one within another
 
@@ -125,10 +132,28 @@ def in_toml(file, paths, rule, place, value):
     return f"{where} is {found!r}{again}{count}", at
 
 
+def shown_lines(file, data):
+    """The lines of a file: of a plan and a certificate line feeds alone end one."""
+    text = data.decode("utf-8", "replace")
+    if file not in ("plan", "cert"):
+        return text.splitlines()
+    return text.removesuffix("\n").split("\n") if text else []
+
+
+def unseen_end(lines, place, data):
+    """What stands at the end of a line, or lacks there, and can't be seen."""
+    line = lines[place - 1]
+    if line.endswith("\r"):
+        return "   (it ends with a carriage return, which isn't allowed)"
+    if line.endswith((" ", "\t")):
+        return "   (it ends with a blank, which isn't allowed)"
+    return "   (without a line feed)" if place == len(lines) and not data.endswith(b"\n") else ""
+
+
 def in_rows(file, path, name, place, value):
     """Where a refusal of lines or rows points, in words: of rows out of order also the one before."""
     data = Path(path).read_bytes()
-    lines = data.decode("utf-8", "replace").splitlines()
+    lines = shown_lines(file, data)
     if name == "TooMany":
         return [f"{path}: it has {int(value):,} rows"]
     if name == "FirstNotZero" and not place:
@@ -139,13 +164,13 @@ def in_rows(file, path, name, place, value):
         line = row if file in ("plan", "cert") else row_line(data, row)
         if not line or line > len(lines):
             return shown + [f"{path}, at its end"]
-        shown.append(f"{path}, line {line}: {lines[line - 1]}")
+        shown.append(f"{path}, line {line}: {lines[line - 1].rstrip()}")
     if name == "Unknown":
         shown[-1] += f"   (field {value})"
     if name == "Overlap":
         shown[-1] += f"   (the switch before is over in cycle {value})"
-    if name == "BadLine" and place == len(lines) and not data.endswith(b"\n"):
-        shown[-1] += "   (without a line feed)"
+    if name == "BadLine":
+        shown[-1] += unseen_end(lines, place, data)
     return shown
 
 
@@ -172,12 +197,18 @@ def refusal(file, rule, name, place, value, paths):
     return shown + [f"Rule {rule} of {title.lower()}, {name}, is broken where {broken}."] + more
 
 
-def refused_unit(connection, group, side, turn):
-    return (
+read_once = cache(read)
+
+
+def refused_unit(connection, group, side, turn, paths):
+    """A refused unit in words, with why no path suits where the files tell it, or else with what may help."""
+    refused = (
         f"Connection `{connection}` in group {group}: in turn {turn} its channel {side} had no admissible path with a "
-        "suitable set of free slots. More slots, a greater detour, a lower rate or a greater latency may help: "
-        "`./design fit` tries them."
+        "suitable set of free slots."
     )
+    tells_why = "app" in paths and all(Path(paths[file]).is_file() for file in ("chip", "app"))
+    why = why_none(read_once(paths["chip"]), read_once(paths["app"]), connection, side) if tells_why else None
+    return [refused, why or HELP]
 
 
 def broken_plan(rule, line, other, paths):
@@ -202,7 +233,7 @@ def told(line, paths):
     """A line of standard error in words, or none where it says enough."""
     word, *rest = line.split(" ")
     if word == "refused" and rest[0] == "unit":
-        return [refused_unit(*rest[1:])]
+        return refused_unit(*rest[1:], paths)
     if word == "refused":
         file, rule, name, place, value = rest
         return refusal(file, int(rule), name, int(place), value, paths)
@@ -218,8 +249,6 @@ def told(line, paths):
         return [f"No cut of the try begins the path {rest[3]} of channel {rest[2]} of connection `{rest[0]}`."]
     if word == "read":
         return [f"{paths.get(rest[1])} can't be read: it is missing, a folder, or unreadable."]
-    if word == "usage":
-        return ["These words are no command: `./aeth help` lists them."]
     return []
 
 
@@ -229,5 +258,6 @@ def where(words):
     paths = dict(zip(FILES.get(words[0] if words else "", []), words[1:]))
     lines = []
     for line in errors.splitlines():
-        lines += [line, *("  " + tells for tells in told(line, paths))]
+        tells = usage(words) if line == "usage" else told(line, paths)
+        lines += [line, *("  " + tell for tell in tells)]
     return status, out, "".join(line + "\n" for line in lines)

@@ -13,6 +13,7 @@ from home import Home, PROGRAM, TOP
 sys.path.append(str(TOP / "design.d"))
 import files  # noqa: E402: its folder is told above
 import toml_lines  # noqa: E402
+import usage  # noqa: E402
 import where  # noqa: E402
 
 EXAMPLES = TOP / "examples"
@@ -142,6 +143,16 @@ class Traces(Designs):
         status, text, _ = self.run_script("design", "receivers", *self.FILES, "decode", "100", "--stall", "cpu_mem,fwd,7")
         self.assertEqual((status, text), (0, "connection,side,cycle,pull\ncpu_mem,fwd,7,0\n"))
 
+    def test_a_late_receiver_takes_in_the_end(self):
+        """In a longer run too: its last row lets it take all, where the cycles end within its delay as well."""
+        app = (EXAMPLES / "one.toml").read_text(encoding="utf-8").replace("delay = 0", "delay = 4", 1)
+        files_ = (EXAMPLES / "pair.toml", self.file("late.toml", app))
+        for cycles, last in ((10, (5, 9)), (11, (10, 14)), (1_000_000, (999_995, 999_999)), (999_998, (999_995, 999_999))):
+            made = rows(self.run_script("design", "receivers", *files_, "main", str(cycles), "--late")[1])
+            found = [(int(row["cycle"]), row["pull"]) for row in made]
+            self.assertEqual(found[-2:], [(last[0], "0"), (last[1], "255")])
+            self.assertEqual(found, sorted(found))
+
     def test_switches_are_evenly_apart(self):
         status, text, _ = self.run_script("design", "switches", *self.FILES, "3000", "decode", "menu", "record", "--drain", "9")
         self.assertEqual((status, text), (0, "cycle,use,drain\n0,decode,0\n1000,menu,9\n2000,record,9\n"))
@@ -156,6 +167,26 @@ class Traces(Designs):
         ):
             with self.subTest(words=words):
                 self.assertEqual(self.run_script("design", *words), (1, "", f"design: {tells}\n"))
+
+
+class Help(Designs):
+    """The page of help."""
+
+    WORDS = {"chip": ("ring", "3"), "words": (*Traces.FILES, "menu", "99"), "switches": (*Traces.FILES, "99", "menu"),
+             "fit": (EXAMPLES / "pair.toml", EXAMPLES / "one.toml")}
+
+    def test_defaults(self):
+        """Each command makes the same without and with the words that its page says it has then."""
+        page = self.run_script("design", "help")[1]
+        for command, text in re.findall(r"^design (\w+) (.*?)^$", page, re.M | re.S):
+            defaults = re.findall(r"--\w+ [\w,]*\w", "".join(re.findall(r"Without th\w+ words?: (.*)", text)))
+            optional = set(re.findall(r"\[(--\w+) ", text)) - {"--at", "--stall"}
+            self.assertEqual({default.split(" ")[0] for default in defaults}, optional, command)
+            if command in self.WORDS:
+                made = [self.run_script("design", command, *self.WORDS[command], *more)[1]
+                        for more in ((), " ".join(defaults).split())]
+                self.assertGreater(made[0].count("\n"), 1)
+                self.assertEqual(*(re.sub("# Made by: .*", "", text) for text in made))
 
 
 class Fits(Designs):
@@ -252,14 +283,101 @@ class Refusals(Designs):
         said, line = self.where("c1,fwd,10", "c9,fwd,10", "two.words.csv", 4, *words)
         self.assertIn(f"FILE, line {line}: c9,fwd,10,200", said)
 
-    def test_a_refused_unit(self):
-        app = self.file("app", (EXAMPLES / "one.toml").read_text(encoding="utf-8").replace("latency = 6", "latency = 2"))
-        status, _, errors = self.run_script("design", "where", "allocate", EXAMPLES / "pair.toml", app)
-        self.assertEqual(status, 3)
-        self.assertIn("Connection `c0` in group 0: in turn 1 its channel fwd had no admissible path", errors)
+    def refused(self, chip, app):
+        """What is said of the one unit that is refused."""
+        status, _, errors = self.run_script("design", "where", "allocate", chip, app)
+        line, tells, more = errors.splitlines()
+        self.assertEqual((status, line.split(" ")[:2]), (3, ["refused", "unit"]))
+        self.assertIn("had no admissible path with a suitable set of free slots.", tells)
+        return more
 
-    def test_no_command(self):
-        self.assertIn("These words are no command", self.run_script("design", "where", "slots", "8")[2])
+    def test_a_latency_below_every_path(self):
+        """It is told one below the delay of the quickest path, and with that delay the channel is granted."""
+        pair, wide = EXAMPLES / "pair.toml", EXAMPLES / "wide.toml"
+        text = (EXAMPLES / "one.toml").read_text(encoding="utf-8")
+        for chip, delay in ((pair, 3), (wide, 4)):
+            more = self.refused(chip, self.file("app", text.replace("latency = 6", f"latency = {delay - 1}")))
+            self.assertIn(f"It wishes a latency of {delay - 1}, and the quickest path from `cpu` on n0 to `mem` on n1 ", more)
+            self.assertIn(f" takes {delay} cycles. It needs a greater latency, or a shorter way: more slots don't help.", more)
+            app = self.file("app", text.replace("latency = 6", f"latency = {delay}"))
+            self.assertEqual(self.run_script("aeth", "allocate", chip, app)[0], 0)
+        more = self.refused(pair, EXAMPLES / "roll.toml")
+        self.assertIn("a latency of 1, and the quickest path from any place of `acc` to `cpu` on n0 takes 2 cycles.", more)
+
+    def test_no_path(self):
+        one = (EXAMPLES / "one.toml").read_text(encoding="utf-8").replace("latency = 6", "latency = 99")
+        gap = (EXAMPLES / "pair.toml").read_text(encoding="utf-8").replace('{from = "r0", to = "r1"},', "")
+        more = self.refused(self.file("gap", gap), self.file("app", one))
+        self.assertIn("No links lead from `cpu` on n0 to `mem` on n1.", more)
+        for routers, shut in ((7, False), (8, True)):
+            ends = self.made("chip", "chip", "tree", str(routers), "1", "--at", f"r0,r{routers - 1}", "--slots", "8")
+            app = self.file("app", one.replace("latency = 12", "latency = 99"))
+            self.assertEqual(self.run_script("aeth", "allocate", ends, app)[0], 3 if shut else 0)
+        more = self.refused(ends, app)
+        self.assertIn("A path from `cpu` on n0 to `mem` on n1 has at least 9 links, and 8 are allowed.", more)
+
+    def test_slots_that_are_too_few(self):
+        one = (EXAMPLES / "one.toml").read_text(encoding="utf-8").replace('["c0"]', '["c0", "c1"]')
+        connection = one[one.index("[[connection]]") : one.index("[[use]]")]
+        other = connection.replace("c0", "c1").replace("words = 1, per = 2", "words = 2, per = 1")
+        two = one.replace("[[use]]", other + "[[use]]")
+        more = self.refused(EXAMPLES / "pair.toml", self.file("app", two))
+        self.assertIn("More slots, a greater detour, a lower rate or a greater latency may help", more)
+
+    def test_a_carriage_return(self):
+        words = (EXAMPLES / "pair.toml", EXAMPLES / "one.toml")
+        text = (EXAMPLES / "one.plan").read_text(encoding="ascii")
+        for old, new, line, tells in (
+            ("\n", "\r\n", "line 1: plan 1 8", "it ends with a carriage return"),
+            ("n1 0\n", "n1 0\r\n", "line 3: seat mem n1 0", "it ends with a carriage return"),
+            ("n1 0\n", "n1 0 \n", "line 3: seat mem n1 0", "it ends with a blank"),
+            ("end\n", "end", "line 6: end", "without a line feed"),
+        ):
+            plan = self.home.room / "ends.plan"
+            plan.write_bytes(text.replace(old, new).encode())
+            status, _, errors = self.run_script("design", "where", "check", *words, plan)
+            self.assertEqual(status, 2)
+            self.assertIn(f"{plan}, {line}   ({tells}", errors)
+
+    def test_words_that_are_no_command(self):
+        for words, tells in (
+            ("", "These words are no command: `./aeth help` lists them."),
+            ("slot 8", "There is no command `slot`: `./aeth help` lists them."),
+            ("slots 8", "The words of `slots` must be SIZE NEED GAP FREE, and 1 is given: `./aeth help slots` tells more."),
+            ("chip", "The word of `chip` must be CHIP, and none are given: `./aeth help chip` tells more."),
+            ("explain a b c d", "The words of `explain` must be CHIP APP [CERT], and 4 are given: `./aeth help explain`"),
+            ("slots 8 1 1 0,8", "FREE is `0,8`, and must be a rising list of slots below 8 with commas, or - for none."),
+            ("server 8 08 3 0", "NEED is `08`, and must be a number from 1 to 128, in digits alone and without a 0 at"),
+            ("links a b c d e f 10001", "CYCLES is `10001`, and must be 1 to 10,000. `./aeth help links` tells more."),
+            ("tables a b c A", "USE is `A`, and must be a name: 1 to 32 of a-z, 0-9 and _. `./aeth help tables` tells more."),
+            ("chain a b c u c0:fwd:3 f g 9", "CHAIN is `c0:fwd:3`, and must be 1 to 16 items CONN:SIDE:WORK with commas,"),
+        ):
+            status, _, errors = self.run_script("design", "where", *words.split())
+            self.assertEqual((status, errors.splitlines()[0]), (1, "usage"), words)
+            self.assertIn(f"  {tells}", errors)
+
+    def test_words_at_their_limits(self):
+        """The program answers `usage` exactly where a word is said to be wrong."""
+        run = "simulate a b c d e f"
+        chain = ",".join(f"c{place}:fwd:4096" for place in range(15))
+        for words in (
+            "slots 128 1 0 0", "slots 129 1 0 0", "slots 0 1 0 0", "slots 8 128 0 0", "slots 8 129 0 0", "slots 8 0 0 0",
+            "slots 8 1 4096 0", "slots 8 1 4097 0", "slots 8 1 1 -", "slots 8 1 1 7", "slots 8 1 1 8", "slots 8 1 1 1,1",
+            "slots 8 1 1 1,0", "slots 8 1 1 0,", "slots 8 1 1 +1", "server 8 1 2 0", "server 8 1 1 0", "server 8 1 32 0",
+            "server 8 1 33 0", "demo 1000001", f"{run} 0", f"{run} 1", f"{run} 1000000", f"{run} 1000001", f"{run} 1 0",
+            f"{run} 1 1000000", f"{run} 1 1000001", f"{run} 1 1 1", "links a b c d e f 10000", "links a b c d e f 10001",
+            "audit a b c d e 1000000", "audit a b c d e 1000001", f"tables a b c {32 * 'a'}", f"tables a b c {33 * 'a'}",
+            "tables a b c a.b", f"chain a b c u {chain},c:back f g 1", f"chain a b c u {chain},c:fwd:1,c:back f g 1",
+            "chain a b c u c:fwd:4097,c:back f g 1", "chain a b c u c:fwd:0,c:back f g 1", "chain a b c u c:up f g 1",
+            "chain a b c u c:fwd,c:back f g 1", "chain a b c u c:fwd, f g 1", "chain a b c u : f g 1", "check a b",
+        ):
+            status, _, _ = self.run_script("aeth", *words.split())
+            says = where.usage(words.split())[0].startswith("A word isn't as")
+            self.assertEqual(status != 1, says, words)
+
+    def test_words_of_each_command(self):
+        formats = (TOP / "docs/FORMATS.md").read_text(encoding="utf-8")
+        self.assertEqual(dict(re.findall(r"^aeth ([a-z-]+) (.*)", formats, re.M)), usage.WORDS)
 
 
 class Words(unittest.TestCase):
