@@ -197,9 +197,10 @@ class Gate(WithHome):
 
     def leave(self, pause=0.05):
         time.sleep(pause)  # the clock of files is coarse
-        (self.home.top / "crates/aeth_base/out").mkdir()
-        for name in ("aeth_middle", "aeth"):
+        for name in ("aeth_base", "aeth_middle", "aeth"):
             (self.home.top / "crates" / name / "out").mkdir()
+            # (as a gate does, so that no crate's folder is newer than its `out`)
+            (self.home.top / "crates" / name / "out/rlib").mkdir()
         program = self.home.put("crates/aeth/out/aeth", "#!/bin/sh\necho left\n")
         program.chmod(0o755)
 
