@@ -25,7 +25,7 @@ use Rattle.aeth_cli.specs.Commands.{IsAnswerTo, WordsComeTo, command_of, job, ta
 abbrev pub sinks_of : {H O E : Type 0} → Places H O E → Sinks O E
 sinks_of places = record { out = places.out; err = places.err }
 
--- The program was run with these words and a machine of this outcomes over a shelf and two sinks,
+-- The program was run with these words and machines of these outcomes over a shelf and two sinks,
 -- which are given by what they tell, and ended with a status.
 pub record Promise {H O E : Type 0} (outcomes : Outcomes) (h : shelf.Ghosts H)
     (o : sink.Ghosts O) (e : sink.Ghosts E) (words : List (List ℕ)) (old new : Places H O E)
