@@ -1,4 +1,5 @@
 mod Walks
+mod PlaceLaws
 mod UnitLists
 mod SlotLaws
 mod TakenLaws
@@ -11,6 +12,7 @@ mod MeetingLaws
 mod FirstLaws
 pub mod RouteLaws
 mod SeatLaws
+mod MarkLaws
 mod ChannelLaws
 mod AcceptedLaws
 mod PlanParts

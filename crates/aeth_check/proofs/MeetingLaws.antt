@@ -8,7 +8,7 @@ use Rattle.std.specs.List.{list_any}
 use Rattle.std.proofs.lemmas.Bool.{cond-false, cond-true, false≢true}
 use Rattle.std.proofs.lemmas.Option.{none-some, same_Some, slice_get-get_or}
 use Rattle.std.proofs.lemmas.Option.{slice_get_within}
-use Rattle.std.proofs.lemmas.List.{length-drop, take_all}
+use Rattle.std.proofs.lemmas.List.{drop_more, length-drop, take_all}
 use Rattle.aeth_text.specs.Limits.{last_line}
 use Rattle.aeth_text.specs.Order.{line_after}
 use Rattle.aeth_base.proofs.Lists.{drop-slice_get}
@@ -125,6 +125,14 @@ module _ {X : Type 0} where
       drop-slice_get xs (left - 1) x
       (slice_get-get_or xs (left - 1) x low ∙ ap (λ y. Some y) (sym at))
       ∙ ap (λ n. x ∷ drop n xs) next
+
+  -- The same of what stands there, by a default.
+  pub drop_back_or : (xs : List X) (left : ℕ) (default : X) → 0 < left → left ≤ length xs
+      → drop (left - 1) xs ≡ get_or xs (left - 1) default ∷ drop left xs
+  drop_back_or xs left default some within =
+      let next : left - 1 + 1 ≡ left = omega arith in
+      drop_more xs (left - 1) default (omega arith)
+      ∙ ap (λ n. get_or xs (left - 1) default ∷ drop n xs) next
 
   -- One item more is met with those behind it.
   pub meeting_back : (test : X → X → Bool) (xs : List X) (left : ℕ) (x : X)

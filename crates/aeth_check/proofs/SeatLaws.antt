@@ -1,9 +1,14 @@
 -- The rules on seats, as tests and as facts.
 use Rattle.std.proofs.Common.{◌≡◌, ◌∙◌, ◌+◌, ℕ, zero, suc, Bool, true, false, cond, eqb, List, []}
 use Rattle.std.proofs.Common.{◌∷◌, Option, Some, None, not, slice_get, refl, sym, ap, arith}
+use Rattle.std.proofs.Common.{◌<◌, ◌≤◌, All, length, set, inl, inr}
+use Rattle.std.proofs.Math.ListN.{length-set}
 use Rattle.std.specs.Bool.{Decides}
-use Rattle.std.proofs.lemmas.Bool.{and_from, and_parts, cond-false, eq-eqb, eqb-true, false≢true}
-use Rattle.std.proofs.lemmas.Option.{none-some, same_Some}
+use Rattle.std.proofs.lemmas.Bool.{and_from, and_parts, cases_eq, cond-false, cond-true, eq-eqb}
+use Rattle.std.proofs.lemmas.Bool.{eqb-true, false≢true, ne_eqb}
+use Rattle.std.proofs.lemmas.Option.{none-some, same_Some, slice_get_within}
+use Rattle.aeth_base.proofs.Lists.{slice_get-slice_set_other, slice_get-slice_set_same}
+use Rattle.aeth_base.proofs.Members.{All-slice_get}
 use Rattle.aeth_base.specs.declared.ids.CoreId.{CoreId}
 use Rattle.aeth_base.specs.declared.ids.NiId.{NiId}
 use Rattle.aeth_app.specs.App.{is_ni}
@@ -106,3 +111,43 @@ pub seated_at : (seats : List SeatLine) (cores : ℕ) (nis : List (Option NiId))
     (ni : Option NiId) → AreSeatedAt seats cores nis → slice_get nis core.0 ≡ Some ni
     → ni ≡ ni_of seats core
 seated_at seats cores nis core ni are at = are.each core.0 ni at
+
+-- A table without interfaces is that of no seats.
+pub none_seated : (cores : ℕ) (nis : List (Option NiId)) → length nis ≡ cores
+    → All (λ (ni : Option NiId). ni ≡ None) nis → AreSeatedAt [] cores nis
+none_seated cores nis size none = record {
+  size = size;
+  each = λ core ni at. All-slice_get (λ (one : Option NiId). one ≡ None) nis core ni none at;
+}
+
+-- The table with the interface of one more seat, before the others.
+pub seat_put : (line : SeatLine) (seats : List SeatLine) (cores : ℕ) (nis : List (Option NiId))
+    → line.core.0 < cores → AreSeatedAt seats cores nis
+    → AreSeatedAt (line ∷ seats) cores (set nis line.core.0 (Some line.ni))
+seat_put line seats cores nis low are = record {
+  size = length-set nis line.core.0 (Some line.ni) ∙ are.size;
+  each = λ core ni at. elim (cases_eq line.core.0 core) [
+    | inl same ↦
+        same_Some ni (Some line.ni) (sym at ∙ ap (slice_get (set nis line.core.0 (Some line.ni)))
+        (sym same)
+        ∙ slice_get-slice_set_same nis line.core.0 (Some line.ni) (omega (arith, are.size)))
+        ∙ sym (cond-true (eqb line.core.0 core) _ _ (eq-eqb _ _ same))
+    | inr other ↦
+        are.each core ni (sym (slice_get-slice_set_other nis line.core.0 core (Some line.ni)
+        (λ same. other (sym same))) ∙ at)
+        ∙ sym (cond-false (eqb line.core.0 core) _ _ (ne_eqb _ _ other))
+  ];
+}
+
+-- A seat of a core beyond the table adds nothing.
+pub seat_beyond : (line : SeatLine) (seats : List SeatLine) (cores : ℕ)
+    (nis : List (Option NiId)) → cores ≤ line.core.0 → AreSeatedAt seats cores nis
+    → AreSeatedAt (line ∷ seats) cores nis
+seat_beyond line seats cores nis past are = record {
+  size = are.size;
+  each = λ core ni at.
+      let within = slice_get_within nis core ni at in
+      are.each core ni at
+      ∙ sym (cond-false (eqb line.core.0 core) _ _ (ne_eqb _ _ (λ same.
+      omega (arith, same, within, are.size))));
+}

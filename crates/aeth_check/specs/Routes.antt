@@ -1,13 +1,39 @@
 -- Whether a finished path is admissible, by walking it. Paths: after UMARS (2005).
 --
+--   place_of, with_node, HasPlaces      sets of the places of routers
 --   is_near, is_admissible      a path that a flit may take
-use Rattle.std.specs.Prelude.{ℕ, ◌+◌, ◌&&◌, nat_le, Bool, false, List, length, Option, Some, None}
+use Rattle.std.specs.Prelude.{◌≡◌, ℕ, ◌+◌, ◌%◌, ◌&&◌, nat_le, Bool, true, false, List, length}
+use Rattle.std.specs.Prelude.{Option, Some, None, Contains}
 use Rattle.aeth_base.specs.Limits.{max_path_links}
 use Rattle.aeth_base.specs.declared.ids.LinkId.{LinkId}
 use Rattle.aeth_base.specs.declared.ids.NiId.{NiId}
+use Rattle.aeth_base.specs.declared.ids.RouterId.{RouterId}
 use Rattle.aeth_chip.specs.Chip.{ChipData}
 use Rattle.aeth_chip.specs.LeastDistance.{least_distance}
-use Rattle.aeth_chip.specs.PathTests.{is_path_between}
+use Rattle.aeth_chip.specs.PathTests.{comes_to, is_path_between}
+use Rattle.aeth_chip.specs.declared.node.Link.{Link}
+use Rattle.aeth_chip.specs.declared.node.Node.{Node}
+use Rattle.aeth_chip.specs.declared.node.Node.TheVariants.{Router, Ni}
+use Rattle.aeth_slots.specs.SlotSet.{Slots, inserted}
+
+-- The places of a set of routers.
+abbrev pub places : ℕ
+places = 64
+
+-- The place of a router in a set, which several routers may share.
+abbrev pub place_of : RouterId → ℕ
+place_of router = router.0 % places
+
+-- A set with the place of a node that is a router.
+abbrev pub with_node : Node → Slots → Slots
+with_node (Router router) set = inserted (place_of router) set
+with_node (Ni ni) set = set
+
+-- A set has the place of each router that a link of the path ends at.
+pub record HasPlaces (links : List Link) (path : List LinkId) (set : Slots) : Type 0 where
+  pub size : set.size ≡ places
+  pub each : (router : RouterId) → comes_to links router path ≡ true
+      → Contains set.slots (place_of router)
 
 -- Whether a path has at most so many links more than the least number.
 abbrev pub is_near : ℕ → Option ℕ → List LinkId → Bool

@@ -1,14 +1,17 @@
 -- Where a plan seats cores. Seats: after UMARS (2005), which places cores on network interfaces.
 --
 --   IsOneSeat, is_one_seat      two lines seat cores on one seat
+--   seat_place, HasMarks      the places of seats in a table
 --   ni_of, AreSeatedAt, seat_line      the interface of a core's seat, a table of these, and the line
 --   is_misseated, first_misseated      cores that are fixed to an interface and not seated there
-use Rattle.std.specs.Prelude.{◌≡◌, ◌+◌, ◌==◌, ◌&&◌, ℕ, Bool, false, not, List, [], ◌∷◌, Option}
-use Rattle.std.specs.Prelude.{Some, None, unwrap_or, if◌then◌else◌}
+use Rattle.std.specs.Prelude.{◌≡◌, ◌+◌, ◌*◌, ◌==◌, ◌&&◌, ℕ, Bool, true, false, not, List, []}
+use Rattle.std.specs.Prelude.{◌∷◌, Option, Some, None, Contains, slice_get, unwrap_or}
+use Rattle.std.specs.Prelude.{if◌then◌else◌}
 use Rattle.aeth_base.specs.declared.ids.CoreId.{CoreId}
 use Rattle.aeth_base.specs.declared.ids.NiId.{NiId}
 use Rattle.aeth_chip.specs.Index.{HasEntries}
 use Rattle.aeth_app.specs.App.{is_ni}
+use Rattle.aeth_app.specs.Limits.{seats_per_ni}
 use Rattle.aeth_app.specs.declared.connection.Core.{Core}
 use Rattle.aeth_group.specs.declared.grant.SeatLine.{SeatLine}
 use Rattle.aeth_plan.specs.Layout.{first_seat_line}
@@ -22,6 +25,15 @@ pub record IsOneSeat (a b : SeatLine) : Type 0 where
 -- The same as a test.
 abbrev pub is_one_seat : SeatLine → SeatLine → Bool
 is_one_seat a b = a.ni.0 == b.ni.0 && a.seat == b.seat
+
+-- The place of a seat in a table of the seats of all interfaces.
+abbrev pub seat_place : SeatLine → ℕ
+seat_place line = line.ni.0 * seats_per_ni + line.seat
+
+-- Each of these seats is marked at its place.
+abbrev pub HasMarks : List SeatLine → List Bool → Type 0
+HasMarks seats marks = (line : SeatLine) → Contains seats line
+    → slice_get marks (seat_place line) ≡ Some true
 
 -- The network interface of a core's seat; `None` where the core isn't seated.
 abbrev pub ni_of : List SeatLine → CoreId → Option NiId

@@ -5,19 +5,18 @@ ghost use Rattle.aeth_check.specs.Channels.{fits_path, fits_slots, receiver, sen
 ghost use Rattle.aeth_check.specs.Firsts.{first_line};
 ghost use Rattle.aeth_check.specs.Verdict.{stray_path, unfit_slots};
 ghost use Rattle.aeth_chip.specs.Chip.{IsChip};
-ghost use Rattle.std.specs.Prelude.{◌≡◌, ◌<◌, All, IfOk, length, not, slice_get};
+ghost use Rattle.std.specs.Prelude.{◌≡◌, ◌<◌, All, length, not, slice_get};
 
 use crate::lines::grants_begin;
 use crate::routes::leads;
 use crate::seating::Seating;
 use crate::verdict::Verdict;
 use aeth_app::{App, Connection, Wish};
-use aeth_base::{Channel, CoreId, NoMemory, Side};
+use aeth_base::{Channel, CoreId, Side};
 use aeth_chip::{Chip, Distances};
 use aeth_group::Grant;
 use aeth_plan::Plan;
 use aeth_text::line_after;
-use std::alloc::Global;
 
 /// The core that sends on a side of a connection.
 fn sender(connection: &Connection, side: Side) -> CoreId
@@ -117,27 +116,25 @@ fn first_stray(
 /// isn't seated.
 #[tactic(auto, unfolding(crate::specs::Verdict::stray_path))]
 pub(crate) fn stray_path(
-    alloc: Global,
     chip: &Chip,
     app: &App,
     distances: &Distances,
+    seating: &Seating,
     plan: &Plan,
-) -> Result<Option<Verdict>, NoMemory>
+) -> Option<Verdict>
     requires chip { IsChip chip.now }
     requires distances { distances.now ≡ chip.now.links }
+    requires seating { seating.now ≡ plan.now.seats }
     requires grants { All (IsWithin chip.now app.now) plan.now.grants }
-    ensures { IfOk result (λ verdict. verdict ≡ stray_path chip.now app.now plan.now) }
+    ensures { result ≡ stray_path chip.now app.now plan.now }
 {
-    let seating = Seating::of(alloc, plan.seats(), app.cores())?;
     let first = grants_begin(plan);
-    match first_stray(chip, app, distances, &seating, first, plan.grants()) {
-        Some(line) => Ok(Some(Verdict::Broken {
-            rule: 5,
-            line,
-            other: 0,
-        })),
-        None => Ok(None),
-    }
+    let line = first_stray(chip, app, distances, seating, first, plan.grants())?;
+    Some(Verdict::Broken {
+        rule: 5,
+        line,
+        other: 0,
+    })
 }
 
 /// The line of the first grant whose slots don't suffice.

@@ -11,6 +11,7 @@ ghost use Rattle.std.specs.Prelude.{◌≡◌, ◌↔◌, All, IfOk, length};
 use crate::channels::{lacking, stranger};
 use crate::conflicts::conflict;
 use crate::grants::{stray_path, unfit_slots};
+use crate::seating::Seating;
 use crate::seats::{misseated, shared_seat};
 use crate::verdict::Verdict;
 use aeth_app::App;
@@ -36,10 +37,11 @@ fn judge(
     ensures { IfOk result (λ verdict.
         verdict ≡ verdict_of chip.now app.now groups.now plan.now) }
 {
-    if let Some(verdict) = shared_seat(plan) {
+    if let Some(verdict) = shared_seat(alloc, chip, plan)? {
         return Ok(verdict);
     }
-    if let Some(verdict) = misseated(app, plan) {
+    let seating = Seating::of(alloc, plan.seats(), app.cores())?;
+    if let Some(verdict) = misseated(app, &seating, plan) {
         return Ok(verdict);
     }
     if let Some(verdict) = stranger(groups, plan) {
@@ -49,7 +51,7 @@ fn judge(
         return Ok(verdict);
     }
     let distances = Distances::of(alloc, chip)?;
-    if let Some(verdict) = stray_path(alloc, chip, app, &distances, plan)? {
+    if let Some(verdict) = stray_path(chip, app, &distances, &seating, plan) {
         return Ok(verdict);
     }
     if let Some(verdict) = unfit_slots(chip, app, plan) {

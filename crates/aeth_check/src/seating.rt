@@ -1,6 +1,6 @@
 // The network interfaces of cores, from a table.
 ghost use Rattle.aeth_check.specs.Seats.{AreSeatedAt, ni_of};
-ghost use Rattle.std.specs.Prelude.{◌≡◌, IfOk};
+ghost use Rattle.std.specs.Prelude.{◌≡◌, [], All, IfOk, None, length};
 
 use crate::seats::ni_of;
 use aeth_base::{CoreId, NiId, NoMemory};
@@ -55,9 +55,33 @@ impl Seating {
 fn nis_of(alloc: Global, seats: &[SeatLine], cores: u32) -> Result<Vec<Option<NiId>>, NoMemory>
     ensures { IfOk result (λ nis. AreSeatedAt seats.now cores nis.items) }
 {
-    let mut nis = Vec::new(alloc);
-    for core in 0..cores {
-        nis.push(ni_of(seats, CoreId(core)))?;
-    }
+    let mut nis = no_nis(alloc, cores)?;
+    put_nis(seats, &mut nis);
     Ok(nis)
+}
+
+// No interface for each of so many cores.
+fn no_nis(alloc: Global, cores: u32) -> Result<Vec<Option<NiId>>, NoMemory>
+    ensures size { IfOk result (λ nis. length nis.items ≡ cores) }
+    ensures none { IfOk result (λ nis. All (λ ni. ni ≡ None) nis.items) }
+{
+    let nis = vec![in alloc; None; cores as usize]?;
+    Ok(nis)
+}
+
+// Puts the interfaces of seats into a table, from the last seat to the first, so that the first of
+// a core stays.
+fn put_nis(seats: &[SeatLine], nis: &mut [Option<NiId>])
+    requires { AreSeatedAt [] (length nis.old) nis.old }
+    ensures { AreSeatedAt seats.now (length nis.old) nis.new }
+{
+    let mut left = seats.len();
+    'seats: while left > 0 {
+        left -= 1;
+        let line = &seats[left];
+        let core = line.core.0 as usize;
+        if core < nis.len() {
+            nis[core] = Some(line.ni);
+        }
+    }
 }

@@ -1,6 +1,6 @@
 -- What is read in an index of a chip's links is what stands among the links.
-use Rattle.std.proofs.Common.{◌≡◌, ◌<◌, ◌≤◌, ◌+◌, ◌++◌, ◌∙◌, ℕ, zero, suc, false, List, [], ◌∷◌, Some}
-use Rattle.std.proofs.Common.{length}
+use Rattle.std.proofs.Common.{◌≡◌, ◌<◌, ◌≤◌, ◌+◌, ◌++◌, ◌∙◌, ℕ, zero, suc, Bool, true, false, List, []}
+use Rattle.std.proofs.Common.{◌∷◌, Option, Some, length}
 use Rattle.std.specs.List.{range_with_len}
 use Rattle.std.specs.Prelude.{count_by}
 use Rattle.std.proofs.Common.{if◌then◌else◌, map, slice_get, subst, take, refl, sym, ap, inl, inr}
@@ -19,9 +19,12 @@ use Rattle.aeth_chip.specs.declared.node.Link.{Link}
 use Rattle.aeth_chip.specs.declared.node.Node.{Node}
 use Rattle.aeth_chip.specs.declared.node.Node.TheVariants.{Router, Ni}
 use Rattle.aeth_chip.specs.Chip.{ChipData, IsChip, IsNode}
-use Rattle.aeth_chip.specs.Index.{AreListed, AreRouterLinks, IsPort, as_router, count_at}
-use Rattle.aeth_chip.specs.Index.{crowded_in, entry_for, list_at}
+use Rattle.aeth_chip.specs.Index.{AreListed, AreRouterLinks, HasEntries, IsNiLink, IsPort, as_ni}
+use Rattle.aeth_chip.specs.Index.{as_router, count_at, crowded_in, entry_for, list_at, ni_link}
+use Rattle.aeth_chip.specs.Index.{ni_link_with}
 use Rattle.aeth_chip.specs.ChipFile.{crowded}
+use Rattle.aeth_chip.specs.declared.lists.NiLink.{NiLink}
+use Rattle.aeth_chip.specs.declared.lists.NiLink.TheVariants.{Missing, One, Several}
 use Rattle.aeth_chip.specs.declared.lists.RouterLinks.{RouterLinks}
 use Rattle.aeth_chip.specs.Nodes.{IsBelow, begins_at, end_node, has_end, numbers_from, router_of}
 use Rattle.aeth_chip.specs.Nodes.{same_node}
@@ -65,6 +68,23 @@ has_end-node : (end : End) (node : Node) (link : Link)
 has_end-node From node link = refl
 has_end-node To node link = refl
 
+-- The numbers among one link more.
+numbers-more : (end : End) (links : List Link) (number : ℕ) (link : Link) (node : Node)
+    → slice_get links number ≡ Some link
+    → numbers_from 0 (has_end end node) (take (number + 1) links)
+    ≡ numbers_from 0 (has_end end node) (take number links)
+    ++ (if same_node (end_node end link) node then number ∷ [] else [])
+numbers-more end links number link node at =
+    let inside = slice_get_within links number link at in
+    let more : take (number + 1) links ≡ take number links ++ link ∷ [] =
+    take_more links number link inside
+    ∙ ap (λ x. take number links ++ x ∷ []) (get_or_from_slice_get links number link link at) in
+    let count_is : length (take number links) ≡ number =
+    length-take-le number links (omega arith) in
+    let pushed = numbers_from-push (has_end end node) 0 (take number links) link in
+    let here : 0 + length (take number links) ≡ number = omega arith in
+    rw (more, pushed, here, has_end-node end node link) refl
+
 entry_number : (kind : ℕ → Node) (node : Node) (link number : ℕ)
     → map (λ (l : LinkId). l.0) (entry_for kind node (record { 0 = link }) number)
     ≡ (if same_node node (kind number) then link ∷ [] else [])
@@ -84,26 +104,13 @@ pub listed-more : (kind : ℕ → Node) (end : End) (links : List Link) (count n
 listed-more kind end links count number link old new listed at size entered = record {
   size = size ∙ listed.size;
   each = λ place within.
-      let node : Node = kind place in
-      let test = has_end end node in
-      let inside = slice_get_within links number link at in
-      let more : take (number + 1) links ≡ take number links ++ link ∷ [] =
-      take_more links number link inside
-      ∙ ap (λ x. take number links ++ x ∷ []) (get_or_from_slice_get links number link link at) in
-      let count_is : length (take number links) ≡ number =
-      length-take-le number links (omega arith) in
-      let pushed = numbers_from-push test 0 (take number links) link in
-      let here : 0 + length (take number links) ≡ number = omega arith in
       rw (
         entered place,
         map-append (λ (l : LinkId). l.0) (list_at old place)
             (entry_for kind (end_node end link) (record { 0 = number }) place),
         listed.each place within,
         entry_number kind (end_node end link) number place,
-        more,
-        pushed,
-        here,
-        has_end-node end node link,
+        numbers-more end links number link (kind place) at,
       ) refl;
 }
 
@@ -127,11 +134,70 @@ port_next links routers number place link lists listed at below is_place router 
     ∙ ap length (listed.each router.0 within)
     ∙ length-numbers_from (begins_at (Router router)) 0 (take number links)
 
--- A list that has one number has one link.
-pub one_link : (list : List LinkId) (numbers : List ℕ) (number : ℕ)
-    → map (λ (l : LinkId). l.0) list ≡ numbers → numbers ≡ number ∷ [] → length list ≡ 1
-one_link list numbers number are one =
-    sym (length-map list (λ (l : LinkId). l.0)) ∙ ap length (are ∙ one)
+-- The one link, where there is one number.
+pub one_link : (end : End) (links : List Link) (nis ni number : ℕ) (entries : List NiLink)
+    → HasEntries (IsNiLink end links) nis entries → ni < nis
+    → numbers_from 0 (has_end end (as_ni ni)) links ≡ number ∷ []
+    → slice_get entries ni ≡ Some (One (record { 0 = number }))
+one_link end links nis ni number entries table within one =
+    let size = table.size in
+    elim ((slice_get_cases entries ni).1) [
+      | inl (its, low, is, at) ↦ is ∙ ap Some (table.each ni its is ∙ ap ni_link one)
+      | inr (past, none) ↦ absurd (omega arith)
+    ]
+
+-- The link that is kept, where one is.
+abbrev link_in : NiLink → LinkId
+link_in (One link) = link
+link_in Missing = record { 0 = 0 }
+link_in Several = record { 0 = 0 }
+
+-- The one number is that of the link that is kept.
+pub number_kept : (numbers : List ℕ) (number : ℕ) (entry : Option NiLink) (link : LinkId)
+    → numbers ≡ number ∷ [] → entry ≡ Some (One (record { 0 = number }))
+    → entry ≡ Some (One link) → numbers ≡ link.0 ∷ []
+number_kept numbers number entry link one is kept =
+    let same : One (record { 0 = number }) ≡ One link =
+    same_Some (One (record { 0 = number })) (One link) (sym is ∙ kept) in
+    one ∙ ap (λ (its : NiLink). (link_in its).0 ∷ []) same
+
+-- With one number more or none.
+ni_link-push : (numbers : List ℕ) (more : Bool) (number : ℕ)
+    → ni_link (numbers ++ (if more then number ∷ [] else []))
+    ≡ (if more then ni_link_with (record { 0 = number }) (ni_link numbers) else ni_link numbers)
+ni_link-push [] true number = refl
+ni_link-push [] false number = refl
+ni_link-push (first ∷ []) true number = refl
+ni_link-push (first ∷ []) false number = refl
+ni_link-push (first ∷ next ∷ numbers) true number = refl
+ni_link-push (first ∷ next ∷ numbers) false number = refl
+
+-- One more link.
+pub ni_links-more : (end : End) (links : List Link) (count number : ℕ) (link : Link)
+    (old new : List NiLink) → HasEntries (IsNiLink end (take number links)) count old
+    → slice_get links number ≡ Some link → length new ≡ length old
+    → ((ni : ℕ) (its : NiLink) → slice_get old ni ≡ Some its → slice_get new ni
+    ≡ Some (if same_node (end_node end link) (as_ni ni)
+    then ni_link_with (record { 0 = number }) its else its))
+    → HasEntries (IsNiLink end (take (number + 1) links)) count new
+ni_links-more end links count number link old new table at size entered = record {
+  size = size ∙ table.size;
+  each = λ ni its is.
+      let node : Node = as_ni ni in
+      let test = has_end end node in
+      let more : Bool = same_node (end_node end link) node in
+      let within = slice_get_within new ni its is in
+      elim ((slice_get_cases old ni).1) [
+        | inl (was, low, there, same) ↦
+            same_Some its (if more then ni_link_with (record { 0 = number }) was else was)
+            (sym is ∙ entered ni was there)
+            ∙ ap (λ (kept : NiLink). if more then ni_link_with (record { 0 = number }) kept
+            else kept) (table.each ni was there)
+            ∙ sym (ni_link-push (numbers_from 0 test (take number links)) more number)
+            ∙ ap ni_link (sym (numbers-more end links number link node at))
+        | inr (past, none) ↦ absurd (omega arith)
+      ];
+}
 
 -- A router's list has as many links as have the router at that end.
 count_listed : (end : End) (links : List Link) (routers router : ℕ)

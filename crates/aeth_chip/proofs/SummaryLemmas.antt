@@ -15,7 +15,7 @@ use Rattle.aeth_base.proofs.Ranges.{range_with_len-more}
 use Rattle.aeth_chip.specs.declared.chip.TheConstants.{MAX_NIS}
 use Rattle.aeth_chip.specs.Chip.{ChipData}
 use Rattle.aeth_chip.specs.LeastDistance.{least_distance}
-use Rattle.aeth_chip.specs.Summary.{distances_from, distances_among, distances_of, greatest_of}
+use Rattle.aeth_chip.specs.Summary.{distances_to, distances_among, distances_of, greatest_of}
 use Rattle.aeth_chip.specs.Summary.{far_of, unreached_of}
 
 -- One more number that is there.
@@ -46,31 +46,31 @@ pub count_missing-none : (numbers : List (Option ℕ))
 count_missing-none numbers =
     fold-append (λ missing n. missing + cond (is_none n) 1 0) 0 numbers (None ∷ [])
 
--- One more interface to go to.
-pub distances_from-more : (chip : ChipData) (a count : ℕ)
-    → distances_from chip a (count + 1)
-    ≡ distances_from chip a count
-    ++ least_distance chip (record { 0 = a }) (record { 0 = count }) ∷ []
-distances_from-more chip a count =
-    map-range_with_len_more (λ b. least_distance chip (record { 0 = a }) (record { 0 = b })) 0 count
+-- One more interface to come from.
+pub distances_to-more : (chip : ChipData) (b count : ℕ)
+    → distances_to chip b (count + 1)
+    ≡ distances_to chip b count
+    ++ least_distance chip (record { 0 = count }) (record { 0 = b }) ∷ []
+distances_to-more chip b count =
+    map-range_with_len_more (λ a. least_distance chip (record { 0 = a }) (record { 0 = b })) 0 count
     count (omega arith)
 
--- One more interface to come from.
+-- One more interface to go to.
 pub distances_among-more : (chip : ChipData) (count : ℕ)
     → distances_among chip (count + 1)
-    ≡ distances_among chip count ++ distances_from chip count (length chip.nis)
+    ≡ distances_among chip count ++ distances_to chip count (length chip.nis)
 distances_among-more chip count =
-    let row : ℕ → List (Option ℕ) = λ a. distances_from chip a (length chip.nis) in
+    let row : ℕ → List (Option ℕ) = λ b. distances_to chip b (length chip.nis) in
     ap (λ n. flat_map row (range_with_len 0 n)) (add-one count)
     ∙ ap (flat_map row) (range_with_len-more 0 count count (omega arith))
     ∙ sym (flat_map_more row [] (range_with_len 0 count) count)
 
 -- A row has a number for each interface.
-pub length-distances_from : (chip : ChipData) (a count : ℕ)
-    → length (distances_from chip a count) ≡ count
-length-distances_from chip a count =
+pub length-distances_to : (chip : ChipData) (b count : ℕ)
+    → length (distances_to chip b count) ≡ count
+length-distances_to chip b count =
     length-map (range_with_len 0 count)
-    (λ b. least_distance chip (record { 0 = a }) (record { 0 = b }))
+    (λ a. least_distance chip (record { 0 = a }) (record { 0 = b }))
     ∙ length-range_with_len 0 count
 
 -- So many rows have as many numbers as so many times the interfaces.
@@ -79,76 +79,76 @@ pub length-distances_among : (chip : ChipData) (count : ℕ)
 length-distances_among chip zero = omega arith
 length-distances_among chip (suc count) =
     let before = length-distances_among chip count in
-    let row = length-distances_from chip count (length chip.nis) in
+    let row = length-distances_to chip count (length chip.nis) in
     let more = ap length (ap (distances_among chip) (sym (add-one count))
     ∙ distances_among-more chip count) in
     let both = length-append (distances_among chip count)
-    (distances_from chip count (length chip.nis)) in
+    (distances_to chip count (length chip.nis)) in
     omega arith
 
 -- ---- what a loop over all pairs keeps
 
--- The pairs that come before one: those from an earlier interface, and those from the same one to
+-- The pairs that come before one: those to an earlier interface, and those to the same one from
 -- an earlier.
 abbrev pub distances_before : ChipData → ℕ → ℕ → List (Option ℕ)
-distances_before chip a b = distances_among chip a ++ distances_from chip a b
+distances_before chip b a = distances_among chip b ++ distances_to chip b a
 
 -- The summary of the pairs before one.
-pub record IsSummaryBefore (chip : ChipData) (a b far unreached : ℕ) : Type 0 where
-  pub far_is : far ≡ greatest_of (distances_before chip a b)
-  pub unreached_is : unreached ≡ count_by is_none (distances_before chip a b)
+pub record IsSummaryBefore (chip : ChipData) (b a far unreached : ℕ) : Type 0 where
+  pub far_is : far ≡ greatest_of (distances_before chip b a)
+  pub unreached_is : unreached ≡ count_by is_none (distances_before chip b a)
 
 -- One more pair.
-distances_before-more : (chip : ChipData) (a b : ℕ) (least : Option ℕ)
+distances_before-more : (chip : ChipData) (b a : ℕ) (least : Option ℕ)
     → least ≡ least_distance chip (record { 0 = a }) (record { 0 = b })
-    → distances_before chip a (b + 1) ≡ distances_before chip a b ++ least ∷ []
-distances_before-more chip a b least is =
-    ap (λ row. distances_among chip a ++ row) (distances_from-more chip a b)
-    ∙ sym (append_assoc (distances_among chip a) (distances_from chip a b)
+    → distances_before chip b (a + 1) ≡ distances_before chip b a ++ least ∷ []
+distances_before-more chip b a least is =
+    ap (λ row. distances_among chip b ++ row) (distances_to-more chip b a)
+    ∙ sym (append_assoc (distances_among chip b) (distances_to chip b a)
     (least_distance chip (record { 0 = a }) (record { 0 = b }) ∷ []))
-    ∙ ap (λ o. distances_before chip a b ++ o ∷ []) (sym is)
+    ∙ ap (λ o. distances_before chip b a ++ o ∷ []) (sym is)
 
 -- One more pair, with a path.
-pub summary-some : (chip : ChipData) (a b far unreached least new_far new_unreached : ℕ)
-    → IsSummaryBefore chip a b far unreached
+pub summary-some : (chip : ChipData) (b a far unreached least new_far new_unreached : ℕ)
+    → IsSummaryBefore chip b a far unreached
     → Some least ≡ least_distance chip (record { 0 = a }) (record { 0 = b })
     → new_far ≡ max far least → new_unreached ≡ unreached
-    → IsSummaryBefore chip a (b + 1) new_far new_unreached
-summary-some chip a b far unreached least new_far new_unreached before is farther kept =
-    let more = distances_before-more chip a b (Some least) is in
+    → IsSummaryBefore chip b (a + 1) new_far new_unreached
+summary-some chip b a far unreached least new_far new_unreached before is farther kept =
+    let more = distances_before-more chip b a (Some least) is in
     record {
       far_is = farther ∙ ap (λ n. max n least) before.far_is
-          ∙ sym (greatest_of-some (distances_before chip a b) least)
+          ∙ sym (greatest_of-some (distances_before chip b a) least)
           ∙ ap greatest_of (sym more);
       unreached_is = kept ∙ before.unreached_is
-          ∙ sym (count_missing-some (distances_before chip a b) least)
+          ∙ sym (count_missing-some (distances_before chip b a) least)
           ∙ ap (count_by is_none) (sym more);
     }
 
 -- One more pair, without.
-pub summary-none : (chip : ChipData) (a b far unreached new_far new_unreached : ℕ)
-    → IsSummaryBefore chip a b far unreached
+pub summary-none : (chip : ChipData) (b a far unreached new_far new_unreached : ℕ)
+    → IsSummaryBefore chip b a far unreached
     → None ≡ least_distance chip (record { 0 = a }) (record { 0 = b })
     → new_far ≡ far → new_unreached ≡ unreached + 1
-    → IsSummaryBefore chip a (b + 1) new_far new_unreached
-summary-none chip a b far unreached new_far new_unreached before is kept counted =
-    let more = distances_before-more chip a b None is in
+    → IsSummaryBefore chip b (a + 1) new_far new_unreached
+summary-none chip b a far unreached new_far new_unreached before is kept counted =
+    let more = distances_before-more chip b a None is in
     record {
-      far_is = kept ∙ before.far_is ∙ sym (greatest_of-none (distances_before chip a b))
+      far_is = kept ∙ before.far_is ∙ sym (greatest_of-none (distances_before chip b a))
           ∙ ap greatest_of (sym more);
       unreached_is = counted ∙ ap (λ n. n + 1) before.unreached_is
-          ∙ sym (count_missing-none (distances_before chip a b))
+          ∙ sym (count_missing-none (distances_before chip b a))
           ∙ ap (count_by is_none) (sym more);
     }
 
--- All pairs from one more interface.
-pub summary-row : (chip : ChipData) (a b far unreached : ℕ)
-    → IsSummaryBefore chip a b far unreached → b ≡ length chip.nis
-    → IsSummaryBefore chip (a + 1) 0 far unreached
-summary-row chip a b far unreached before last =
-    let same : distances_before chip a b ≡ distances_before chip (a + 1) 0 =
-    ap (distances_before chip a) last
-    ∙ sym (distances_among-more chip a) ∙ sym (append-nil (distances_among chip (a + 1))) in
+-- All pairs to one more interface.
+pub summary-row : (chip : ChipData) (b a far unreached : ℕ)
+    → IsSummaryBefore chip b a far unreached → a ≡ length chip.nis
+    → IsSummaryBefore chip (b + 1) 0 far unreached
+summary-row chip b a far unreached before last =
+    let same : distances_before chip b a ≡ distances_before chip (b + 1) 0 =
+    ap (distances_before chip b) last
+    ∙ sym (distances_among-more chip b) ∙ sym (append-nil (distances_among chip (b + 1))) in
     record {
       far_is = before.far_is ∙ ap greatest_of same;
       unreached_is = before.unreached_is ∙ ap (count_by is_none) same;
@@ -160,29 +160,29 @@ pub record IsSummary (chip : ChipData) (far unreached : ℕ) : Type 0 where
   pub unreached_is : unreached ≡ unreached_of chip
 
 -- After the last pair.
-pub summary-end : (chip : ChipData) (a far unreached : ℕ)
-    → IsSummaryBefore chip a 0 far unreached → a ≡ length chip.nis
+pub summary-end : (chip : ChipData) (b far unreached : ℕ)
+    → IsSummaryBefore chip b 0 far unreached → b ≡ length chip.nis
     → IsSummary chip far unreached
 unfolding far_of unreached_of
-summary-end chip a far unreached before last =
-    let same : distances_before chip a 0 ≡ distances_of chip =
-    append-nil (distances_among chip a) ∙ ap (distances_among chip) last in
+summary-end chip b far unreached before last =
+    let same : distances_before chip b 0 ≡ distances_of chip =
+    append-nil (distances_among chip b) ∙ ap (distances_among chip) last in
     record {
       far_is = before.far_is ∙ ap greatest_of same;
       unreached_is = before.unreached_is ∙ ap (count_by is_none) same;
     }
 
 -- So many pairs before one have no path at most.
-pub summary-few : (chip : ChipData) (a b far unreached : ℕ)
-    → IsSummaryBefore chip a b far unreached → length chip.nis ≤ MAX_NIS → a < length chip.nis
-    → b < length chip.nis → unreached < MAX_NIS * MAX_NIS
-summary-few chip a b far unreached before few row column =
+pub summary-few : (chip : ChipData) (b a far unreached : ℕ)
+    → IsSummaryBefore chip b a far unreached → length chip.nis ≤ MAX_NIS → b < length chip.nis
+    → a < length chip.nis → unreached < MAX_NIS * MAX_NIS
+summary-few chip b a far unreached before few row column =
     let is = before.unreached_is in
-    let missing = count_by-le-length is_none (distances_before chip a b) in
-    let both = length-append (distances_among chip a) (distances_from chip a b) in
-    let rows = length-distances_among chip a in
-    let one = length-distances_from chip a b in
-    let square : suc a * length chip.nis ≤ MAX_NIS * MAX_NIS =
-    mul-le-mul {n₁ = suc a} {m₁ = length chip.nis} {n₂ = MAX_NIS} {m₂ = MAX_NIS} (omega arith)
+    let missing = count_by-le-length is_none (distances_before chip b a) in
+    let both = length-append (distances_among chip b) (distances_to chip b a) in
+    let rows = length-distances_among chip b in
+    let one = length-distances_to chip b a in
+    let square : suc b * length chip.nis ≤ MAX_NIS * MAX_NIS =
+    mul-le-mul {n₁ = suc b} {m₁ = length chip.nis} {n₂ = MAX_NIS} {m₂ = MAX_NIS} (omega arith)
     few in
     omega arith

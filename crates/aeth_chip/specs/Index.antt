@@ -15,6 +15,8 @@ use Rattle.aeth_chip.specs.Wires.{further_wires, wires_of}
 use Rattle.aeth_chip.specs.declared.index.Ends.{Ends}
 use Rattle.aeth_chip.specs.declared.index.Index.{Index}
 use Rattle.aeth_chip.specs.declared.lists.ListedLinks.{ListedLinks}
+use Rattle.aeth_chip.specs.declared.lists.NiLink.{NiLink}
+use Rattle.aeth_chip.specs.declared.lists.NiLink.TheVariants.{Missing, One, Several}
 use Rattle.aeth_chip.specs.declared.lists.NiLinks.{NiLinks}
 use Rattle.aeth_chip.specs.declared.lists.RouterLinks.{RouterLinks}
 use Rattle.aeth_chip.specs.declared.node.End.{End}
@@ -66,10 +68,26 @@ pub record AreRouterLinks (links : List Link) (routers : ℕ) (its : RouterLinks
   pub incoming : AreListed as_router To links routers its.incoming.items
   pub ports : HasEntries (IsPort links) (length links) its.ports.items
 
+-- The one link of those with these numbers, where there is just one.
+abbrev pub ni_link : List ℕ → NiLink
+ni_link [] = Missing
+ni_link (number ∷ []) = One (record { 0 = number })
+ni_link (number ∷ next ∷ numbers) = Several
+
+-- The same with one link more.
+abbrev pub ni_link_with : LinkId → NiLink → NiLink
+ni_link_with link Missing = One link
+ni_link_with link (One first) = Several
+ni_link_with link Several = Several
+
+-- The one link that has a network interface at this end.
+abbrev pub IsNiLink : End → List Link → ℕ → NiLink → Type 0
+IsNiLink end links ni its = its ≡ ni_link (numbers_from 0 (has_end end (as_ni ni)) links)
+
 -- The links of each network interface.
 pub record AreNiLinks (links : List Link) (nis : ℕ) (its : NiLinks) : Type 0 where
-  pub outgoing : AreListed as_ni From links nis its.outgoing.items
-  pub incoming : AreListed as_ni To links nis its.incoming.items
+  pub outgoing : HasEntries (IsNiLink From links) nis its.outgoing.items
+  pub incoming : HasEntries (IsNiLink To links) nis its.incoming.items
 
 -- Links with lists of them for so many routers and network interfaces.
 pub record AreLinkLists (routers nis : ℕ) (listed : ListedLinks) : Type 0 where

@@ -1,6 +1,6 @@
 -- What the summary of a chip tells of the least numbers of links between its network interfaces.
 --
---   distances_from, distances_among      the least numbers for the first interfaces, pair by pair
+--   distances_to, distances_among      the least numbers for the first interfaces, pair by pair
 --   distances_of      the least numbers for all ordered pairs of interfaces
 --   greatest_of      the greatest number of a list
 --   far_of, unreached_of      the greatest of a chip's, and how many pairs have none
@@ -12,15 +12,15 @@ use Rattle.std.specs.Option.{is_none}
 use Rattle.aeth_chip.specs.Chip.{ChipData}
 use Rattle.aeth_chip.specs.LeastDistance.{least_distance}
 
--- The least numbers of links from an interface to each of the first so many.
-abbrev pub distances_from : ChipData → ℕ → ℕ → List (Option ℕ)
-distances_from chip a count =
-    map (λ b. least_distance chip (record { 0 = a }) (record { 0 = b })) (range_with_len 0 count)
+-- The least numbers of links to an interface from each of the first so many.
+abbrev pub distances_to : ChipData → ℕ → ℕ → List (Option ℕ)
+distances_to chip b count =
+    map (λ a. least_distance chip (record { 0 = a }) (record { 0 = b })) (range_with_len 0 count)
 
--- The least numbers of links from each of the first so many interfaces to each interface.
+-- The least numbers of links to each of the first so many interfaces from each interface.
 abbrev pub distances_among : ChipData → ℕ → List (Option ℕ)
 distances_among chip count =
-    flat_map (λ a. distances_from chip a (length chip.nis)) (range_with_len 0 count)
+    flat_map (λ b. distances_to chip b (length chip.nis)) (range_with_len 0 count)
 
 -- The least numbers of links for all ordered pairs of interfaces, each with itself among them.
 abbrev pub distances_of : ChipData → List (Option ℕ)

@@ -1,14 +1,16 @@
 // An index of the links of a chip, by which the links of a node are found without a walk.
-ghost use Rattle.std.specs.Prelude.{◌≡◌, ◌<◌, ◌≤◌, ◌∷◌, ℕ, [], Some, IfOk, length, map, slice_get};
+ghost use Rattle.std.specs.Prelude.{◌≡◌, ◌<◌, ◌≤◌, ℕ, Some, IfOk, length, slice_get};
 ghost use Rattle.aeth_base.specs.Limits.{max_link_delay};
+ghost use Rattle.aeth_base.specs.declared.ids.LinkId.{LinkId};
 ghost use Rattle.aeth_base.specs.declared.ids.NiId.{NiId};
 ghost use Rattle.aeth_chip.specs.Chip.{IsSingle};
 ghost use Rattle.aeth_chip.specs.Index.{AreNiLinks, HasEntries, IsEnds, IsFurther, list_at};
 ghost use Rattle.aeth_chip.specs.Limits.{max_links};
 ghost use Rattle.aeth_chip.specs.Wires.{wires_of};
+ghost use Rattle.aeth_chip.specs.declared.lists.NiLink.TheVariants.{One};
 ghost use Rattle.aeth_chip.specs.declared.node.Link.{Link};
 
-use crate::lists::{ListedLinks, NiLinks, RouterLinks, list_at};
+use crate::lists::{ListedLinks, NiLink, NiLinks, RouterLinks, list_at};
 use crate::node::Link;
 use aeth_base::{LinkId, NiId, NoMemory, RouterId};
 use std::alloc::Global;
@@ -90,25 +92,27 @@ pub(crate) fn further_of(alloc: Global, links: &[Link]) -> Result<(Vec<u32>, u32
     Ok((further, wires))
 }
 
-// The only link of a list.
-fn only_link(list: &[LinkId]) -> LinkId
-    requires { length list.now ≡ 1 }
-    ensures { map (λ l. l.0) list.now ≡ result.0 ∷ [] }
+// The one link.
+fn only_link(its: NiLink) -> LinkId
+    requires { (link : LinkId) × (its ≡ One link) }
+    ensures { its ≡ One result }
 {
-    list[0]
+    match its {
+        NiLink::One(link) => link,
+        NiLink::Missing | NiLink::Several => unreachable!(),
+    }
 }
 
 // The two links of a network interface.
 fn ends_at(its: &NiLinks, ni: u32) -> Ends
-    requires leaving { length (list_at its.now.outgoing.items ni) ≡ 1 }
-    requires entering { length (list_at its.now.incoming.items ni) ≡ 1 }
-    ensures leaving { map (λ l. l.0) (list_at its.now.outgoing.items ni) ≡ result.leaving.0 ∷ [] }
-    ensures entering { map (λ l. l.0) (list_at its.now.incoming.items ni)
-        ≡ result.entering.0 ∷ [] }
+    requires leaving { (l : LinkId) × (slice_get its.now.outgoing.items ni ≡ Some (One l)) }
+    requires entering { (l : LinkId) × (slice_get its.now.incoming.items ni ≡ Some (One l)) }
+    ensures leaving { slice_get its.now.outgoing.items ni ≡ Some (One result.leaving) }
+    ensures entering { slice_get its.now.incoming.items ni ≡ Some (One result.entering) }
 {
     Ends {
-        leaving: only_link(list_at(&its.outgoing, ni as usize)),
-        entering: only_link(list_at(&its.incoming, ni as usize)),
+        leaving: only_link(its.outgoing[ni as usize]),
+        entering: only_link(its.incoming[ni as usize]),
     }
 }
 

@@ -1,12 +1,13 @@
-// Lists of the links of each router and of each network interface, made in one pass over the links.
+// Lists of the links of each router, and the one link each way of each network interface, made in
+// passes over the links.
 ghost use Rattle.std.specs.Prelude.{◌≡◌, ◌≢◌, ◌<◌, ◌≤◌, ◌++◌, ◌∷◌, ℕ, [], Some, IfOk, length};
-ghost use Rattle.std.specs.Prelude.{slice_get};
+ghost use Rattle.std.specs.Prelude.{slice_get, if◌then◌else◌};
 ghost use Rattle.aeth_base.specs.declared.ids.NiId.{NiId};
 ghost use Rattle.aeth_base.specs.declared.ids.RouterId.{RouterId};
 ghost use Rattle.aeth_chip.specs.Index.{AreLinkLists, AreNiLinks, AreRouterLinks, as_ni, as_router};
-ghost use Rattle.aeth_chip.specs.Index.{entry_for, list_at};
+ghost use Rattle.aeth_chip.specs.Index.{entry_for, list_at, ni_link_with};
 ghost use Rattle.aeth_chip.specs.Limits.{max_links};
-ghost use Rattle.aeth_chip.specs.Nodes.{IsBelow, IsNiBelow, router_of};
+ghost use Rattle.aeth_chip.specs.Nodes.{IsBelow, IsNiBelow, router_of, same_node};
 ghost use Rattle.aeth_chip.specs.declared.node.Link.{Link};
 
 use crate::chip::MAX_PORTS;
@@ -23,12 +24,19 @@ pub(crate) struct RouterLinks {
     pub ports: Vec<usize>,
 }
 
-/// For each network interface the links on which it sends, and those on which it receives, in file
-/// order.
+/// The one link that has a network interface at an end, unless there is none or several.
+#[derive(Clone, Copy)]
+pub(crate) enum NiLink {
+    Missing,
+    One(LinkId),
+    Several,
+}
+
+/// For each network interface the one link on which it sends, and the one on which it receives.
 #[derive(Drop)]
 pub(crate) struct NiLinks {
-    pub outgoing: Vec<Vec<LinkId>>,
-    pub incoming: Vec<Vec<LinkId>>,
+    pub outgoing: Vec<NiLink>,
+    pub incoming: Vec<NiLink>,
 }
 
 /// Links, and the lists of them for each router and for each network interface.
@@ -74,14 +82,14 @@ pub(crate) fn listed_links(
     })
 }
 
-// So many empty lists, with room for so many links in each.
-fn empty_lists(alloc: Global, count: u32, room: usize) -> Result<Vec<Vec<LinkId>>, NoMemory>
+// So many empty lists, with room for as many links in each as a router has ports.
+fn empty_lists(alloc: Global, count: u32) -> Result<Vec<Vec<LinkId>>, NoMemory>
     ensures size { IfOk result (λ lists. length lists.items ≡ count) }
     ensures empty { IfOk result (λ lists. (place : ℕ) → list_at lists.items place ≡ []) }
 {
     let mut lists = Vec::with_capacity(alloc, count as usize)?;
     for _ in 0..count {
-        lists.push(Vec::with_capacity(alloc, room)?)?;
+        lists.push(Vec::with_capacity(alloc, MAX_PORTS as usize)?)?;
     }
     Ok(lists)
 }
@@ -117,19 +125,27 @@ fn enter(lists: &mut Vec<Vec<LinkId>>, node: Node, link: LinkId) -> Result<usize
     }
 }
 
-// Puts a link into the list of the network interface at its end.
-fn enter_ni(lists: &mut Vec<Vec<LinkId>>, node: Node, link: LinkId) -> Result<(), NoMemory>
-    requires { IsNiBelow (length lists.old.items) node }
-    ensures size { length lists.new.items ≡ length lists.old.items }
-    ensures lists { IfOk result (λ _. (ni : ℕ) → list_at lists.new.items ni
-        ≡ list_at lists.old.items ni ++ entry_for as_ni node link ni) }
+// The one link of a network interface that has one link more.
+fn with_link(its: NiLink, link: LinkId) -> NiLink
+    ensures { result ≡ ni_link_with link its }
+{
+    match its {
+        NiLink::Missing => NiLink::One(link),
+        NiLink::One(_) | NiLink::Several => NiLink::Several,
+    }
+}
+
+// Enters a link for the network interface at its end.
+fn enter_ni(entries: &mut [NiLink], node: Node, link: LinkId)
+    requires { IsNiBelow (length entries.old) node }
+    ensures size { length entries.new ≡ length entries.old }
+    ensures entries { (ni : ℕ) (its : NiLink) → slice_get entries.old ni ≡ Some its
+        → slice_get entries.new ni
+        ≡ Some (if same_node node (as_ni ni) then ni_link_with link its else its) }
 {
     match node {
-        Node::Router(_) => Ok(()),
-        Node::Ni(ni) => {
-            push_at(lists, ni.0 as usize, link)?;
-            Ok(())
-        }
+        Node::Router(_) => {}
+        Node::Ni(ni) => entries[ni.0 as usize] = with_link(entries[ni.0 as usize], link),
     }
 }
 
@@ -140,8 +156,8 @@ fn router_links(alloc: Global, routers: u32, links: &[Link]) -> Result<RouterLin
         → IsBelow routers link.from × IsBelow routers link.to }
     ensures { IfOk result (λ its. AreRouterLinks links.now routers its) }
 {
-    let mut outgoing = empty_lists(alloc, routers, MAX_PORTS as usize)?;
-    let mut incoming = empty_lists(alloc, routers, MAX_PORTS as usize)?;
+    let mut outgoing = empty_lists(alloc, routers)?;
+    let mut incoming = empty_lists(alloc, routers)?;
     let mut ports = Vec::with_capacity(alloc, links.len())?;
     for (number, link) in links.iter().enumerate() {
         let number = LinkId(number as u32);
@@ -162,12 +178,12 @@ fn ni_links(alloc: Global, nis: u32, links: &[Link]) -> Result<NiLinks, NoMemory
         → IsNiBelow nis link.from × IsNiBelow nis link.to }
     ensures { IfOk result (λ its. AreNiLinks links.now nis its) }
 {
-    let mut outgoing = empty_lists(alloc, nis, 1)?;
-    let mut incoming = empty_lists(alloc, nis, 1)?;
+    let mut outgoing = vec![in alloc; NiLink::Missing; nis as usize]?;
+    let mut incoming = vec![in alloc; NiLink::Missing; nis as usize]?;
     for (number, link) in links.iter().enumerate() {
         let number = LinkId(number as u32);
-        enter_ni(&mut outgoing, link.from, number)?;
-        enter_ni(&mut incoming, link.to, number)?;
+        enter_ni(&mut outgoing, link.from, number);
+        enter_ni(&mut incoming, link.to, number);
     }
     Ok(NiLinks { outgoing, incoming })
 }

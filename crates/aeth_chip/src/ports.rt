@@ -1,15 +1,15 @@
 // The rules on the links of a router and of a network interface.
-ghost use Rattle.std.specs.Prelude.{◌≡◌, ◌<◌, ◌^◌, length, map, option_map};
+ghost use Rattle.std.specs.Prelude.{◌≡◌, ◌<◌, ◌^◌, ℕ, List, length, map, option_map};
 ghost use Rattle.std.specs.List.{range_with_len};
 ghost use Rattle.aeth_chip.specs.ChipFile.{crowded, is_single, lone, not_single, router_at};
 ghost use Rattle.aeth_chip.specs.ChipFile.{same_router, unjoined};
-ghost use Rattle.aeth_chip.specs.Index.{AreNiLinks, AreRouterLinks, crowded_in};
+ghost use Rattle.aeth_chip.specs.Index.{AreNiLinks, AreRouterLinks, crowded_in, ni_link};
 ghost use Rattle.aeth_chip.specs.Nodes.{end_node, router_of};
 ghost use Rattle.aeth_document.specs.Arrays.{texts_in};
 ghost use Rattle.aeth_document.specs.Walks.{walked};
 
 use crate::chip::MAX_PORTS;
-use crate::lists::{ListedLinks, RouterLinks, list_at};
+use crate::lists::{ListedLinks, NiLink, RouterLinks, list_at};
 use crate::node::{End, Link, Node};
 use aeth_base::{LinkId, RouterId};
 use aeth_document::{Shown, Texts, Walk, shown_text};
@@ -48,11 +48,15 @@ pub(crate) fn crowded_routers(walk: Walk, routers: u32, listed: &ListedLinks) ->
     crowded_lists(walk, routers, &listed.routers)
 }
 
-// The link of a list that has just one.
-fn lone_link(list: &[LinkId]) -> Option<LinkId>
-    ensures { option_map (λ l. l.0) result ≡ lone (map (λ l. l.0) list.now) }
+// The one link.
+fn lone_link(its: NiLink) -> Option<LinkId>
+    ensures { (numbers : List ℕ) → its ≡ ni_link numbers
+        → option_map (λ l. l.0) result ≡ lone numbers }
 {
-    if list.len() == 1 { Some(list[0]) } else { None }
+    match its {
+        NiLink::One(link) => Some(link),
+        NiLink::Missing | NiLink::Several => None,
+    }
 }
 
 fn router_of(node: Node) -> Option<RouterId>
@@ -64,11 +68,12 @@ fn router_of(node: Node) -> Option<RouterId>
     }
 }
 
-// The router at an end of the one link of a list.
-fn router_at(links: &[Link], list: &[LinkId], end: End) -> Option<RouterId>
-    ensures { result ≡ router_at (end_node end) links.now (map (λ l. l.0) list.now) }
+// The router at an end of the one link.
+fn router_at(links: &[Link], its: NiLink, end: End) -> Option<RouterId>
+    ensures { (numbers : List ℕ) → its ≡ ni_link numbers
+        → result ≡ router_at (end_node end) links.now numbers }
 {
-    match lone_link(list) {
+    match lone_link(its) {
         None => None,
         Some(number) => match links.get(number.0 as usize) {
             None => None,
@@ -94,8 +99,8 @@ fn is_single(listed: &ListedLinks, nis: u32, ni: u32) -> bool
     requires ni { ni < nis }
     ensures { result ≡ is_single listed.now.links.items ni }
 {
-    let leaving = list_at(&listed.nis.outgoing, ni as usize);
-    let entering = list_at(&listed.nis.incoming, ni as usize);
+    let leaving = listed.nis.outgoing[ni as usize];
+    let entering = listed.nis.incoming[ni as usize];
     let after = router_at(&listed.links, leaving, End::To);
     same_router(after, router_at(&listed.links, entering, End::From))
 }

@@ -28,8 +28,8 @@ impl Summary {
         let nis = chip.nis();
         let mut far = 0;
         let mut unreached = 0;
-        for a in 0..nis {
-            for b in 0..nis {
+        for b in 0..nis {
+            for a in 0..nis {
                 match distances.between(NiId(a), NiId(b)) {
                     Some(least) => far = far.max(least),
                     None => unreached += 1,

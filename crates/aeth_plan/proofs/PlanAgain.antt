@@ -1,15 +1,13 @@
 -- The plan of a plan's text is the plan.
 use Rattle.std.proofs.Common.{◌≡◌, ◌<◌, ◌≤◌, ℕ, true, List, []}
-use Rattle.std.proofs.Common.{◌∷◌, length, map, Ok, refl, ap}
+use Rattle.std.proofs.Common.{◌∷◌, length, map, Ok, refl}
 use Rattle.std.proofs.Common.{arith, zero, suc}
-use Rattle.std.specs.Prelude.{is_none, nat_le, nat_lt}
+use Rattle.std.specs.Prelude.{nat_le}
 use Rattle.std.specs.List.{AllByRecursion}
 use Rattle.std.proofs.lemmas.Bool.{and_from, eq-eqb, le-leb, lt-ltb}
-use Rattle.std.proofs.lemmas.Bool.Decides.{nat_tests}
 use Rattle.aeth_base.specs.Limits.{max_path_links, min_path_links}
 use Rattle.aeth_base.specs.Name.{is_name}
 use Rattle.aeth_base.specs.declared.ids.LinkId.{LinkId}
-use Rattle.aeth_slots.specs.SlotSet.{Ascends}
 use Rattle.aeth_chip.specs.Chip.{ChipData, IsChip}
 use Rattle.aeth_app.specs.App.{AppData, IsApp}
 use Rattle.aeth_group.specs.Members.{GroupsData, IsGroups}
@@ -23,14 +21,14 @@ use Rattle.aeth_plan.specs.PlanText.{plan_in, plan_of, plan_text}
 use Rattle.aeth_plan.specs.Rules.{known_seat}
 use Rattle.aeth_plan.specs.PlanText.{plan_words, seat_words}
 use Rattle.aeth_plan.specs.Spelling.{IsGrantText, IsSeatText, IsText}
-use Rattle.aeth_plan.proofs.Places.{ascends_below, ascends_rises, below_all}
+use Rattle.aeth_plan.proofs.Places.{ascends_below, below_all}
 use Rattle.aeth_plan.proofs.Places.{at_most, each_again}
 use Rattle.aeth_plan.proofs.Places.{place_again}
 use Rattle.aeth_plan.proofs.TextLaws.{text_again}
-use Rattle.aeth_text.specs.Fields.{are_ascending, is_path}
+use Rattle.aeth_plan.proofs.StartLaws.{are_ascending-of}
+use Rattle.aeth_text.specs.Fields.{is_path}
 use Rattle.aeth_text.specs.Limits.{max_number}
 use Rattle.aeth_app.specs.Limits.{seats_per_ni}
-use Rattle.aeth_text.specs.Order.{misplaced}
 use Rattle.aeth_text.proofs.OrderLaws.{none_misplaced}
 use Rattle.aeth_plan.proofs.OwnNames.{HasNames, names_hold}
 use Rattle.aeth_plan.proofs.NameCounts.{length-connection_names, length-core_names}
@@ -50,13 +48,6 @@ seat_is_text chip app names seat of = record {
   ni = named_at chip.nis seat.ni.0 names.nis of.ni;
   seat = omega (arith, of.seat);
 }
-
-are_ascending-of : (high : ℕ) (starts : List ℕ) → 1 ≤ length starts → Ascends 0 high starts
-    → are_ascending starts ≡ true
-are_ascending-of high starts some asc =
-    and_from (nat_le 1 (length starts)) (is_none (misplaced nat_lt 0 starts))
-    (grind (arith, nat_tests))
-    (ap is_none (none_misplaced nat_lt 0 starts (ascends_rises high starts asc)))
 
 is_path-of : (path : List LinkId) → min_path_links ≤ length path
     → length path ≤ max_path_links → is_path path ≡ true

@@ -1,8 +1,10 @@
 pub mod Layout
+pub mod Starts
 pub mod Refusals
 pub mod Lines
 pub mod Spelling
 pub mod Plan
 pub mod Making
 pub mod Rules
+pub mod Known
 pub mod PlanText

@@ -1,21 +1,20 @@
 // What the fields of a line name on a chip and in an application.
-ghost use Rattle.std.specs.Prelude.{◌≡◌, ◌≤◌, ◌<◌, ◌+◌, length, nat_lt, IsTrue, OnOk};
+ghost use Rattle.std.specs.Prelude.{◌≡◌, length, nat_lt, option_map, IfSome, IsTrue, OnOk};
 ghost use Rattle.std.specs.List.{list_all};
 ghost use Rattle.aeth_base.specs.Faults.{Reads};
-ghost use Rattle.aeth_base.specs.Limits.{max_slots};
-ghost use Rattle.aeth_slots.specs.SlotSet.{Ascends};
 ghost use Rattle.aeth_plan.specs.Layout.{first_seat_line};
-ghost use Rattle.aeth_plan.specs.Rules.{each, holds, known_grant, known_seat};
+ghost use Rattle.aeth_plan.specs.Known.{IsNamed};
+ghost use Rattle.aeth_plan.specs.Plan.{connection_names};
+ghost use Rattle.aeth_plan.specs.Rules.{each, holds, known_grant, known_seat, place_among};
 ghost use Rattle.aeth_plan.specs.Refusals.{rule_of};
 
 use crate::fault::PlanFault;
 use crate::layout::FIRST_SEAT_LINE;
 use crate::text::{GrantText, SeatText};
 use aeth_app::{App, SEATS_PER_NI};
-use aeth_base::{GroupId, Path, Unit};
+use aeth_base::{ConnId, GroupId, Name, Path, Unit};
 use aeth_chip::Chip;
 use aeth_group::{Grant, Groups, SeatLine};
-use aeth_slots::SlotSet;
 use aeth_text::line_after;
 use std::alloc::Global;
 
@@ -60,25 +59,29 @@ fn has_links(chip: &Chip, path: &Path) -> bool
     true
 }
 
-/// Whether all starts are below the size of a table.
-fn are_below(starts: &[u32], size: u32) -> bool
-    ensures { result ≡ list_all (λ start. nat_lt start size) starts.now }
-{
-    starts.iter().all(|start| *start < size)
+/// A connection that was looked up, and its name.
+#[derive(Clone, Copy)]
+struct Named {
+    name: Name,
+    conn: ConnId,
 }
 
-/// The set of these starts.
-fn set_of(size: u32, starts: &[u32]) -> SlotSet
-    requires some { 1 ≤ size }
-    requires within { size ≤ max_slots }
-    requires ascends { Ascends 0 size starts.now }
-    ensures { result ≡ record { size = size; slots = starts.now } }
+/// The connection of a name. The last one that was found is looked at first, since the grants of a
+/// connection stand one behind the other.
+fn connection_of(app: &App, last: &mut Option<Named>, name: &Name) -> Option<ConnId>
+    requires { IfSome last.old (IsNamed app.now) }
+    ensures found { option_map (λ conn. conn.0) result
+        ≡ place_among (connection_names app.now) name.now }
+    ensures last { IfSome last.new (IsNamed app.now) }
 {
-    let mut set = SlotSet::empty(size);
-    for start in starts {
-        set.insert(*start);
+    if let Some(named) = last {
+        if named.name == *name {
+            return Some(named.conn);
+        }
     }
-    set
+    let conn = app.find_connection(name)?;
+    *last = Some(Named { name: *name, conn });
+    Some(conn)
 }
 
 /// The grant of a line.
@@ -87,26 +90,28 @@ fn known_grant(
     chip: &Chip,
     app: &App,
     groups: &Groups,
+    last: &mut Option<Named>,
     line: u32,
     text: &GrantText,
 ) -> Result<Grant, PlanFault>
-    ensures { Reads rule_of (λ grant. grant) result
+    requires { IfSome last.old (IsNamed app.now) }
+    ensures grant { Reads rule_of (λ grant. grant) result
         (known_grant chip.now app.now groups.now line text.now) }
+    ensures last { IfSome last.new (IsNamed app.now) }
 {
-    let Some(conn) = app.find_connection(&text.conn) else {
+    let Some(conn) = connection_of(app, last, &text.conn) else {
         return Err(PlanFault::Unknown { line, field: 2 });
     };
     holds(line, 3, text.group < groups.count())?;
     holds(line, 5, has_links(chip, &text.links))?;
     let size = chip.slots();
-    let starts = text.starts.as_slice();
-    holds(line, 6, are_below(starts, size))?;
+    holds(line, 6, text.starts.are_below(size))?;
     let group = GroupId(text.group);
     Ok(Grant {
         unit: Unit { conn, group },
         side: text.side,
         path: text.links,
-        slots: set_of(size, starts),
+        slots: text.starts.set_of(size),
     })
 }
 
@@ -142,9 +147,10 @@ pub(crate) fn known_grants(
         (each (known_grant chip.now app.now groups.now) first texts.now) }
 {
     let mut line = first;
+    let mut last = None;
     let mut grants = Vec::new(alloc);
     for text in texts {
-        grants.push(known_grant(chip, app, groups, line, text)?)?;
+        grants.push(known_grant(chip, app, groups, &mut last, line, text)?)?;
         line = line_after(line, 1);
     }
     Ok(grants)

@@ -12,6 +12,7 @@ mod plan;
 mod printing;
 mod read;
 mod reading;
+mod starts;
 mod text;
 
 pub use fault::PlanFault;

@@ -4,9 +4,10 @@ ghost use Rattle.aeth_text.specs.Limits.{space};
 ghost use Rattle.std.specs.Prelude.{◌≡◌, ◌∷◌, [], IfOk, MatchOption, codes};
 ghost use Rattle.aeth_plan.specs.Lines.{grant_in, head_in, is_end, seat_in};
 
+use crate::starts::Starts;
 use crate::text::{GrantText, SeatText};
 use aeth_base::{Name, NoMemory};
-use aeth_text::{ascending_in, links_in, next_word, number_in, side_in};
+use aeth_text::{links_in, next_word, number_in, side_in};
 use std::alloc::Global;
 
 /// `plan 1 SLOTS`.
@@ -82,9 +83,13 @@ fn grant_words(line: &[u8]) -> Option<(&[u8], &[u8], &[u8], &[u8], &[u8])>
     Some((conn, group, side, links, starts))
 }
 
-/// `grant CONN GROUP SIDE LINKS STARTS`.
+/// `grant CONN GROUP SIDE LINKS STARTS`, in a plan for tables of so many slots.
 #[tactic(auto, unfolding(crate::specs::Lines::grant_in))]
-pub(crate) fn grant_in(alloc: Global, line: &[u8]) -> Result<Option<GrantText>, NoMemory>
+pub(crate) fn grant_in(
+    alloc: Global,
+    slots: u32,
+    line: &[u8],
+) -> Result<Option<GrantText>, NoMemory>
     ensures { IfOk result (λ found. found ≡ grant_in line.now) }
 {
     let Some((conn, group, side, links, starts)) = grant_words(line) else {
@@ -102,7 +107,7 @@ pub(crate) fn grant_in(alloc: Global, line: &[u8]) -> Result<Option<GrantText>, 
     let Some(links) = links_in(links) else {
         return Ok(None);
     };
-    let Some(starts) = ascending_in(alloc, starts)? else {
+    let Some(starts) = Starts::of(alloc, slots, starts)? else {
         return Ok(None);
     };
     Ok(Some(GrantText {

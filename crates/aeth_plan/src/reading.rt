@@ -31,8 +31,13 @@ fn leading_seats(alloc: Global, text: &[u8]) -> Result<(Vec<SeatText>, &[u8]), N
     Ok((seats, left))
 }
 
-/// The grants of the lines at the front, and the text behind them.
-fn leading_grants(alloc: Global, text: &[u8]) -> Result<(Vec<GrantText>, &[u8]), NoMemory>
+/// The grants of the lines at the front, in a plan for tables of so many slots, and the text behind
+/// them.
+fn leading_grants(
+    alloc: Global,
+    slots: u32,
+    text: &[u8],
+) -> Result<(Vec<GrantText>, &[u8]), NoMemory>
     ensures grants { IfOk result (λ p. p.0.items ≡ leading grant_in (lines_of text.now)) }
     ensures lines { IfOk result (λ p. lines_of p.1.now ≡ behind grant_in (lines_of text.now)) }
     ensures rest { IfOk result (λ p. rest_of p.1.now ≡ rest_of text.now) }
@@ -40,7 +45,7 @@ fn leading_grants(alloc: Global, text: &[u8]) -> Result<(Vec<GrantText>, &[u8]),
     let mut grants = Vec::new(alloc);
     let mut left = text;
     'lines: while let Some((line, rest)) = next_line(left) {
-        match grant_in(alloc, line)? {
+        match grant_in(alloc, slots, line)? {
             Some(grant) => grants.push(grant)?,
             None => return Ok((grants, left)),
         }
@@ -84,7 +89,7 @@ fn body_in(alloc: Global, slots: u32, text: &[u8]) -> Result<PlanText, PlanFault
         (body_in slots (lines_of text.now) (rest_of text.now)) }
 {
     let (seats, text) = leading_seats(alloc, text)?;
-    let (grants, text) = leading_grants(alloc, text)?;
+    let (grants, text) = leading_grants(alloc, slots, text)?;
     let line = line_after(first_grant_line(&seats), grants.len());
     closed(line, text)?;
     Ok(PlanText {

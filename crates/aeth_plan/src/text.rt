@@ -1,4 +1,5 @@
 // A plan text without its names' meaning: what the lines say.
+use crate::starts::Starts;
 use aeth_base::{Name, Path, Side};
 use std::marker::Model;
 
@@ -17,7 +18,7 @@ pub(crate) struct GrantText {
     pub group: u32,
     pub side: Side,
     pub links: Path,
-    pub starts: Vec<u32>,
+    pub starts: Starts,
 }
 
 impl Model for GrantText {
@@ -32,11 +33,11 @@ impl Model for GrantText {
       group = grant.group;
       side = grant.side;
       links = grant.links;
-      starts = grant.starts.items;
+      starts = grant.starts;
     } };
 
     // Each start is greater than the one before.
-    ghost invariant = { λ grant. IsTrue (are_ascending grant.starts.items) };
+    ghost invariant = { λ grant. IsTrue (are_ascending grant.starts) };
 }
 
 /// What the lines of a plan text say.

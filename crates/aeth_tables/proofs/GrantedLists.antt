@@ -1,7 +1,8 @@
--- The connections of a use case are few, and their paths those of the chip.
+-- The connections of a use case are few, and the paths of grants those of the chip.
 use Rattle.std.proofs.Common.{◌≡◌, ◌∙◌, ◌<◌, ◌≤◌, ◌+◌, ◌++◌, ℕ, suc, Bool, true, false, cond, List}
-use Rattle.std.proofs.Common.{[], ◌∷◌, All, Option, Some, None, length, filter, sym, ap}
+use Rattle.std.proofs.Common.{[], ◌∷◌, All, Option, Some, None, length, filter, map, refl, sym, ap}
 use Rattle.std.proofs.Common.{arith, add-one, zero-add}
+use Rattle.std.specs.Prelude.{IfSome, option_map}
 use Rattle.std.specs.List.{cons_option, filter_map, range_with_len}
 use Rattle.std.proofs.lemmas.List.{append-nil}
 use Rattle.std.proofs.lemmas.List.Elements.{All-from_recursion, filter-append, filter_map-append}
@@ -10,19 +11,17 @@ use Rattle.std.proofs.lemmas.List.FromFn.{length-range_with_len}
 use Rattle.aeth_base.proofs.Ranges.{range_with_len-more}
 use Rattle.aeth_base.specs.declared.ids.LinkId.{LinkId}
 use Rattle.aeth_base.specs.declared.ids.Side.{Side}
-use Rattle.aeth_base.specs.declared.ids.Side.TheVariants.{Back, Fwd}
+use Rattle.aeth_base.specs.declared.ids.Unit.{Unit as GroupUnit}
 use Rattle.aeth_chip.specs.Chip.{ChipData}
 use Rattle.aeth_app.specs.App.{AppData}
 use Rattle.aeth_group.specs.Members.{GroupsData, group_at, has_at}
 use Rattle.aeth_group.specs.declared.grant.Grant.{Grant}
 use Rattle.aeth_plan.specs.Plan.{IsGrantOf, IsPlanOf, PlanData}
 use Rattle.aeth_check.specs.Channels.{is_for}
-use Rattle.aeth_tables.specs.Changes.{HasPaths}
-use Rattle.aeth_tables.specs.Granted.{grant_of, granted_in, granted_of, unit_in}
+use Rattle.aeth_tables.specs.Changes.{HasLinks}
+use Rattle.aeth_tables.specs.Granted.{grant_of, granted_in, granted_of}
 use Rattle.aeth_tables.proofs.FindLaws.{found_is}
-use Rattle.aeth_tables.proofs.ListLaws.{all_from_places, all_has_by, has_place}
-use Rattle.aeth_tables.proofs.PlaceLaws.{given_by}
-use Rattle.aeth_tables.proofs.ReservedLaws.{made_of}
+use Rattle.aeth_tables.proofs.ListLaws.{all_from_places, all_has, all_has_by, has_place}
 
 -- ---- One number more
 
@@ -92,30 +91,33 @@ granted_few app groups plan u =
       length-range_with_len 0 groups.connections,
     )
 
+-- What is made of what is given.
+pub given-map : {X Y Z : Type 0} (make : Y → Z) (give : X → Option Y) (xs : List X)
+    → filter_map (λ x. option_map make (give x)) xs ≡ map make (filter_map give xs)
+given-map make give [] = refl
+given-map {X} {Y} {Z} make give (x ∷ xs) =
+    let rest = given-map make give xs in
+    let cases : (o : Option Y)
+    → cons_option (option_map make o) (filter_map (λ (y : X). option_map make (give y)) xs)
+    ≡ map make (cons_option o (filter_map give xs)) =
+    elim [ None ↦ rest | Some y ↦ ap (λ (zs : List Z). make y ∷ zs) rest ]
+    in cases (give x)
+
 -- ---- Paths
 
-path_of_grant : (chip : ChipData) (app : AppData) (groups : GroupsData) (plan : PlanData)
-    → IsPlanOf chip app groups plan → (group conn : ℕ) (side : Side) (grant : Grant)
-    → grant_of plan.grants side (unit_in group conn) ≡ Some grant
-    → All (λ (link : LinkId). link.0 < length chip.links) grant.path
-path_of_grant chip app groups plan is_plan group conn side grant found =
-    let is = found_is (is_for (unit_in group conn) side) plan.grants grant found in
-    let of = all_has_by (IsGrantOf chip app groups) plan.grants grant is_plan.grants is.0 in
-    All-from_recursion (λ (link : LinkId). link.0 < length chip.links) grant.path of.links
+-- The links of the paths of a plan's grants are those of the chip.
+pub plan_links : (chip : ChipData) (app : AppData) (groups : GroupsData) (plan : PlanData)
+    → IsPlanOf chip app groups plan → All (HasLinks chip) plan.grants
+plan_links chip app groups plan is_plan =
+    all_from_places (HasLinks chip) plan.grants (λ place grant at.
+    All-from_recursion (λ (link : LinkId). link.0 < length chip.links) grant.path
+    (all_has_by (IsGrantOf chip app groups) plan.grants grant is_plan.grants
+    (has_place plan.grants place grant at)).links)
 
--- The links of their paths are those of the chip.
-pub granted_paths : (chip : ChipData) (app : AppData) (groups : GroupsData) (plan : PlanData) (u : ℕ)
-    → IsPlanOf chip app groups plan → All (HasPaths chip) (granted_in app groups plan u)
-unfolding granted_in
-granted_paths chip app groups plan u is_plan =
-    let group = group_at groups u in
-    let numbers = filter (has_at groups u) (range_with_len 0 groups.connections) in
-    all_from_places (HasPaths chip) (filter_map (granted_of app plan group) numbers)
-    (λ place granted at.
-    let (conn, inside, gives) = given_by (granted_of app plan group) numbers granted
-    (has_place (filter_map (granted_of app plan group) numbers) place granted at) in
-    let made = made_of app plan group conn granted gives in
-    record {
-      fwd = path_of_grant chip app groups plan is_plan group conn Fwd granted.fwd made.fwd;
-      back = path_of_grant chip app groups plan is_plan group conn Back granted.back made.back;
-    })
+-- So are those of a grant that is found.
+pub found_links : (chip : ChipData) (grants : List Grant) → All (HasLinks chip) grants
+    → (side : Side) (unit : GroupUnit) (found : Option Grant) → found ≡ grant_of grants side unit
+    → IfSome found (HasLinks chip)
+found_links chip grants all side unit None is = tt
+found_links chip grants all side unit (Some grant) is =
+    all_has (HasLinks chip) grants grant all (found_is (is_for unit side) grants grant (sym is)).0

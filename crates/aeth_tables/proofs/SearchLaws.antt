@@ -126,14 +126,36 @@ level-seats m n o same = ap (nat_lt m) (eqb-true n o same)
 off-seats : (n o : ℕ) → (n == o) ≡ true → nat_lt n o ≡ false
 off-seats n o same = grind (arith, nat_tests)
 
--- A line that seats the core is the one.
-pub seat-only : (seats : List SeatLine) → Rises seat_before seats → (core : CoreId) (n : ℕ)
-    (line : SeatLine) → slice_get seats n ≡ Some line → (line.core.0 == core.0) ≡ true
-    → line_of seats core ≡ Some line
-seat-only seats rises core =
-    find-only seat_before (λ a b c. chain-seats a.core.0 b.core.0 c.core.0)
-    (λ line. line.core.0 == core.0) (λ line. nat_lt line.core.0 core.0)
-    (λ a x. level-seats a.core.0 x.core.0 core.0) (λ x. off-seats x.core.0 core.0) seats rises
+module _ (seats : List SeatLine) (rises : Rises seat_before seats) (core : CoreId) where
+  -- A line that seats the core is the one.
+  pub seat-only : (n : ℕ) (line : SeatLine) → slice_get seats n ≡ Some line
+      → (line.core.0 == core.0) ≡ true → line_of seats core ≡ Some line
+  seat-only = find-only seat_before (λ a b c. chain-seats a.core.0 b.core.0 c.core.0)
+      (λ line. line.core.0 == core.0) (λ line. nat_lt line.core.0 core.0)
+      (λ a x. level-seats a.core.0 x.core.0 core.0) (λ x. off-seats x.core.0 core.0) seats rises
+
+  -- Those of cores before it are the first ones.
+  pub seats-first : IsPartitionedBy (λ (line : SeatLine). nat_lt line.core.0 core.0) seats
+  seats-first = ahead-first seat_before (λ a b c. chain-seats a.core.0 b.core.0 c.core.0)
+      (λ line. line.core.0 == core.0) (λ line. nat_lt line.core.0 core.0)
+      (λ a x. level-seats a.core.0 x.core.0 core.0) (λ x. off-seats x.core.0 core.0) seats rises
+      (λ a b. chain-seats a.core.0 b.core.0 core.0)
+
+  module _ (n : ℕ) (point : IsPartitionPoint (λ (line : SeatLine). nat_lt line.core.0 core.0 ≡ true)
+      (λ (line : SeatLine). nat_lt line.core.0 core.0 ≡ false) seats n) where
+    -- The first of no core before it is the one, or none is.
+    pub seat-there : (line : SeatLine) → slice_get seats n ≡ Some line
+        → line_of seats core ≡ cond (line.core.0 == core.0) (Some line) None
+    seat-there = found-there seat_before (λ a b c. chain-seats a.core.0 b.core.0 c.core.0)
+        (λ line. line.core.0 == core.0) (λ line. nat_lt line.core.0 core.0)
+        (λ a x. level-seats a.core.0 x.core.0 core.0) (λ x. off-seats x.core.0 core.0) seats rises
+        n point
+
+    pub seat-past : length seats ≤ n → line_of seats core ≡ None
+    seat-past = found-past seat_before (λ a b c. chain-seats a.core.0 b.core.0 c.core.0)
+        (λ line. line.core.0 == core.0) (λ line. nat_lt line.core.0 core.0)
+        (λ a x. level-seats a.core.0 x.core.0 core.0) (λ x. off-seats x.core.0 core.0) seats rises
+        n point
 
 -- ---- Grants
 

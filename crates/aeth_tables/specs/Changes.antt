@@ -1,7 +1,7 @@
 -- How long switches between use cases take, by what each connection adds. A switch that closes or
 -- opens a connection has its greater path delay, and its writes.
 --
---   change_of, HasPaths      what a connection adds
+--   change_of, HasLinks      what a connection adds
 --   made, lag_in, writes_in, span_in      what is added to a switch
 --   changes_at, spans_in      what is added to all switches from a use case
 --   most_writes, AreFew      how much that is at most
@@ -15,6 +15,7 @@ use Rattle.aeth_chip.specs.Chip.{ChipData}
 use Rattle.aeth_chip.specs.Paths.{path_delay}
 use Rattle.aeth_app.specs.Limits.{max_connections}
 use Rattle.aeth_group.specs.Members.{GroupsData, is_kept}
+use Rattle.aeth_group.specs.declared.grant.Grant.{Grant}
 use Rattle.aeth_tables.specs.declared.changes.Change.{Change}
 use Rattle.aeth_tables.specs.declared.granted.GrantedConnection.{GrantedConnection}
 
@@ -27,10 +28,9 @@ change_of chip one = record {
   writes = (length one.fwd.slots.slots + 1) + (length one.back.slots.slots + 1);
 }
 
--- The links of a connection's paths are those of the chip.
-pub record HasPaths (chip : ChipData) (one : GrantedConnection) : Type 0 where
-  pub fwd : All (λ link. link.0 < length chip.links) one.fwd.path
-  pub back : All (λ link. link.0 < length chip.links) one.back.path
+-- The links of a grant's path are those of the chip.
+abbrev pub HasLinks : ChipData → Grant → Type 0
+HasLinks chip grant = All (λ link. link.0 < length chip.links) grant.path
 
 -- Those of some changes that a switch between two use cases makes: it doesn't keep the connection.
 abbrev pub made : GroupsData → ℕ → ℕ → List Change → List Change

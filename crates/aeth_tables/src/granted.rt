@@ -1,14 +1,13 @@
 // The connections of a use case, each with the seats of its cores and the grants of its two sides.
-ghost use Rattle.aeth_app.specs.Limits.{max_connections};
 ghost use Rattle.aeth_group.specs.Members.{groups_of};
 ghost use Rattle.aeth_plan.specs.Plan.{seat_before};
 ghost use Rattle.aeth_tables.specs.Granted.{grant_on, granted_in, granted_of};
 ghost use Rattle.aeth_tables.specs.Granted.{granted_with, line_of, other_side};
 ghost use Rattle.aeth_tables.specs.Granted.{receiving_seat, sending_seat};
 ghost use Rattle.aeth_text.specs.Order.{Rises};
-ghost use Rattle.std.specs.Prelude.{◌≡◌, ◌<◌, ◌≤◌, IfOk, length};
+ghost use Rattle.std.specs.Prelude.{◌≡◌, ◌<◌, IfOk, length, option_copied};
 
-use crate::finding::{grant_near, grants_before, line_of};
+use crate::finding::{grants_of, line_of};
 use aeth_app::{App, Connection};
 use aeth_base::{ConnId, GroupId, NoMemory, Side, Unit, UseId};
 use aeth_group::{Grant, Groups, SeatLine};
@@ -73,41 +72,36 @@ fn granted_with(
     conn: ConnId,
     connection: &Connection,
     seats: &[SeatLine],
-    fwd: &Option<Grant>,
-    back: &Option<Grant>,
+    fwd: Option<&Grant>,
+    back: Option<&Grant>,
 ) -> Option<GrantedConnection>
     requires { Rises seat_before seats.now }
     ensures { result ≡ granted_with conn.0 connection.now (line_of seats.now connection.now.from)
-        (line_of seats.now connection.now.to) fwd.now back.now }
+        (line_of seats.now connection.now.to) (option_copied fwd.entry) (option_copied back.entry) }
 {
     let from = line_of(seats, connection.from)?;
     let to = line_of(seats, connection.to)?;
-    let fwd = (*fwd)?;
-    let back = (*back)?;
+    let fwd = fwd?;
+    let back = back?;
     Some(GrantedConnection {
         conn,
         connection: *connection,
         from,
         to,
-        fwd,
-        back,
+        fwd: *fwd,
+        back: *back,
     })
 }
 
-/// The connection of this number, with its seats in a plan and its grants in a group. The grants of its
-/// two sides stand one behind the other.
+/// The connection of this number, with its seats in a plan and its grants in a group.
 fn granted_of(app: &App, plan: &Plan, group: GroupId, conn: ConnId) -> Option<GrantedConnection>
     requires { conn.0 < length app.now.connections }
     ensures { result ≡ granted_of app.now plan.now group.0 conn.0 }
 {
     // The call tells that the lines of every plan are in order.
     let _slots = plan.slots();
-    let unit = Unit { conn, group };
-    let grants = plan.grants();
-    let place = grants_before(grants, unit, Side::Fwd);
-    let fwd = grant_near(grants, place, unit, Side::Fwd);
-    let back = grant_near(grants, place.saturating_add(1), unit, Side::Back);
-    granted_with(conn, &app.connection(conn), plan.seats(), &fwd, &back)
+    let (fwd, back) = grants_of(plan.grants(), Unit { conn, group });
+    granted_with(conn, &app.connection(conn), plan.seats(), fwd, back)
 }
 
 /// The connections of a use case, in file order, with their seats in a plan and their grants in the
@@ -121,12 +115,11 @@ pub(crate) fn granted_in(
 ) -> Result<Vec<GrantedConnection>, NoMemory>
     requires groups { groups.now ≡ groups_of app.now }
     requires use_case { u.0 < length groups.now.uses }
-    ensures granted { IfOk result (λ granted. granted.items
+    ensures { IfOk result (λ granted. granted.items
         ≡ granted_in app.now groups.now plan.now u.0) }
-    ensures few { IfOk result (λ granted. length granted.items ≤ max_connections) }
 {
     let group = groups.group_of(u);
-    let mut granted = Vec::new(alloc);
+    let mut granted = Vec::with_capacity(alloc, app.connections() as usize)?;
     for c in 0..app.connections() {
         let conn = ConnId(c);
         if groups.has(u, conn) {

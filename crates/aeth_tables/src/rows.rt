@@ -138,8 +138,9 @@ pub(crate) fn tables_with(
     ensures { IfOk result (λ tables. tables
         ≡ tables_with chip.now app.now u connections.now) }
 {
-    let mut rows = Vec::new(alloc);
-    let mut shapes = Vec::new(alloc);
+    let channels = connections.len().saturating_mul(2);
+    let mut rows = Vec::with_capacity(alloc, channels)?;
+    let mut shapes = Vec::with_capacity(alloc, channels)?;
     for granted in connections {
         push_connection(&mut rows, &mut shapes, chip, app, granted)?;
     }

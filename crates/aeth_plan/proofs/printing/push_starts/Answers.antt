@@ -1,7 +1,4 @@
-use Rattle.std.proofs.Common.{◌++◌, map, true, refl, ap}
-use Rattle.std.specs.Prelude.{decimal}
-use Rattle.aeth_text.specs.Spelling.{numbers_word}
-use Rattle.aeth_text.proofs.PrintLaws.{item_step, items_end}
+use Rattle.aeth_text.proofs.PrintLaws.{item_step}
 use Rattle.aeth_plan.proofs.printing.push_starts.Goals as goal
 
 -- One more start is printed.

@@ -1,4 +1,4 @@
-use Rattle.std.proofs.Common.{◌≡◌, ◌∙◌, ℕ, List, filter, length, sym, ap, arith}
+use Rattle.std.proofs.Common.{◌≡◌, ◌∙◌, ℕ, List, filter, sym, ap, arith}
 use Rattle.std.specs.List.{filter_map, range_with_len}
 use Rattle.aeth_app.specs.App.{AppData}
 use Rattle.aeth_group.specs.Members.{GroupsData, group_at, has_at}
@@ -6,7 +6,7 @@ use Rattle.aeth_group.proofs.MemberLemmas.{connections-groups_of}
 use Rattle.aeth_plan.specs.Plan.{PlanData}
 use Rattle.aeth_tables.specs.Granted.{granted_in, granted_of}
 use Rattle.aeth_tables.specs.declared.granted.GrantedConnection.{GrantedConnection}
-use Rattle.aeth_tables.proofs.GrantedLists.{given-none, given-not, given-some, granted_few}
+use Rattle.aeth_tables.proofs.GrantedLists.{given-none, given-not, given-some}
 use Rattle.aeth_tables.proofs.granted.granted_in.Goals.{else-has, then-has+in-Some+in_ok-push}
 use Rattle.aeth_tables.proofs.granted.granted_in.Goals.{then-has+in_default}
 use Rattle.aeth_tables.proofs.granted.granted_in.Goals as goal
@@ -48,30 +48,11 @@ all_seen app groups plan u n granted all is =
     is ∙ ap (λ (m : ℕ). filter_map (granted_of app plan (group_at groups u))
     (filter (has_at groups u) (range_with_len 0 m))) all
 
-pub returns-clause-granted : goal.returns-clause-granted
-returns-clause-granted c =
+pub returns : goal.returns
+returns c =
     let count = ap (λ (g : GroupsData). g.connections) c.requires.groups
     ∙ connections-groups_of c.args.app.now in
     all_seen c.args.app.now c.args.groups.now c.args.plan.now c.args.u.0 c.loop-c.c
     c.loop-c.granted.items
     (omega (arith, count, c.connections-c-end.ensures.connections, c.loop-c-test.false))
     c.loop-c.invariant
-
--- There are no more than all connections.
-pub returns-clause-few : goal.returns-clause-few
-returns-clause-few c =
-    let app = c.args.app.now in
-    let groups = c.args.groups.now in
-    let count = ap (λ (g : GroupsData). g.connections) c.requires.groups
-    ∙ connections-groups_of app in
-    let seen = all_seen app groups c.args.plan.now c.args.u.0 c.loop-c.c c.loop-c.granted.items
-    (omega (arith, count, c.connections-c-end.ensures.connections, c.loop-c-test.false))
-    c.loop-c.invariant in
-    omega (
-      arith,
-      granted_few app groups c.args.plan.now c.args.u.0,
-      count,
-      c.connections-c-end.ensures.connections,
-      c.connections-c-end.ensures.most,
-      ap length seen,
-    )

@@ -28,7 +28,7 @@ tables_with-requires-clause-connections c =
     all_reserved c.args.chip.now c.args.app.now c.args.groups.now c.args.plan.now
     c.slots-chip_slots.ensures.chip c.slots-app_slots.ensures.app c.requires.groups
     c.requires.plan c.requires.accepted c.args.u.0 c.requires.use_case c.deref.result.now
-    (c.deref.ensures.value ∙ c.in_ok-connections.ensures.granted)
+    (c.deref.ensures.value ∙ c.in_ok-connections.ensures)
 
 -- These are the tables.
 tables_are : (chip : ChipData) (app : AppData) (groups : GroupsData) (plan : PlanData) (u : UseId)
@@ -49,7 +49,7 @@ returns-clause-gives c =
     (λ (tables : TablesData). tables ≡ tables_with chip app u ones)
     (λ (tables : TablesData). tables ≡ tables_of chip app groups plan u)
     (λ tables is. is ∙ tables_are chip app groups plan u ones
-    (c.deref.ensures.value ∙ c.in_ok-connections.ensures.granted)) c.tables_with.ensures
+    (c.deref.ensures.value ∙ c.in_ok-connections.ensures)) c.tables_with.ensures
 
 -- They can be printed.
 pub returns-clause-printable : goal.returns-clause-printable
@@ -67,4 +67,4 @@ returns-clause-printable c =
     c.slots-chip_slots.ensures.chip c.slots-app_slots.ensures.app c.requires.groups
     c.requires.plan c.requires.accepted u c.requires.use_case tables
     (is ∙ tables_are chip app groups plan u ones
-    (c.deref.ensures.value ∙ c.in_ok-connections.ensures.granted))) c.tables_with.ensures
+    (c.deref.ensures.value ∙ c.in_ok-connections.ensures))) c.tables_with.ensures

@@ -23,36 +23,36 @@ given_least chip links is_chip same a b least distance =
 pub overflow_add-unreached : goal.overflow_add-unreached
 overflow_add-unreached c =
     let nis = c.nis-nis.ensures.nis in
-    let few = summary-few c.args.chip.now c.loop-a.a c.loop-b.b c.loop-b.far c.loop-b.unreached
-    c.loop-b.invariant c.slots.ensures.chip.nis (omega arith) (omega arith) in
+    let few = summary-few c.args.chip.now c.loop-b.b c.loop-a.a c.loop-a.far c.loop-a.unreached
+    c.loop-a.invariant c.slots.ensures.chip.nis (omega arith) (omega arith) in
     omega arith
 
 -- One more pair.
-pub loop-b-preserved : goal.loop-b-preserved
-loop-b-preserved c =
+pub loop-a-preserved : goal.loop-a-preserved
+loop-a-preserved c =
     let given = given_least c.args.chip.now c.args.distances.now c.slots.ensures.chip c.requires
     (record { 0 = c.loop-a.a }) (record { 0 = c.loop-b.b }) in
     elim c.match-between.branch [
-      | in-Some w ↦ summary-some c.args.chip.now c.loop-a.a c.loop-b.b c.loop-b.far
-          c.loop-b.unreached w.in-Some.least c.match-between.far c.match-between.unreached
-          c.loop-b.invariant (given (Some w.in-Some.least) w.in-Some.ensures.distance)
-          (w.far-is ∙ w.max-far.ensures ∙ ord_max-nat c.loop-b.far w.in-Some.least) w.unreached-is
-      | in-None w ↦ summary-none c.args.chip.now c.loop-a.a c.loop-b.b c.loop-b.far
-          c.loop-b.unreached c.match-between.far c.match-between.unreached c.loop-b.invariant
+      | in-Some w ↦ summary-some c.args.chip.now c.loop-b.b c.loop-a.a c.loop-a.far
+          c.loop-a.unreached w.in-Some.least c.match-between.far c.match-between.unreached
+          c.loop-a.invariant (given (Some w.in-Some.least) w.in-Some.ensures.distance)
+          (w.far-is ∙ w.max-far.ensures ∙ ord_max-nat c.loop-a.far w.in-Some.least) w.unreached-is
+      | in-None w ↦ summary-none c.args.chip.now c.loop-b.b c.loop-a.a c.loop-a.far
+          c.loop-a.unreached c.match-between.far c.match-between.unreached c.loop-a.invariant
           (given None w.in-None.ensures.distance) w.far-is w.unreached-is
     ]
 
 -- One more row.
-pub loop-a-preserved : goal.loop-a-preserved
-loop-a-preserved c =
+pub loop-b-preserved : goal.loop-b-preserved
+loop-b-preserved c =
     let nis = c.nis-nis.ensures.nis in
-    summary-row c.args.chip.now c.loop-a.a c.loop-b.b c.loop-b.far c.loop-b.unreached
-    c.loop-b.invariant (omega arith)
+    summary-row c.args.chip.now c.loop-b.b c.loop-a.a c.loop-a.far c.loop-a.unreached
+    c.loop-a.invariant (omega arith)
 
 -- All pairs.
 pub returns : goal.returns
 returns c =
     let nis = c.nis-nis.ensures.nis in
-    let all = summary-end c.args.chip.now c.loop-a.a c.loop-a.far c.loop-a.unreached
-    c.loop-a.invariant (omega arith) in
+    let all = summary-end c.args.chip.now c.loop-b.b c.loop-b.far c.loop-b.unreached
+    c.loop-b.invariant (omega arith) in
     record { far = all.far_is; unreached = all.unreached_is }

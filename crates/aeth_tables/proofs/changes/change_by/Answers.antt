@@ -1,6 +1,6 @@
 use Rattle.std.proofs.Common.{arith}
 use Rattle.aeth_tables.proofs.ChangeLaws.{few_slots}
-use Rattle.aeth_tables.proofs.changes.change_of.Goals as goal
+use Rattle.aeth_tables.proofs.changes.change_by.Goals as goal
 
 -- A table has few slots.
 pub overflow_add-result : goal.overflow_add-result
