@@ -5,8 +5,8 @@ use Rattle.std.proofs.Common.{Bool, true, false, eqb, max, List, [], ◌∷◌, 
 use Rattle.std.proofs.Common.{Contains, Some, slice_get, get_or, refl, sym, ap, arith, filter}
 use Rattle.std.proofs.Common.{take}
 use Rattle.std.specs.List.{list_any, range_with_len}
-use Rattle.std.proofs.lemmas.Bool.{and_from, and_parts, eq-eqb, eqb-true, ne_eqb}
-use Rattle.std.proofs.lemmas.List.{get_or_default, map-append, take_more}
+use Rattle.std.proofs.lemmas.Bool.{and_from, and_parts, eq-eqb, eqb-true}
+use Rattle.std.proofs.lemmas.List.{map-append, take_more}
 use Rattle.std.proofs.lemmas.List.Folds.{list_any-append}
 use Rattle.std.proofs.lemmas.Option.{same_Some, slice_get-get_or}
 use Rattle.std.proofs.lemmas.List.FromFn.{length-range_with_len}
@@ -15,11 +15,10 @@ use Rattle.aeth_base.specs.declared.ids.Unit.{Unit as GroupUnit}
 use Rattle.aeth_app.specs.App.{is_marked}
 use Rattle.aeth_slots.specs.SlotSet.{Slots, greatest, has_slot, joined}
 use Rattle.aeth_slots.specs.SlotSet.{slots_where}
-use Rattle.aeth_base.proofs.Members.{filter-Contains}
 use Rattle.aeth_slots.proofs.TestLemmas.{has_slot-where}
 use Rattle.aeth_slots.proofs.TestLemmas.{where-same}
 use Rattle.aeth_group.specs.declared.grant.Grant.{Grant}
-use Rattle.aeth_group.specs.Members.{GroupsData, IsGroups, UseGroupData, group_at, has_at}
+use Rattle.aeth_group.specs.Members.{GroupsData, UseGroupData, group_at, has_at}
 use Rattle.aeth_group.specs.Members.{has_unit}
 use Rattle.aeth_group.proofs.Ranges.{any_from_passer, passer_from_any}
 use Rattle.aeth_group.specs.Occupation.{holds_in, occupies}
@@ -28,10 +27,9 @@ use Rattle.aeth_group.proofs.ListLemmas.{any_from_passes, passes_from_any, same_
 use Rattle.aeth_book.specs.Book.{BookData}
 use Rattle.aeth_book.specs.Free.{is_occupied, is_rival, is_taken}
 use Rattle.aeth_book.specs.Free.{occupied_slots, taken_slots, used_slots, uses_with}
-use Rattle.aeth_book.specs.Masks.{uses_of}
+use Rattle.aeth_group.specs.Rows.{uses_of}
 use Rattle.aeth_book.proofs.FilterLemmas.{any-filter, filter-push, filter-same-more}
 use Rattle.aeth_book.proofs.FilterLemmas.{filter_all_out, filter_twice}
-use Rattle.aeth_base.proofs.Ranges.{range-Contains}
 use Rattle.aeth_book.proofs.FilterLemmas.{greatest-push}
 
 -- Whether a slot of a link is occupied in a use case that has the unit.
@@ -132,32 +130,6 @@ absorbed true true = refl
 absorbed false true = refl
 absorbed true false = refl
 absorbed false false = refl
-
--- Without a group there is no use case of it.
-pub uses_of-beyond : (groups : GroupsData) (g : ℕ) → IsGroups groups → groups.count ≤ g
-    → [] ≡ uses_of groups g
-uses_of-beyond groups g is_groups beyond =
-    sym (filter_all_out (λ u. eqb (group_at groups u) g)
-    (range_with_len 0 (length groups.uses)) (λ u is_in.
-    let below = range-Contains (length groups.uses) u is_in in
-    let one : UseGroupData = get_or groups.uses u (record { group = 0; has = [] }) in
-    let found : slice_get groups.uses u ≡ Some one =
-    slice_get-get_or groups.uses u (record { group = 0; has = [] }) below in
-    let group : group_at groups u ≡ one.group = rw found refl in
-    ne_eqb (group_at groups u) g (λ same.
-    omega (arith, is_groups.below u (record { group = 0; has = [] }) below, group, same))))
-
--- Its use cases are there.
-pub uses_of-below : (groups : GroupsData) (g i : ℕ) → i < length (uses_of groups g)
-    → get_or (uses_of groups g) i 0 < length groups.uses
-uses_of-below groups g i within =
-    range-Contains (length groups.uses) (get_or (uses_of groups g) i 0)
-    (filter-Contains (λ u. eqb (group_at groups u) g) (range_with_len 0 (length groups.uses))
-    (get_or (uses_of groups g) i 0) (
-      i,
-      within,
-      get_or_default (uses_of groups g) i (get_or (uses_of groups g) i 0) 0 within,
-    )).0
 
 -- Those of its group that have its connection are the use cases that have the unit.
 pub uses_of-with : (groups : GroupsData) (unit : GroupUnit)

@@ -4,12 +4,11 @@ ghost use Rattle.std.specs.Prelude.{MatchOption, OnOk, length};
 ghost use Rattle.aeth_book.specs.Book.{IsBook, empty_book, with_grant};
 ghost use Rattle.aeth_book.specs.Free.{IsFreeStart, free_starts, narrowed, occupied_slots};
 ghost use Rattle.aeth_book.specs.Free.{taken_slots, used_slots};
-ghost use Rattle.aeth_book.specs.Masks.{uses_of};
 
 use crate::changes::{change, delay};
-use crate::making::{links_of, masks_of, rows_of};
+use crate::making::{links_of, masks_of};
 use aeth_app::App;
-use aeth_base::{GroupId, LinkId, NoMemory, Path, Steps, Unit, UseId};
+use aeth_base::{LinkId, NoMemory, Path, Steps, Unit, UseId};
 use aeth_chip::{Chip, Link};
 use aeth_group::{Grant, Groups};
 use aeth_slots::SlotSet;
@@ -29,13 +28,12 @@ pub struct Book {
     links: Vec<Link>,
     groups: Groups,
     grants: Vec<Grant>,
-    rows: Vec<Vec<u32>>,
     masks: Vec<SlotSet>,
 }
 
 impl Model for Book {
     ghost use Rattle.aeth_book.specs.Book.{BookData};
-    ghost use Rattle.aeth_book.specs.Masks.{AreRows, IsKept};
+    ghost use Rattle.aeth_book.specs.Masks.{IsKept};
 
     ghost Value = { BookData };
 
@@ -51,7 +49,7 @@ impl Model for Book {
       links = book.links.items;
       groups = book.groups;
       grants = book.grants.items;
-    }) book.masks.items × AreRows book.groups book.rows.items };
+    }) book.masks.items };
 }
 
 impl Book {
@@ -62,7 +60,6 @@ impl Book {
     {
         let size = chip.slots();
         let links = links_of(alloc, chip)?;
-        let rows = rows_of(alloc, groups)?;
         let masks = masks_of(alloc, size, groups.uses() * chip.links())?;
         let groups = groups.copy(alloc)?;
         Ok(Book {
@@ -70,7 +67,6 @@ impl Book {
             links,
             groups,
             grants: Vec::new(alloc),
-            rows,
             masks,
         })
     }
@@ -121,7 +117,7 @@ impl Book {
         ensures within { result ≤ self.now.size }
     {
         let mut most = 0;
-        for u in self.uses_in(unit.group) {
+        for u in self.groups.uses_of(unit.group) {
             if self.groups.has_unit(UseId(*u), unit) {
                 most = most.max(self.mask(*u, link).count());
             }
@@ -199,24 +195,13 @@ impl Book {
         ensures { result ≡ taken_slots self.now unit link.0 }
     {
         let mut taken = SlotSet::empty(self.size);
-        for u in self.uses_in(unit.group) {
+        for u in self.groups.uses_of(unit.group) {
             let has = self.groups.has_unit(UseId(*u), unit);
             if has {
                 taken = taken.join(&self.mask(*u, link));
             }
         }
         taken
-    }
-
-    // The use cases of a group.
-    fn uses_in(&self, group: GroupId) -> &[u32]
-        ensures { result.now ≡ uses_of self.now.groups group.0 }
-    {
-        let _count = self.groups.count();
-        match self.rows.get(group.0 as usize) {
-            Some(row) => row.as_slice(),
-            None => &[],
-        }
     }
 
     // The slots of a link that grants occupy in a use case.

@@ -1,10 +1,12 @@
 use Rattle.std.proofs.Common.{◌∙◌, ◌≤◌, List, get_or, [], length, sym, ap, arith, subst, ◌<◌}
 use Rattle.std.proofs.lemmas.List.{take_all}
 use Rattle.aeth_group.specs.Members.{has_unit}
+use Rattle.aeth_group.specs.Rows.{uses_of}
+use Rattle.aeth_group.proofs.RowLemmas.{uses_of-below}
 use Rattle.aeth_slots.specs.SlotSet.{joined}
 use Rattle.aeth_book.specs.Book.{BookData}
 use Rattle.aeth_book.proofs.UseLemmas.{joined_by, joined_by-all, joined_by-more, joined_by-none}
-use Rattle.aeth_book.proofs.UseLemmas.{joined_by-same, uses_of-below}
+use Rattle.aeth_book.proofs.UseLemmas.{joined_by-same}
 use Rattle.aeth_book.proofs.book.Book.taken.Goals as goal
 use Rattle.aeth_book.proofs.book.Book.taken.Goals.{then-has, else-has}
 
@@ -18,7 +20,7 @@ loop-u-init c =
 -- The use case is there.
 pub mask-requires-clause-u : goal.mask-requires-clause-u
 mask-requires-clause-u c =
-    let row = c.uses_in-u-items.ensures in
+    let row = c.uses_of-u-items.ensures ∙ ap (λ (b : BookData). uses_of b.groups c.args.unit.group.0) c.self.view_is in
     rw row (uses_of-below c.args.self.now.groups c.args.unit.group.0 c.loop-u.u-index
     (subst (λ (us : List _). c.loop-u.u-index < length us) row c.loop-u-test.true))
 
@@ -27,7 +29,7 @@ pub loop-u-preserved : goal.loop-u-preserved
 loop-u-preserved c =
     let book = c.args.self.now in
     let unit = c.args.unit in
-    let row = c.uses_in-u-items.result.now in
+    let row = c.uses_of-u-items.result.now in
     let u = get_or row c.loop-u.u-index 0 in
     let same = c.has_unit-has.ensures
     ∙ ap (λ (b : BookData). has_unit b.groups unit u) c.self.view_is in
@@ -46,9 +48,10 @@ loop-u-preserved c =
 -- All of them occupy what is taken.
 pub returns : goal.returns
 returns c =
-    let row = c.uses_in-u-items.result.now in
+    let row = c.uses_of-u-items.result.now in
     let end : length row ≤ c.loop-u.u-index = omega (arith, c.loop-u-test.false) in
     c.loop-u.invariant
     ∙ ap (joined_by c.args.self.now c.args.unit c.args.link.0)
-    (take_all c.loop-u.u-index row end ∙ c.uses_in-u-items.ensures)
+    (take_all c.loop-u.u-index row end ∙ c.uses_of-u-items.ensures
+    ∙ ap (λ (b : BookData). uses_of b.groups c.args.unit.group.0) c.self.view_is)
     ∙ joined_by-all c.args.self.now c.args.unit c.args.link.0

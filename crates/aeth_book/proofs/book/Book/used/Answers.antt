@@ -1,18 +1,20 @@
 use Rattle.std.proofs.Common.{◌∙◌, ◌≤◌, ◌<◌, List, get_or, length, max, sym, ap, arith, subst}
 use Rattle.std.proofs.lemmas.List.{take_all}
 use Rattle.aeth_group.specs.Members.{has_unit}
+use Rattle.aeth_group.specs.Rows.{uses_of}
+use Rattle.aeth_group.proofs.RowLemmas.{uses_of-below}
 use Rattle.aeth_slots.specs.SlotSet.{Slots}
 use Rattle.aeth_book.specs.Book.{BookData}
 use Rattle.aeth_base.proofs.ExtremeLemmas.{ord_max-nat}
 use Rattle.aeth_book.proofs.UseLemmas.{used_slots-within, used_by, used_by-all, used_by-more}
-use Rattle.aeth_book.proofs.UseLemmas.{used_by-same, uses_of-below}
+use Rattle.aeth_book.proofs.UseLemmas.{used_by-same}
 use Rattle.aeth_book.proofs.book.Book.used.Goals as goal
 use Rattle.aeth_book.proofs.book.Book.used.Goals.{then-has_unit, else-has_unit}
 
 -- The use case is there.
 pub mask-requires-clause-u : goal.mask-requires-clause-u
 mask-requires-clause-u c =
-    let row = c.uses_in-u-items.ensures in
+    let row = c.uses_of-u-items.ensures ∙ ap (λ (b : BookData). uses_of b.groups c.args.unit.group.0) c.self.view_is in
     rw row (uses_of-below c.args.self.now.groups c.args.unit.group.0 c.loop-u.u-index
     (subst (λ (us : List _). c.loop-u.u-index < length us) row c.loop-u-test.true))
 
@@ -21,7 +23,7 @@ pub loop-u-preserved : goal.loop-u-preserved
 loop-u-preserved c =
     let book = c.args.self.now in
     let unit = c.args.unit in
-    let row = c.uses_in-u-items.result.now in
+    let row = c.uses_of-u-items.result.now in
     let u = get_or row c.loop-u.u-index 0 in
     let same = c.has_unit.ensures
     ∙ ap (λ (b : BookData). has_unit b.groups unit u) c.self.view_is in
@@ -41,11 +43,12 @@ loop-u-preserved c =
 -- The greatest number of all.
 pub returns-clause-used : goal.returns-clause-used
 returns-clause-used c =
-    let row = c.uses_in-u-items.result.now in
+    let row = c.uses_of-u-items.result.now in
     let end : length row ≤ c.loop-u.u-index = omega (arith, c.loop-u-test.false) in
     c.loop-u.invariant
     ∙ ap (used_by c.args.self.now c.args.unit c.args.link.0)
-    (take_all c.loop-u.u-index row end ∙ c.uses_in-u-items.ensures)
+    (take_all c.loop-u.u-index row end ∙ c.uses_of-u-items.ensures
+    ∙ ap (λ (b : BookData). uses_of b.groups c.args.unit.group.0) c.self.view_is)
     ∙ used_by-all c.args.self.now c.args.unit c.args.link.0
 
 -- Which is within the table.

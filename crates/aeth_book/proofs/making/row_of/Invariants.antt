@@ -1,9 +1,0 @@
-use Rattle.std.proofs.Common.{◌≡◌, filter, eqb}
-use Rattle.std.specs.List.{range_with_len}
-use Rattle.aeth_group.specs.Members.{group_at}
-use Rattle.aeth_book.proofs.making.row_of.Given as goal
-
--- The use cases of the group so far.
-abbrev pub invariant-loop-u : goal.invariant-loop-u
-invariant-loop-u l =
-    l.row.items ≡ filter (λ u. eqb (group_at l.groups u) l.group) (range_with_len 0 l.u)
