@@ -5,6 +5,7 @@ pub mod ExtremeLemmas
 pub mod Filters
 pub mod Lists
 mod MarkLemmas
+pub mod MarkedLemmas
 pub mod Members
 mod NameLemmas
 mod NumberReading

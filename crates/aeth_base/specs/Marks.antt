@@ -1,7 +1,8 @@
 -- Which of some numbers are marked, as a list of masks of 64 numbers each.
 -- This project's own.
-use Rattle.std.specs.Prelude.{◌*◌, ◌/◌, ◌%◌, ℕ, List, length, slice_index}
+use Rattle.std.specs.Prelude.{◌*◌, ◌/◌, ◌%◌, ◌-◌, ◌==◌, ℕ, Bool, List, filter, length, slice_index}
 use Rattle.std.specs.Int.{bit_at}
+use Rattle.std.specs.List.{range_with_len}
 
 -- The numbers of a mask.
 abbrev pub numbers_of_mask : ℕ
@@ -15,3 +16,11 @@ room_of masks = numbers_of_mask * length masks
 abbrev pub bit_of : List ℕ → ℕ → ℕ
 bit_of masks number =
     bit_at (slice_index masks (number / numbers_of_mask)) (number % numbers_of_mask)
+
+-- Whether a number is marked.
+abbrev pub is_marked : List ℕ → ℕ → Bool
+is_marked masks number = bit_of masks number == 1
+
+-- The marked numbers from one on, upwards.
+abbrev pub marked_from : List ℕ → ℕ → List ℕ
+marked_from masks from = filter (is_marked masks) (range_with_len from (room_of masks - from))

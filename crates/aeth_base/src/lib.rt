@@ -5,6 +5,7 @@
 mod fault;
 mod ids;
 mod limits;
+mod marked;
 mod marks;
 mod memory;
 mod name;
@@ -19,6 +20,7 @@ pub use limits::{
     CREDITS_PER_FLIT, MAX_CYCLES, MAX_LINK_DELAY, MAX_NAME_BYTES, MAX_PATH_DELAY, MAX_PATH_LINKS,
     MAX_QUEUE_WORDS, MAX_RECEIVER_DELAY, MAX_SLOTS, MIN_PATH_LINKS, WORDS_PER_FLIT,
 };
+pub use marked::Marked;
 pub use marks::Marks;
 pub use memory::NoMemory;
 pub use name::Name;

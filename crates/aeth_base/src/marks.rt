@@ -1,14 +1,16 @@
 // Which of some numbers are marked, as masks of 64 numbers each.
 
-ghost use Rattle.std.specs.Prelude.{◌≡◌, ◌≢◌, ◌<◌, ◌≤◌, ◌*◌, ◌^◌, ◌⊎◌, ℕ, IfOk, length};
-ghost use Rattle.aeth_base.specs.Marks.{bit_of, numbers_of_mask, room_of};
+ghost use Rattle.std.specs.Int.{bit_at};
+ghost use Rattle.std.specs.Prelude.{◌≡◌, ◌≢◌, ◌<◌, ◌≤◌, ◌+◌, ◌-◌, ◌*◌, ◌^◌, ◌⊎◌, ℕ, IfOk, length};
+ghost use Rattle.aeth_base.specs.Marks.{bit_of, marked_from, numbers_of_mask, room_of};
 
+use crate::marked::Marked;
 use crate::memory::NoMemory;
 use std::alloc::Global;
 use std::marker::Model;
 
 // The numbers of a mask.
-const NUMBERS_OF_MASK: usize = 64;
+pub(crate) const NUMBERS_OF_MASK: usize = 64;
 
 /// Marks of numbers from 0 on, seen as the list of their masks: bit `n mod 64` of mask `n / 64` is 1
 /// where the number `n` is marked. This project's own.
@@ -21,11 +23,14 @@ pub struct Marks {
 }
 
 impl Model for Marks {
-    ghost use Rattle.std.specs.Prelude.{List, ℕ};
+    ghost use Rattle.std.specs.Prelude.{List, ℕ, ◌≤◌, ◌^◌};
+    ghost use Rattle.aeth_base.specs.Marks.{room_of};
 
     ghost Value = { List ℕ };
 
     ghost view = { λ marks. marks.masks.items };
+
+    ghost invariant = { λ marks. room_of marks.masks.items ≤ 2 ^ 64 };
 }
 
 impl Marks {
@@ -84,6 +89,33 @@ impl Marks {
         ensures found { result < end → bit_of self.now result ≡ 1 }
     {
         first_from(&self.masks, from, end).min(end)
+    }
+
+    /// The marked numbers, upwards.
+    pub fn iter(&self) -> Marked<'_>
+        ensures { result ≡ marked_from self.now 0 }
+    {
+        Marked::of(&self.masks)
+    }
+
+    /// Marks the numbers among so many from `from` on no more.
+    pub fn unmark_among(&mut self, from: usize, count: usize)
+        requires { from + count < room_of self.old }
+        ensures room { room_of self.new ≡ room_of self.old }
+        ensures among { (number : ℕ) → from ≤ number → number < from + count
+            → bit_of self.new number ≡ 0 }
+        ensures away { (number : ℕ) → (number < from) ⊎ (from + count ≤ number)
+            → bit_of self.new number ≡ bit_of self.old number }
+    {
+        unmark_among(&mut self.masks, from, from + count);
+    }
+
+    /// Marks no number any more.
+    pub fn clear(&mut self)
+        ensures room { room_of self.new ≡ room_of self.old }
+        ensures unmarked { (number : ℕ) → bit_of self.new number ≡ 0 }
+    {
+        self.masks.fill(0);
     }
 }
 
@@ -144,4 +176,43 @@ fn first_in(masks: &[u64], from: usize, end: usize) -> usize
         }
     }
     end
+}
+
+// Clears the bits of the numbers from one on and below an end.
+fn unmark_among(masks: &mut [u64], from: usize, end: usize)
+    requires from { from ≤ end }
+    requires end { end < room_of masks.old }
+    ensures size { length masks.new ≡ length masks.old }
+    ensures among { (number : ℕ) → from ≤ number → number < end → bit_of masks.new number ≡ 0 }
+    ensures away { (number : ℕ) → (number < from) ⊎ (end ≤ number)
+        → bit_of masks.new number ≡ bit_of masks.old number }
+{
+    for place in from / NUMBERS_OF_MASK..end / NUMBERS_OF_MASK + 1 {
+        let first = place * NUMBERS_OF_MASK;
+        let low = from.max(first) - first;
+        let high = (end - first).min(NUMBERS_OF_MASK);
+        masks[place] = outside(masks[place], low as u32, high as u32);
+    }
+}
+
+// The bits of a mask that aren't from a place on and below another.
+fn outside(mask: u64, low: u32, high: u32) -> u64
+    requires low { low ≤ high }
+    requires high { high ≤ numbers_of_mask }
+    ensures among { (bit : ℕ) → low ≤ bit → bit < high → bit_at result bit ≡ 0 }
+    ensures away { (bit : ℕ) → bit < numbers_of_mask → (bit < low) ⊎ (high ≤ bit)
+        → bit_at result bit ≡ bit_at mask bit }
+{
+    mask & !(ones(high) - ones(low))
+}
+
+// So many ones, as the lowest bits.
+fn ones(count: u32) -> u64
+    requires { count ≤ numbers_of_mask }
+    ensures { result ≡ 2 ^ count - 1 }
+{
+    if count == u64::BITS {
+        return u64::MAX;
+    }
+    (1 << count) - 1
 }
