@@ -11,9 +11,9 @@ ghost use Rattle.std.specs.Prelude.{◌≡◌, ◌<◌, ◌*◌, ◌∷◌, [], 
 ghost use Rattle.std.specs.Prelude.{length};
 
 use crate::lines::grants_begin;
-use crate::masks::{meets, no_masks, put, taken};
+use crate::masks::{meets, no_masks, put, take, taken};
 use crate::verdict::Verdict;
-use aeth_base::NoMemory;
+use aeth_base::{MAX_PATH_LINKS, NoMemory};
 use aeth_chip::Chip;
 use aeth_group::{Grant, Groups};
 use aeth_plan::Plan;
@@ -66,11 +66,12 @@ fn meeting_in(
     ensures within { IfSome result (λ place. place < length grants.now) }
 {
     let mut found = None;
+    let mut sets = [SlotSet::empty(chip.slots()); MAX_PATH_LINKS as usize];
     let mut left = grants.len();
     'grants: while left > 0 {
         left -= 1;
         let grant = &grants[left];
-        let sets = taken(chip, grant);
+        take(chip, grant, &mut sets);
         if meets_some(chip, groups, grant, &sets, masks) {
             found = Some(left);
         }

@@ -29,18 +29,29 @@ pub(crate) fn no_masks(
     Ok(masks)
 }
 
-/// The slots that flits of a grant take, one set for each link of its path.
-pub(crate) fn taken(chip: &Chip, grant: &Grant) -> [SlotSet; MAX_PATH_LINKS as usize]
+/// A set for each link of a path, of slots that flits take.
+pub(crate) type LinkSets = [SlotSet; MAX_PATH_LINKS as usize];
+
+/// Puts the slots that flits of a grant take into the sets, one for each link of its path.
+pub(crate) fn take(chip: &Chip, grant: &Grant, sets: &mut LinkSets)
     requires { IsPlaced chip.now grant.now }
-    ensures { AreTaken chip.now.links grant.now result }
+    ensures { AreTaken chip.now.links grant.now sets.new }
 {
-    let mut sets = [grant.slots; MAX_PATH_LINKS as usize];
     let mut offset = 0;
     for i in 0..grant.path.len() {
         let link = grant.path.link(i);
         sets[i as usize] = grant.slots.rotate(offset);
         offset += chip.link(link).delay;
     }
+}
+
+/// The slots that flits of a grant take, one set for each link of its path.
+pub(crate) fn taken(chip: &Chip, grant: &Grant) -> LinkSets
+    requires { IsPlaced chip.now grant.now }
+    ensures { AreTaken chip.now.links grant.now result }
+{
+    let mut sets = [grant.slots; MAX_PATH_LINKS as usize];
+    take(chip, grant, &mut sets);
     sets
 }
 

@@ -126,7 +126,7 @@ pub(crate) fn known_seats(
         (each (known_seat chip.now app.now) first_seat_line texts.now) }
 {
     let mut line = FIRST_SEAT_LINE;
-    let mut seats = Vec::new(alloc);
+    let mut seats = Vec::with_capacity(alloc, texts.len())?;
     for text in texts {
         seats.push(known_seat(chip, app, line, text)?)?;
         line = line_after(line, 1);
@@ -148,7 +148,7 @@ pub(crate) fn known_grants(
 {
     let mut line = first;
     let mut last = None;
-    let mut grants = Vec::new(alloc);
+    let mut grants = Vec::with_capacity(alloc, texts.len())?;
     for text in texts {
         grants.push(known_grant(chip, app, groups, &mut last, line, text)?)?;
         line = line_after(line, 1);

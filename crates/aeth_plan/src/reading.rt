@@ -13,6 +13,10 @@ use aeth_base::NoMemory;
 use aeth_text::{line_after, next_line};
 use std::alloc::Global;
 
+/// The bytes of a `grant` line of a short path. Memory is asked for at once for as many grants as
+/// the text has room for by this.
+const GRANT_BYTES: usize = 32;
+
 /// The seats of the lines at the front, and the text behind them.
 fn leading_seats(alloc: Global, text: &[u8]) -> Result<(Vec<SeatText>, &[u8]), NoMemory>
     ensures seats { IfOk result (λ p. p.0.items ≡ leading seat_in (lines_of text.now)) }
@@ -42,7 +46,7 @@ fn leading_grants(
     ensures lines { IfOk result (λ p. lines_of p.1.now ≡ behind grant_in (lines_of text.now)) }
     ensures rest { IfOk result (λ p. rest_of p.1.now ≡ rest_of text.now) }
 {
-    let mut grants = Vec::new(alloc);
+    let mut grants = Vec::with_capacity(alloc, text.len() / GRANT_BYTES)?;
     let mut left = text;
     'lines: while let Some((line, rest)) = next_line(left) {
         match grant_in(alloc, slots, line)? {

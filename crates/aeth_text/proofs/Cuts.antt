@@ -5,11 +5,18 @@ use Rattle.std.proofs.lemmas.Bool.{cases_eq, eq-eqb, ne_eqb}
 use Rattle.std.proofs.lemmas.List.{get_or_default, length-drop, take_all}
 use Rattle.std.proofs.lemmas.List.Splits.{slice_split_first, slice_split_none}
 use Rattle.std.proofs.lemmas.List.Sums.{position_or_len_is}
+use Rattle.memchr.specs.Find.{Nowhere, Passes, is_byte}
 use Rattle.aeth_text.specs.Grammar.{parts}
 
 -- No byte before a place is the separator.
 abbrev pub IsFreeBefore : ℕ → List ℕ → ℕ → Type 0
 IsFreeBefore separator text place = (k : ℕ) → k < place → get_or text k 0 ≢ separator
+
+-- No byte passes there the test that it is the separator.
+pub free_before : (separator : ℕ) (text : List ℕ) (place : ℕ)
+    → Nowhere (Passes (is_byte separator) text) 0 place → IsFreeBefore separator text place
+free_before separator text place none k less = λ here.
+    none k (omega arith) less (eq-eqb _ separator here)
 
 -- With one more byte that isn't.
 pub free_further : (separator : ℕ) (text : List ℕ) (place : ℕ) → IsFreeBefore separator text place

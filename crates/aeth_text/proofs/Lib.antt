@@ -6,3 +6,4 @@ pub mod OrderLaws
 pub mod PrintLaws
 pub mod Fronts
 mod Cuts
+mod NumberWords

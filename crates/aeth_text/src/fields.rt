@@ -6,6 +6,7 @@ ghost use Rattle.aeth_text.specs.Limits.{comma};
 ghost use Rattle.aeth_text.specs.Order.{misplaced};
 ghost use Rattle.std.specs.Prelude.{◌≡◌, IfOk, IfSome, IsTrue, nat_lt, is_none, option_map};
 
+use crate::numbers::next_number;
 use crate::parts::next_word;
 use aeth_base::{LinkId, MIN_PATH_LINKS, NoMemory, Path, Side, read_number};
 use std::alloc::Global;
@@ -47,8 +48,8 @@ pub fn links_in(word: &[u8]) -> Option<Path>
 {
     let mut path = Path::empty();
     let mut left = Some(word);
-    'words: while let Some((link, rest)) = next_word(left, b',') {
-        let link = LinkId(number_in(link)?);
+    'words: while let Some((_, number, rest)) = next_number(left) {
+        let link = LinkId(number?);
         if !path.push(link) {
             return None;
         }

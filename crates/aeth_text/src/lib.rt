@@ -3,6 +3,7 @@
 
 mod fields;
 mod line_numbers;
+mod numbers;
 mod parts;
 mod printing;
 

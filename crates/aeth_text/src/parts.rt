@@ -2,6 +2,8 @@
 ghost use Rattle.std.specs.Prelude.{◌≡◌, ◌<◌, ◌∷◌, [], length, IfSome, IfNone, MatchOption};
 ghost use Rattle.aeth_text.specs.Grammar.{lines_of, parts, rest_of, words_left};
 
+use memchr::memchr;
+
 /// The first part, and the text behind its separator. `None` where no separator is left.
 fn cut(text: &[u8], separator: u8) -> Option<(&[u8], &[u8])>
     ensures some { IfSome result (λ p. parts separator text.now
@@ -37,8 +39,6 @@ pub fn next_line(text: &[u8]) -> Option<(&[u8], &[u8])>
     ensures none { IfNone result (lines_of text.now ≡ []) }
     ensures rest { IfNone result (rest_of text.now ≡ text.now) }
 {
-    match cut(text, b'\n') {
-        Some((line, rest)) => Some((line, rest)),
-        None => None,
-    }
+    let end = memchr(b'\n', text)?;
+    Some((&text[..end], &text[end + 1..]))
 }

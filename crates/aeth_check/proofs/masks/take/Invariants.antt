@@ -2,7 +2,7 @@ use Rattle.std.proofs.Common.{◌≡◌, ◌≤◌, ◌*◌}
 use Rattle.aeth_base.specs.Limits.{max_link_delay}
 use Rattle.aeth_chip.specs.Paths.{offset}
 use Rattle.aeth_check.proofs.TakenLaws.{AreTakenTo}
-use Rattle.aeth_check.proofs.masks.taken.Given as goal
+use Rattle.aeth_check.proofs.masks.take.Given as goal
 
 -- The links so far have their sets.
 abbrev pub invariant-loop-i : goal.invariant-loop-i

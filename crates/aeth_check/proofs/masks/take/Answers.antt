@@ -2,7 +2,7 @@ use Rattle.std.proofs.Common.{◌+◌, ◌∙◌, sym, ap, arith}
 use Rattle.aeth_chip.proofs.OffsetLemmas.{offset_step}
 use Rattle.aeth_slots.specs.SlotSet.{rotated}
 use Rattle.aeth_check.proofs.TakenLaws.{taken-more}
-use Rattle.aeth_check.proofs.masks.taken.Goals as goal
+use Rattle.aeth_check.proofs.masks.take.Goals as goal
 
 -- One more link.
 pub loop-i-preserved : goal.loop-i-preserved
