@@ -19,13 +19,14 @@ use Rattle.aeth_components.proofs.UnlistedLemmas.{seen-at}
 use Rattle.aeth_components.specs.declared.homes.Homes.{Homes}
 use Rattle.aeth_components.specs.declared.lane.ChannelEnd.{ChannelEnd}
 use Rattle.aeth_components.specs.declared.lane.Lane.{Lane}
-use Rattle.aeth_components.specs.Busy.{AreMarked, IsIdle}
+use Rattle.aeth_components.specs.Busy.{AreMarked, HandsNothing, IsIdle}
 use Rattle.aeth_components.specs.Counting.{brings, brought_at, counted}
 use Rattle.aeth_components.specs.Homes.{AreHomes, AreOthersSilent, AreTold, home_at}
 use Rattle.aeth_components.specs.Lanes.{IsLane, is_open}
 use Rattle.aeth_components.specs.Phases.{pulled, refilled}
 use Rattle.aeth_components.specs.Queues.{brought_by}
-use Rattle.aeth_components.proofs.CountingLemmas.{brings-none, brings-silent, counted-none}
+use Rattle.aeth_components.proofs.CountingLemmas.{brings-none, brings-silent, counted-closed}
+use Rattle.aeth_components.proofs.CountingLemmas.{counted-none, counted-open}
 use Rattle.aeth_components.proofs.FrameLemmas.{from-map}
 
 -- Whether a channel is noted at its place.
@@ -183,19 +184,33 @@ module _ (homes : Homes) (lanes : List Lane) (parts : List Part) (words interfac
     ];
   }
 
--- Counting leaves idle channels so.
-pub AreMarked-counted : (busy : List ℕ) (lanes : List Lane) (cycle : ℕ) (parts : List Part)
-    → AreMarked IsIdle busy lanes → AreMarked IsIdle busy (map (counted cycle parts) lanes)
-AreMarked-counted busy lanes cycle parts marked = record {
+-- The masks mark as before where each channel changes so that it stays as it is marked.
+pub AreMarked-map : (IsStill : Lane → Type 0) (masks : List ℕ) (lanes : List Lane)
+    (change : Lane → Lane) → ((lane : Lane) → IsStill lane → IsStill (change lane))
+    → AreMarked IsStill masks lanes → AreMarked IsStill masks (map change lanes)
+AreMarked-map IsStill masks lanes change kept marked = record {
   size = (
-      let size = length-map lanes (counted cycle parts) in
+      let size = length-map lanes change in
       let room = marked.size in
       omega (arith, size, room));
   idle = λ number lane at bit.
-      let found = from-map (counted cycle parts) lanes number lane at in
-      let idle = marked.idle number found.0 found.1 bit in
-      subst IsIdle (sym (found.2 ∙ counted-none cycle parts found.0 idle.landed)) idle;
+      let found = from-map change lanes number lane at in
+      let still = marked.idle number found.0 found.1 bit in
+      subst IsStill (sym found.2) (kept found.0 still);
 }
+
+-- Counting leaves idle channels so, and those that hand nothing on.
+pub IsIdle-counted : (cycle : ℕ) (parts : List Part) (lane : Lane) → IsIdle lane
+    → IsIdle (counted cycle parts lane)
+IsIdle-counted cycle parts lane idle =
+    subst IsIdle (sym (counted-none cycle parts lane idle.landed)) idle
+
+pub HandsNothing-counted : (cycle : ℕ) (parts : List Part) (lane : Lane) → HandsNothing lane
+    → HandsNothing (counted cycle parts lane)
+HandsNothing-counted cycle parts lane none = elim (cases_Bool (is_open lane cycle)) [
+  | inl opened ↦ subst HandsNothing (sym (counted-open cycle parts lane opened)) none
+  | inr closed ↦ subst HandsNothing (sym (counted-closed cycle parts lane closed)) none
+]
 
 -- Just interfaces get words, which are the first components.
 silent-part : (part : Part) → is_interface (frame_of part) ≡ false

@@ -10,7 +10,7 @@ use Rattle.aeth_base.proofs.Lists.{slice_get-slice_set_other, slice_get-slice_se
 use Rattle.aeth_router.specs.declared.part.Part.{Part}
 use Rattle.aeth_components.specs.declared.lane.Lane.{Lane}
 use Rattle.aeth_base.specs.Marks.{bit_of, room_of}
-use Rattle.aeth_components.specs.Busy.{AreMarked, IsIdle, IsQuiet}
+use Rattle.aeth_components.specs.Busy.{AreMarked}
 use Rattle.aeth_components.specs.Phases.{Moment, turned_by}
 
 -- A channel has changed: the masks mark as before, where it is idle if it was.
@@ -54,32 +54,15 @@ AreMarked-unmarked {IsStill = IsStill} old new lanes number lane at idle same aw
       ];
     }
 
--- So where it is idle as it is read.
-pub AreMarked-settled : (old new : List ℕ) (lanes : List Lane) (number : ℕ) (default : Lane)
-    → number < length lanes
-    → (get_or lanes number default).accepted ≤ (get_or lanes number default).handed
-    → (get_or lanes number default).handed ≤ (get_or lanes number default).landed
-    → (get_or lanes number default).landed ≤ (get_or lanes number default).taken
+-- So where it is as it is read.
+pub AreMarked-read : (IsStill : Lane → Type 0) (old new : List ℕ) (lanes : List Lane) (number : ℕ)
+    (default : Lane) → number < length lanes → IsStill (get_or lanes number default)
     → room_of new ≡ room_of old
     → ((other : ℕ) → other ≢ number → bit_of new other ≡ bit_of old other)
-    → AreMarked IsIdle old lanes → AreMarked IsIdle new lanes
-AreMarked-settled old new lanes number default within handed landed taken =
+    → AreMarked IsStill old lanes → AreMarked IsStill new lanes
+AreMarked-read IsStill old new lanes number default within still =
     AreMarked-unmarked old new lanes number (get_or lanes number default)
-    (slice_get-get_or lanes number default within)
-    (record { handed = handed; landed = landed; taken = taken })
-
--- And where it is quiet as it is read.
-pub AreMarked-hushed : (old new : List ℕ) (lanes : List Lane) (number : ℕ) (default : Lane)
-    → number < length lanes
-    → (get_or lanes number default).accepted ≤ (get_or lanes number default).handed
-    → (get_or lanes number default).landed ≤ (get_or lanes number default).taken
-    → room_of new ≡ room_of old
-    → ((other : ℕ) → other ≢ number → bit_of new other ≡ bit_of old other)
-    → AreMarked IsQuiet old lanes → AreMarked IsQuiet new lanes
-AreMarked-hushed old new lanes number default within handed taken =
-    AreMarked-unmarked old new lanes number (get_or lanes number default)
-    (slice_get-get_or lanes number default within)
-    (record { handed = handed; taken = taken })
+    (slice_get-get_or lanes number default within) still
 
 -- A channel is marked, and may be another.
 pub AreMarked-marked : {IsStill : Lane → Type 0} (old new : List ℕ) (lanes : List Lane) (number : ℕ)
@@ -113,15 +96,22 @@ AreMarked-all masks lanes size all =
           absurd (omega (arith, bit, all number (omega arith)));
     }
 
--- The masks mark as before once a channel had its turn, where a turn leaves it alone if it is so.
-pub AreMarked-turned : {IsStill : Lane → Type 0} (turn : List Part → Lane → List Part × Lane)
+-- A turn keeps what it leaves alone.
+pub kept-alone : (IsStill : Lane → Type 0) (turn : List Part → Lane → List Part × Lane)
     → ((parts : List Part) (lane : Lane) → IsStill lane → turn parts lane ≡ (parts, lane))
+    → (parts : List Part) (lane : Lane) → IsStill lane → IsStill (turn parts lane).1
+kept-alone IsStill turn still parts lane is =
+    subst IsStill (sym (ap (λ (pair : List Part × Lane). pair.1) (still parts lane is))) is
+
+-- The masks mark as before once a channel had its turn, where a turn keeps it so.
+pub AreMarked-turned : {IsStill : Lane → Type 0} (turn : List Part → Lane → List Part × Lane)
+    → ((parts : List Part) (lane : Lane) → IsStill lane → IsStill (turn parts lane).1)
     → (masks : List ℕ) (now : Moment) (number : ℕ) (lane : Lane) (done : List Part × Lane)
     → slice_get now.lanes number ≡ Some lane
     → done ≡ turn now.parts lane → AreMarked IsStill masks now.lanes
     → AreMarked IsStill masks (turned_by now number done).lanes
-AreMarked-turned {IsStill = IsStill} turn still masks now number lane done at did marked =
+AreMarked-turned {IsStill = IsStill} turn kept masks now number lane done at did marked =
     AreMarked-set masks now.lanes number lane done.1 at
-    (λ idle. subst IsStill
-    (sym (ap (λ (pair : List Part × Lane). pair.1) (did ∙ still now.parts lane idle))) idle)
+    (λ still. subst IsStill (sym (ap (λ (pair : List Part × Lane). pair.1) did))
+    (kept now.parts lane still))
     marked

@@ -1,5 +1,5 @@
 -- Laws of the turns of lanes.
-use Rattle.std.proofs.Common.{ℕ, zero, suc, ◌≡◌, ◌≤◌, ◌+◌, ◌-◌, refl, ◌∙◌, ap, subst}
+use Rattle.std.proofs.Common.{ℕ, zero, suc, ◌≡◌, ◌≤◌, ◌+◌, ◌-◌, refl, sym, ◌∙◌, ap, subst}
 use Rattle.std.proofs.Common.{arith, inl, inr, true, false, map, drop}
 use Rattle.std.specs.Option.{option_map_or}
 use Rattle.std.proofs.lemmas.Bool.{cases_Bool}
@@ -18,6 +18,7 @@ use Rattle.std.proofs.Common.{ap₂}
 use Rattle.aeth_components.proofs.FrameLemmas.{frame_of-changed}
 use Rattle.aeth_components.proofs.PartLemmas.{views-with_part}
 use Rattle.aeth_components.proofs.QueueLemmas.{changed-same}
+use Rattle.aeth_components.specs.Busy.{HandsNothing, TakesNothing}
 use Rattle.aeth_components.specs.Changes.{at_end, on_interface, told_at, told_by, with_part}
 use Rattle.aeth_components.specs.Frames.{frame_of}
 use Rattle.aeth_components.specs.Lanes.{IsLane, is_open}
@@ -179,13 +180,45 @@ drawn_out-none parts lane none =
     ap₂ (λ (parts : List Part) (n : ℕ). (parts, record lane { taken = n }))
     (at_end-same lane.receiver (drawn (asked_of lane)) (λ state. rw none refl) parts) same
 
-pub pulled-none : (cycle : ℕ) (parts : List Part) (lane : Lane)
-    → lane.landed ≤ lane.taken → pulled cycle parts lane ≡ (parts, lane)
+asked_of-none : (lane : Lane) → TakesNothing lane → asked_of lane ≡ 0
+asked_of-none lane none = elim none [
+  | inl taken ↦ omega arith
+  | inr never ↦ omega arith
+]
+
+pub pulled-none : (cycle : ℕ) (parts : List Part) (lane : Lane) → TakesNothing lane
+    → pulled cycle parts lane ≡ (parts, lane)
 pulled-none cycle parts lane none =
     elim (cases_Bool (is_open lane cycle)) [
       | inl opened ↦
-          pulled-open cycle parts lane opened ∙ drawn_out-none parts lane (omega arith)
+          pulled-open cycle parts lane opened
+          ∙ drawn_out-none parts lane (asked_of-none lane none)
       | inr closed ↦ pulled-closed cycle parts lane closed
+    ]
+
+-- Refilling keeps which receivers take nothing, and taking which channels hand nothing on.
+pub TakesNothing-refilled : (words : List ℕ) (cycle : ℕ) (parts : List Part) (lane : Lane)
+    → TakesNothing lane → TakesNothing (refilled words cycle parts lane).1
+TakesNothing-refilled words cycle parts lane none =
+    elim (cases_Bool (is_open lane cycle)) [
+      | inl opened ↦
+          subst (λ (done : List Part × Lane). TakesNothing done.1)
+          (sym (refilled-open words cycle parts lane opened)) none
+      | inr closed ↦
+          subst (λ (done : List Part × Lane). TakesNothing done.1)
+          (sym (refilled-closed words cycle parts lane closed)) none
+    ]
+
+pub HandsNothing-pulled : (cycle : ℕ) (parts : List Part) (lane : Lane)
+    → HandsNothing lane → HandsNothing (pulled cycle parts lane).1
+HandsNothing-pulled cycle parts lane none =
+    elim (cases_Bool (is_open lane cycle)) [
+      | inl opened ↦
+          subst (λ (done : List Part × Lane). HandsNothing done.1)
+          (sym (pulled-open cycle parts lane opened)) none
+      | inr closed ↦
+          subst (λ (done : List Part × Lane). HandsNothing done.1)
+          (sym (pulled-closed cycle parts lane closed)) none
     ]
 
 -- A turn keeps the frames.

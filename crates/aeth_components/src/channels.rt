@@ -2,7 +2,7 @@
 
 ghost use Rattle.std.specs.Prelude.{◌≡◌, ◌<◌, ◌≤◌, ◌+◌, ◌^◌, All, IfOk, fold, length, map};
 ghost use Rattle.std.specs.Prelude.{slice_set};
-ghost use Rattle.aeth_components.specs.Busy.{IsIdle, IsQuiet};
+ghost use Rattle.aeth_components.specs.Busy.{HandsNothing, IsIdle, TakesNothing};
 ghost use Rattle.aeth_components.specs.Channels.{AreStill, OfLane};
 ghost use Rattle.aeth_components.specs.Counting.{counted, noted};
 ghost use Rattle.aeth_components.specs.Frames.{frame_of};
@@ -13,7 +13,7 @@ ghost use Rattle.aeth_components.specs.Phases.{in_turn, pulled, refilled, turned
 use crate::counting::{count_one, count_told};
 use crate::homes::{Homes, tell};
 use crate::lane::Lane;
-use crate::phases::{hush, refill_one, settle, take_one};
+use crate::phases::{close, refill_one, rest, settle, take_one};
 use aeth_base::{Marks, NoMemory};
 use aeth_router::Part;
 use std::alloc::Global;
@@ -25,9 +25,11 @@ use std::marker::Model;
 pub(crate) struct Channels {
     lanes: Vec<Lane>,
     words: Vec<u32>,
-    // Marks of the channels that may not be idle, and of those that may not be quiet.
+    // Marks of the channels that may not be idle, of those that may hand words on, and of those whose
+    // receivers may take words.
     busy: Marks,
-    active: Marks,
+    handing: Marks,
+    taking: Marks,
     // At which queues the words of channels land, and marks of those that may get words in a cycle.
     homes: Homes,
     told: Marks,
@@ -41,7 +43,8 @@ impl Model for Channels {
 
     ghost view = { λ all. record { lanes = all.lanes.items; words = all.words.items } };
 
-    ghost invariant = { λ all. AreNoted all.busy all.active all.told all.homes all.lanes.items };
+    ghost invariant = { λ all. AreNoted all.busy all.handing all.taking all.told all.homes
+        all.lanes.items };
 }
 
 impl Channels {
@@ -54,14 +57,16 @@ impl Channels {
         ensures { IfOk result (λ made. made ≡ record { lanes = lanes.items; words = words.items }) }
     {
         let busy = Marks::all(alloc, lanes.len())?;
-        let active = Marks::all(alloc, lanes.len())?;
+        let handing = Marks::all(alloc, lanes.len())?;
+        let taking = Marks::all(alloc, lanes.len())?;
         let told = Marks::none(alloc, lanes.len())?;
         let homes = Homes::new(alloc, &lanes)?;
         Ok(Channels {
             lanes,
             words,
             busy,
-            active,
+            handing,
+            taking,
             homes,
             told,
         })
@@ -81,7 +86,8 @@ impl Channels {
     {
         self.lanes[number] = lane;
         self.busy.mark(number);
-        self.active.mark(number);
+        self.handing.mark(number);
+        self.taking.mark(number);
         self.homes.note(number, &lane);
     }
 
@@ -95,10 +101,10 @@ impl Channels {
         ensures lanes { All (IsLane (length self.new.words) (length parts.new)) self.new.lanes }
         ensures frames { map frame_of parts.new ≡ map frame_of parts.old }
     {
-        let mut number = self.next_active(0);
+        let mut number = self.next_handing(0);
         'turns: while number < self.len() {
             self.refill_one(parts, number, cycle);
-            number = self.next_active(number + 1);
+            number = self.next_handing(number + 1);
         }
     }
 
@@ -111,10 +117,10 @@ impl Channels {
         ensures lanes { All (IsLane (length self.new.words) (length parts.new)) self.new.lanes }
         ensures frames { map frame_of parts.new ≡ map frame_of parts.old }
     {
-        let mut number = self.next_active(0);
+        let mut number = self.next_taking(0);
         'turns: while number < self.len() {
             self.take_one(parts, number, cycle);
-            number = self.next_active(number + 1);
+            number = self.next_taking(number + 1);
         }
     }
 
@@ -140,7 +146,7 @@ impl Channels {
             tell(&mut self.told, &self.homes, parts, interfaces, count);
             count_told(
                 &mut self.lanes,
-                &mut self.active,
+                &mut self.taking,
                 &mut self.told,
                 parts,
                 landings,
@@ -173,14 +179,24 @@ impl Channels {
         self.lanes.len()
     }
 
-    // The first channel from a number on that may hand words on or take them.
-    fn next_active(&self, from: usize) -> usize
+    // The first channel from a number on that may hand words on.
+    fn next_handing(&self, from: usize) -> usize
         requires { from ≤ length self.now.lanes }
         ensures from { from ≤ result }
         ensures end { result ≤ length self.now.lanes }
-        ensures still { AreStill IsQuiet self.now.lanes from result }
+        ensures still { AreStill HandsNothing self.now.lanes from result }
     {
-        self.active.next(from, self.lanes.len())
+        self.handing.next(from, self.lanes.len())
+    }
+
+    /// The first channel from a number on whose receiver may take words, as it stands.
+    pub(crate) fn next_taking(&self, from: usize) -> usize
+        requires { from ≤ length self.now.lanes }
+        ensures from { from ≤ result }
+        ensures end { result ≤ length self.now.lanes }
+        ensures still { AreStill TakesNothing self.now.lanes from result }
+    {
+        self.taking.next(from, self.lanes.len())
     }
 
     // The first channel from a number on of which words may land.
@@ -203,6 +219,7 @@ impl Channels {
         ensures words { self.new.words ≡ self.old.words }
     {
         refill_one(parts, &mut self.lanes[number], &self.words, cycle);
+        close(&mut self.handing, &self.lanes, number);
     }
 
     // One receiver takes.
@@ -215,11 +232,11 @@ impl Channels {
     {
         take_one(parts, &mut self.lanes[number], cycle);
         settle(&mut self.busy, &self.lanes, number);
-        hush(&mut self.active, &self.lanes, number);
+        rest(&mut self.taking, &self.lanes, number);
     }
 
-    // Counts what has landed of one channel, and notes the cycle. A channel of which words have
-    // landed is no longer quiet.
+    // Counts what has landed of one channel, and notes the cycle. The receiver of
+    // one of which words have landed may take.
     fn count_one(&mut self, parts: &[Part], number: usize, landings: &mut [u32], cycle: u32)
         requires cycle { cycle + 1 < 2 ^ 32 }
         requires number { number < length self.old.lanes }
@@ -231,7 +248,7 @@ impl Channels {
             (λ lane. landings.new ≡ noted cycle parts.now landings.old lane) }
     {
         if count_one(parts, &mut self.lanes[number], landings, cycle) {
-            self.active.mark(number);
+            self.taking.mark(number);
         }
     }
 }

@@ -5,7 +5,9 @@ ghost use Rattle.std.specs.Prelude.{length, map, replicate, slice_get, slice_set
 ghost use Rattle.aeth_base.specs.Limits.{max_cycles};
 ghost use Rattle.aeth_ni.specs.Limits.{queues_of_interface};
 ghost use Rattle.aeth_clocked.specs.Wires.{flit_on};
+ghost use Rattle.aeth_components.specs.Busy.{TakesNothing};
 ghost use Rattle.aeth_components.specs.Changes.{switched};
+ghost use Rattle.aeth_components.specs.Channels.{AreStill};
 ghost use Rattle.aeth_components.specs.Components.{Cycle, first_components};
 ghost use Rattle.aeth_components.specs.Components.{Runs, frames_of, part_count};
 ghost use Rattle.aeth_components.specs.Entering.{TakesRows, with_rows};
@@ -156,6 +158,18 @@ impl Components {
         ensures { IsFirst (HasSender self.now.parts) from to result }
     {
         next_among(&self.parts, from, to)
+    }
+
+    /// The first channel from `from` on whose receiver may take words as it stands: of those before it
+    /// no words wait, or their receivers take none. Its number is that of all channels where there is
+    /// none.
+    pub fn next_taking(&self, from: usize) -> usize
+        requires { from ≤ length self.now.lanes }
+        ensures from { from ≤ result }
+        ensures end { result ≤ length self.now.lanes }
+        ensures still { AreStill TakesNothing self.now.lanes from result }
+    {
+        self.channels.next_taking(from)
     }
 
     /// A channel has another session from now on.

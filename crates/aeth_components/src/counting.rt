@@ -2,7 +2,7 @@
 
 ghost use Rattle.std.specs.Prelude.{◌≡◌, ◌<◌, ◌≤◌, ◌+◌, ◌^◌, ℕ, All, List, None, Some, false, fold};
 ghost use Rattle.std.specs.Prelude.{length, map, slice_get, take};
-ghost use Rattle.aeth_components.specs.Busy.{AreMarked, IsIdle, IsQuiet};
+ghost use Rattle.aeth_components.specs.Busy.{AreMarked, TakesNothing};
 ghost use Rattle.aeth_base.specs.Marks.{room_of};
 ghost use Rattle.aeth_components.specs.Channels.{OfLane};
 ghost use Rattle.aeth_components.specs.Counting.{brings, counted, flits_counted, noted};
@@ -40,11 +40,11 @@ pub(crate) fn count_one(parts: &[Part], lane: &mut Lane, landings: &mut [u32], c
     false
 }
 
-// Counts what has landed of the channel of a number. A channel of which words have landed is no
-// longer quiet.
+// Counts what has landed of the channel of a number. The receiver of one of which words have landed
+// may take.
 fn count_at(
     lanes: &mut [Lane],
-    active: &mut Marks,
+    taking: &mut Marks,
     parts: &[Part],
     number: usize,
     landings: &mut [u32],
@@ -53,14 +53,14 @@ fn count_at(
     requires cycle { cycle + 1 < 2 ^ 32 }
     requires number { number < length lanes.old }
     requires lane { OfLane lanes.old number (IsLane (length landings.old) (length parts.now)) }
-    requires active { AreMarked IsQuiet active.old lanes.old }
+    requires taking { AreMarked TakesNothing taking.old lanes.old }
     ensures lanes { lanes.new ≡ with_lane number (counted cycle parts.now) lanes.old }
     ensures landings { OfLane lanes.old number
         (λ lane. landings.new ≡ noted cycle parts.now landings.old lane) }
-    ensures active { AreMarked IsQuiet active.new lanes.new }
+    ensures taking { AreMarked TakesNothing taking.new lanes.new }
 {
     if count_one(parts, &mut lanes[number], landings, cycle) {
-        active.mark(number);
+        taking.mark(number);
     }
 }
 
@@ -68,7 +68,7 @@ fn count_at(
 // behind it.
 pub(crate) fn count_told(
     lanes: &mut [Lane],
-    active: &mut Marks,
+    taking: &mut Marks,
     told: &mut Marks,
     parts: &[Part],
     landings: &mut [u32],
@@ -77,16 +77,16 @@ pub(crate) fn count_told(
     requires cycle { cycle + 1 < 2 ^ 32 }
     requires few { length lanes.old < 2 ^ 63 }
     requires lanes { All (IsLane (length landings.old) (length parts.now)) lanes.old }
-    requires active { AreMarked IsQuiet active.old lanes.old }
+    requires taking { AreMarked TakesNothing taking.old lanes.old }
     requires told { AreMarked (λ lane. brings parts.now lane ≡ 0) told.old lanes.old }
     ensures lanes { lanes.new ≡ map (counted cycle parts.now) lanes.old }
     ensures landings { landings.new ≡ fold (noted cycle parts.now) landings.old lanes.old }
-    ensures active { AreMarked IsQuiet active.new lanes.new }
+    ensures taking { AreMarked TakesNothing taking.new lanes.new }
     ensures room { room_of told.new ≡ room_of told.old }
 {
     let mut number = told.next(0, lanes.len());
     'turns: while number < lanes.len() {
-        count_at(lanes, active, parts, number, landings, cycle);
+        count_at(lanes, taking, parts, number, landings, cycle);
         told.unmark(number);
         number = told.next(number + 1, lanes.len());
     }

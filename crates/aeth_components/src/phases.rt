@@ -1,7 +1,7 @@
 // What is done in a cycle to single components and channels: switching, refilling, and taking.
 
 ghost use Rattle.std.specs.Prelude.{◌≡◌, ◌<◌, ◌^◌, All, length, map};
-ghost use Rattle.aeth_components.specs.Busy.{AreMarked, IsIdle, IsQuiet};
+ghost use Rattle.aeth_components.specs.Busy.{AreMarked, HandsNothing, IsIdle, TakesNothing};
 ghost use Rattle.aeth_components.specs.Changes.{switched};
 ghost use Rattle.aeth_components.specs.Events.{IsDoable};
 ghost use Rattle.aeth_components.specs.Frames.{frame_of};
@@ -64,14 +64,26 @@ pub(crate) fn settle(busy: &mut Marks, lanes: &[Lane], number: usize)
     }
 }
 
-// Marks a channel no more where it is quiet.
-pub(crate) fn hush(active: &mut Marks, lanes: &[Lane], number: usize)
+// Marks a channel no more where it hands nothing on.
+pub(crate) fn close(handing: &mut Marks, lanes: &[Lane], number: usize)
     requires number { number < length lanes.now }
-    requires marked { AreMarked IsQuiet active.old lanes.now }
-    ensures { AreMarked IsQuiet active.new lanes.now }
+    requires marked { AreMarked HandsNothing handing.old lanes.now }
+    ensures { AreMarked HandsNothing handing.new lanes.now }
 {
     let lane = &lanes[number];
-    if lane.landed <= lane.taken && lane.accepted <= lane.handed {
-        active.unmark(number);
+    if lane.accepted <= lane.handed {
+        handing.unmark(number);
+    }
+}
+
+// Marks a channel no more where its receiver takes nothing.
+pub(crate) fn rest(taking: &mut Marks, lanes: &[Lane], number: usize)
+    requires number { number < length lanes.now }
+    requires marked { AreMarked TakesNothing taking.old lanes.now }
+    ensures { AreMarked TakesNothing taking.new lanes.now }
+{
+    let lane = &lanes[number];
+    if lane.landed <= lane.taken || lane.pull == 0 {
+        taking.unmark(number);
     }
 }

@@ -32,8 +32,8 @@ returns-else-count_one-clause-landings c = λ lane at.
     (get_or_from_slice_get c.args.lanes.now c.args.number lane _ at)
 
 -- One of which words have landed is marked.
-pub returns-then-count_one-clause-active : goal.returns-then-count_one-clause-active
-returns-then-count_one-clause-active c =
-    AreMarked-marked c.args.active.now c.mark.new.self c.args.lanes.now c.args.number
+pub returns-then-count_one-clause-taking : goal.returns-then-count_one-clause-taking
+returns-then-count_one-clause-taking c =
+    AreMarked-marked c.args.taking.now c.mark.new.self c.args.lanes.now c.args.number
     c.count_one.new.lane c.mark.ensures.room c.mark.ensures.here c.mark.ensures.away
-    c.requires.active
+    c.requires.taking

@@ -22,7 +22,7 @@ turns-init c =
           c.next-number.result next.from
           (AreCounted-first c.args.cycle c.args.parts.now lanes landings) next.end
           (λ n lane from below at. idle n lane at (next.none n from below));
-      active = c.requires.active;
+      taking = c.requires.taking;
       still = λ n lane from at bit. idle n lane at bit;
       room = refl;
       within = next.end;
@@ -63,7 +63,7 @@ turns-preserved c =
           c.turns.landings c.count_at.new.landings number c.turns.invariant.are c.turns-test.true
           c.count_at.ensures.lanes c.count_at.ensures.landings)
           next.end (λ n lane from below at. ahead n lane from at (next.none n from below));
-      active = c.count_at.ensures.active;
+      taking = c.count_at.ensures.taking;
       still = λ n lane from at bit.
           let after = next.from in ahead n lane (omega (arith, after, from)) at bit;
       room = c.unmark.ensures.room ∙ c.turns.invariant.room;

@@ -1,4 +1,4 @@
-use Rattle.std.proofs.Common.{◌≡◌, ◌+◌, ◌∙◌, ℕ, List, ap, ap₂, arith, set, sym}
+use Rattle.std.proofs.Common.{◌≡◌, ◌+◌, ◌∙◌, ℕ, List, ap, ap₂, arith, inl, set, sym}
 use Rattle.aeth_router.specs.declared.part.Part.{Part}
 use Rattle.aeth_components.proofs.phases.take_one.Goals as goal
 use Rattle.aeth_components.proofs.phases.take_one.Goals.{else-lane-via-then-lane+else-is_open}
@@ -40,5 +40,5 @@ returns-else-lane c =
           sym (pulled-closed c.args.cycle parts lane
           (sym w.is_open.ensures ∙ w.if-is_open.false))
       | else-lane-via-else-lane w ↦
-          sym (pulled-none c.args.cycle parts lane w.if-lane.false)
+          sym (pulled-none c.args.cycle parts lane (inl w.if-lane.false))
     ]

@@ -6,25 +6,25 @@ use Rattle.aeth_components.proofs.channels.Channels.refill.Goals as goal
 use Rattle.aeth_components.proofs.SkipLemmas.{turned-more, turns-all, turns-sound, turns-until}
 use Rattle.aeth_components.proofs.TurnLemmas.{IsLane-refilled, frames-refilled, frames-turns}
 use Rattle.aeth_components.proofs.TurnLemmas.{refilled-none}
-use Rattle.aeth_components.specs.Busy.{IsQuiet}
+use Rattle.aeth_components.specs.Busy.{HandsNothing}
 use Rattle.aeth_components.specs.Frames.{frame_of}
 use Rattle.aeth_components.specs.Lanes.{IsLane}
 use Rattle.aeth_components.specs.Phases.{Moment, refilled, turned}
 
--- A quiet channel hands nothing on.
-still : (words : List ℕ) (cycle : ℕ) (parts : List Part) (lane : Lane) → IsQuiet lane
+-- A channel of which all accepted words were handed on is left alone.
+still : (words : List ℕ) (cycle : ℕ) (parts : List Part) (lane : Lane) → HandsNothing lane
     → refilled words cycle parts lane ≡ (parts, lane)
-still words cycle parts lane quiet = refilled-none words cycle parts lane quiet.handed
+still words cycle parts lane none = refilled-none words cycle parts lane none
 
--- The channels before the first one that is marked are quiet.
+-- The channels before the first one that is marked hand nothing on.
 pub turns-init : goal.turns-init
 turns-init c =
     let before : Moment = record { parts = c.args.parts.now; lanes = c.args.self.now.lanes } in
-    let next = c.next_active-number.ensures in
+    let next = c.next_handing-number.ensures in
     record {
       turns = turns-until (refilled c.args.self.now.words c.args.cycle)
           (still c.args.self.now.words c.args.cycle) before before 0
-          c.next_active-number.result next.from refl next.still;
+          c.next_handing-number.result next.from refl next.still;
       words = refl;
       within = next.end;
     }
@@ -44,7 +44,8 @@ refill_one-requires-clause-lanes c =
     (subst (λ n. All (IsLane (length c.args.self.now.words) n) c.turns.self.lanes)
     (sym c.turns.auto.parts) sound)
 
--- One channel more has had its turn, and those up to the next one that is marked are quiet.
+-- One channel more has had its turn, and those up to the next one that is marked hand
+-- nothing on.
 pub turns-preserved : goal.turns-preserved
 turns-preserved c =
     let turn = refilled c.args.self.now.words c.args.cycle in
@@ -52,11 +53,11 @@ turns-preserved c =
     let now : Moment = record { parts = c.turns.parts; lanes = c.turns.self.lanes } in
     let done = c.refill_one.new in
     let new : Moment = record { parts = done.parts; lanes = done.self.lanes } in
-    let next = c.next_active-number-in-turns.ensures in
+    let next = c.next_handing-number-in-turns.ensures in
     record {
       turns = turns-until turn
           (still c.args.self.now.words c.args.cycle) before new
-          (c.turns.number + 1) c.next_active-number-in-turns.result next.from
+          (c.turns.number + 1) c.next_handing-number-in-turns.result next.from
           (turned-more turn before now new c.turns.number c.turns.invariant.turns
           (c.refill_one.ensures.turn
           ∙ ap (λ (words : List ℕ). turned (refilled words c.args.cycle) now c.turns.number)

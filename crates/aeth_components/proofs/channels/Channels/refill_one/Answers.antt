@@ -3,13 +3,31 @@ use Rattle.aeth_components.proofs.HomeLemmas.{AreHomes-kept, StaysAtHome, StaysA
 use Rattle.aeth_router.specs.declared.part.Part.{Part}
 use Rattle.aeth_components.specs.declared.lane.Lane.{Lane}
 use Rattle.aeth_components.proofs.channels.Channels.refill_one.Goals as goal
-use Rattle.aeth_components.proofs.MarkLemmas.{AreMarked-turned}
+use Rattle.aeth_components.proofs.MarkLemmas.{AreMarked-turned, kept-alone}
 use Rattle.aeth_components.proofs.SkipLemmas.{lane-there, turned-there}
-use Rattle.aeth_components.proofs.TurnLemmas.{refilled-none}
+use Rattle.aeth_components.proofs.TurnLemmas.{TakesNothing-refilled, refilled-none}
+use Rattle.aeth_components.specs.Busy.{AreMarked, HandsNothing, IsIdle}
 use Rattle.aeth_components.specs.Channels.{ChannelsState}
 use Rattle.aeth_components.specs.Phases.{Moment, refilled, turned}
 
 -- A channel that hands nothing on is as it was.
+pub close-requires-clause-marked : goal.close-requires-clause-marked
+close-requires-clause-marked c =
+    let all = c.self.inside in
+    let words = c.deref.result.now in
+    let cycle = c.args.cycle in
+    let lane = c.index_mut.result.now in
+    let size = ap (λ (all : ChannelsState). length all.lanes) c.self.view_is in
+    let number = c.requires.number in
+    let at = lane-there all.lanes.items c.args.number lane (omega arith) c.index_mut.ensures.value
+    in
+    subst (AreMarked HandsNothing all.handing) (sym c.deref-2.ensures.value)
+    (AreMarked-turned (refilled words cycle)
+    (kept-alone HandsNothing (refilled words cycle) (refilled-none words cycle)) all.handing
+    (record { parts = c.args.parts.now; lanes = all.lanes.items }) c.args.number lane
+    (c.refill_one.new.parts, c.refill_one.new.lane) at c.refill_one.ensures c.self.invariant.hands)
+
+-- And so are idle ones, and those whose receivers take nothing.
 pub invariant_of-self : goal.invariant_of-self
 invariant_of-self c =
     let all = c.self.inside in
@@ -26,11 +44,13 @@ invariant_of-self c =
     let room = c.self.invariant.room in
     record {
       idle = AreMarked-turned (refilled words cycle)
-          (λ parts lane idle. refilled-none words cycle parts lane idle.handed) all.busy now
+          (kept-alone IsIdle (refilled words cycle)
+          (λ parts lane idle. refilled-none words cycle parts lane idle.handed)) all.busy now
           c.args.number lane done at c.refill_one.ensures c.self.invariant.idle;
-      quiet = AreMarked-turned (refilled words cycle)
-          (λ parts lane quiet. refilled-none words cycle parts lane quiet.handed) all.active
-          now c.args.number lane done at c.refill_one.ensures c.self.invariant.quiet;
+      hands = subst (AreMarked HandsNothing c.close.new.handing) c.deref-2.ensures.value
+          c.close.ensures;
+      takes = AreMarked-turned (refilled words cycle) (TakesNothing-refilled words cycle) all.taking
+          now c.args.number lane done at c.refill_one.ensures c.self.invariant.takes;
       places = AreHomes-kept all.homes all.lanes.items c.args.number lane c.refill_one.new.lane at
           (subst (StaysAtHome lane)
           (sym (ap (λ (pair : List Part × Lane). pair.1) c.refill_one.ensures))

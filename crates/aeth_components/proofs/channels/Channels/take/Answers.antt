@@ -6,25 +6,25 @@ use Rattle.aeth_components.proofs.channels.Channels.take.Goals as goal
 use Rattle.aeth_components.proofs.SkipLemmas.{turned-more, turns-all, turns-sound, turns-until}
 use Rattle.aeth_components.proofs.TurnLemmas.{IsLane-pulled, frames-pulled, frames-turns}
 use Rattle.aeth_components.proofs.TurnLemmas.{pulled-none}
-use Rattle.aeth_components.specs.Busy.{IsQuiet}
+use Rattle.aeth_components.specs.Busy.{TakesNothing}
 use Rattle.aeth_components.specs.Frames.{frame_of}
 use Rattle.aeth_components.specs.Lanes.{IsLane}
 use Rattle.aeth_components.specs.Phases.{Moment, pulled}
 
--- A quiet channel's receiver takes nothing.
-still : (cycle : ℕ) (parts : List Part) (lane : Lane) → IsQuiet lane
+-- A channel whose receiver takes nothing is left alone.
+still : (cycle : ℕ) (parts : List Part) (lane : Lane) → TakesNothing lane
     → pulled cycle parts lane ≡ (parts, lane)
-still cycle parts lane quiet = pulled-none cycle parts lane quiet.taken
+still cycle parts lane none = pulled-none cycle parts lane none
 
--- The channels before the first one that is marked are quiet.
+-- The receivers of the channels before the first one that is marked take nothing.
 pub turns-init : goal.turns-init
 turns-init c =
     let before : Moment = record { parts = c.args.parts.now; lanes = c.args.self.now.lanes } in
-    let next = c.next_active-number.ensures in
+    let next = c.next_taking-number.ensures in
     record {
       turns = turns-until (pulled c.args.cycle)
           (still c.args.cycle) before before 0
-          c.next_active-number.result next.from refl next.still;
+          c.next_taking-number.result next.from refl next.still;
       words = refl;
       within = next.end;
     }
@@ -43,18 +43,19 @@ take_one-requires-clause-lanes c =
     (subst (λ n. All (IsLane (length c.args.self.now.words) n) c.turns.self.lanes)
     (sym c.turns.auto.parts) sound)
 
--- One channel more has had its turn, and those up to the next one that is marked are quiet.
+-- One channel more has had its turn, and the receivers of those up to the next one that is
+-- marked take nothing.
 pub turns-preserved : goal.turns-preserved
 turns-preserved c =
     let turn = pulled c.args.cycle in
     let before : Moment = record { parts = c.args.parts.now; lanes = c.args.self.now.lanes } in
     let now : Moment = record { parts = c.turns.parts; lanes = c.turns.self.lanes } in
     let new : Moment = record { parts = c.take_one.new.parts; lanes = c.take_one.new.self.lanes } in
-    let next = c.next_active-number-in-turns.ensures in
+    let next = c.next_taking-number-in-turns.ensures in
     record {
       turns = turns-until turn
           (still c.args.cycle) before new
-          (c.turns.number + 1) c.next_active-number-in-turns.result next.from
+          (c.turns.number + 1) c.next_taking-number-in-turns.result next.from
           (turned-more turn before now new c.turns.number c.turns.invariant.turns
           c.take_one.ensures.turn)
           next.still;
