@@ -14,8 +14,11 @@ use aeth_text::{line_after, next_line};
 use std::alloc::Global;
 
 /// The bytes of a `grant` line of a short path. Memory is asked for at once for as many grants as
-/// the text has room for by this.
+/// the text has room for by this, and at most for those that a plan can have.
 const GRANT_BYTES: usize = 32;
+
+/// The most grants of a plan: 16 use cases with two channels of each of 512 connections.
+const MOST_GRANTS: usize = 16_384;
 
 /// The seats of the lines at the front, and the text behind them.
 fn leading_seats(alloc: Global, text: &[u8]) -> Result<(Vec<SeatText>, &[u8]), NoMemory>
@@ -46,7 +49,7 @@ fn leading_grants(
     ensures lines { IfOk result (λ p. lines_of p.1.now ≡ behind grant_in (lines_of text.now)) }
     ensures rest { IfOk result (λ p. rest_of p.1.now ≡ rest_of text.now) }
 {
-    let mut grants = Vec::with_capacity(alloc, text.len() / GRANT_BYTES)?;
+    let mut grants = Vec::with_capacity(alloc, (text.len() / GRANT_BYTES).min(MOST_GRANTS))?;
     let mut left = text;
     'lines: while let Some((line, rest)) = next_line(left) {
         match grant_in(alloc, slots, line)? {
