@@ -1,8 +1,9 @@
+pub mod ClearLemmas
 pub mod DrivenLemmas
 mod DrivenTurns
 pub mod FewLemmas
 pub mod OrderLemmas
 mod RestingTurns
 mod Turns
-mod UsedLemmas
+pub mod UsedLemmas
 pub mod WiresLemmas

@@ -3,10 +3,10 @@
 ghost use Rattle.std.specs.Prelude.{◌≡◌, ◌≢◌, ◌<◌, ◌≤◌, ◌↔◌, ℕ, None, Some, IfOk, IsSome, IsTrue};
 ghost use Rattle.std.specs.Prelude.{length, slice_get, slice_set, replicate};
 ghost use Rattle.aeth_base.specs.Marks.{bit_of, room_of};
-ghost use Rattle.aeth_clocked.specs.Wires.{bit_for, flit_on};
+ghost use Rattle.aeth_clocked.specs.Wires.{AreUsed, bit_for, flit_on, used_from};
 
 use crate::flit::Flit;
-use aeth_base::{LinkId, Marks, NoMemory};
+use aeth_base::{LinkId, Marked, Marks, NoMemory};
 use std::alloc::Global;
 use std::marker::Model;
 
@@ -81,6 +81,31 @@ impl Wires {
         ensures found { result < length self.now → IsSome (flit_on self.now result) }
     {
         self.used.next(from as usize, self.links.len()) as u32
+    }
+
+    /// The links with a flit, upwards.
+    pub fn used(&self) -> Marked<'_>
+        ensures { result ≡ used_from self.now 0 }
+    {
+        self.used.iter()
+    }
+
+    /// Empties all links.
+    pub fn clear(&mut self)
+        ensures { self.new ≡ replicate (length self.old) None }
+    {
+        empty(&mut self.links, &self.used);
+        self.used.clear();
+    }
+}
+
+// Empties the marked links.
+fn empty(links: &mut [Option<Flit>], used: &Marks)
+    requires { AreUsed used.now links.old }
+    ensures { links.new ≡ replicate (length links.old) None }
+{
+    for link in used.iter() {
+        links[link] = None;
     }
 }
 

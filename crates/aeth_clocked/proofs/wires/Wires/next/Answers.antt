@@ -10,4 +10,4 @@ returns-clause-empty c = λ link after below.
     let end = c.next.ensures.end in
     ap (λ (wires : List (Option Flit)). flit_on wires link) (sym c.self.view_is)
     ∙ bit_for-zero (flit_on c.self.inside.links.items link)
-    (sym (c.self.invariant.exact link (omega arith)) ∙ c.next.ensures.none link after (omega arith))
+    (sym (c.self.invariant.exact link) ∙ c.next.ensures.none link after (omega arith))
