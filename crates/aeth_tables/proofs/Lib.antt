@@ -8,6 +8,7 @@ pub mod ShapeRanges
 pub mod ReservedLaws
 mod PlaceLaws
 pub mod UseLaws
+pub mod BufferLaws
 pub mod ApartLaws
 mod SlotLaws
 pub mod PromiseLaws

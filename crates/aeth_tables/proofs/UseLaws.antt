@@ -53,7 +53,7 @@ member_of_use groups u c has =
     ]
     in cases (slice_get groups.uses u) refl has
 
-group_below : (groups : GroupsData) → IsGroups groups → (u : ℕ) → u < length groups.uses
+pub group_below : (groups : GroupsData) → IsGroups groups → (u : ℕ) → u < length groups.uses
     → group_at groups u < groups.count
 group_below groups is_groups u within =
     let one = slice_get-get_or groups.uses u no_use within in
@@ -63,7 +63,7 @@ group_below groups is_groups u within =
 module _ (chip : ChipData) (app : AppData) (plan : PlanData) (design : IsDesign chip app plan)
     (group : ℕ) where
   -- What is made of its parts has the seats and grants that it must.
-  reserved_from_made : (conn : ℕ) (granted : GrantedConnection)
+  pub reserved_from_made : (conn : ℕ) (granted : GrantedConnection)
       → IsMade app plan group conn granted → IsReserved chip app granted
   reserved_from_made conn granted made = record {
     connection_is = rw made.conn_is made.connection_is;

@@ -1,3 +1,4 @@
+pub mod Buffers
 pub mod Granted
 pub mod Routes
 pub mod Tables

@@ -142,7 +142,19 @@ pub(crate) fn grants_of<'a>(
     ensures fwd { option_copied result.0 ≡ grant_of grants.now Fwd unit }
     ensures back { option_copied result.1 ≡ grant_of grants.now Back unit }
 {
-    let place = grants_before(grants, unit, Side::Fwd);
+    grants_near(grants, grants_before(grants, unit, Side::Fwd), unit)
+}
+
+/// The same, where the grants at a place and behind it are looked at first.
+pub(crate) fn grants_near<'a>(
+    grants: &'a [Grant],
+    place: usize,
+    unit: Unit,
+) -> (Option<&'a Grant>, Option<&'a Grant>)
+    requires { Rises grant_before grants.now }
+    ensures fwd { option_copied result.0 ≡ grant_of grants.now Fwd unit }
+    ensures back { option_copied result.1 ≡ grant_of grants.now Back unit }
+{
     let fwd = grant_near(grants, place, unit, Side::Fwd);
     let back = grant_near(grants, place.saturating_add(1), unit, Side::Back);
     (fwd, back)

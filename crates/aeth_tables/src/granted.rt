@@ -7,7 +7,7 @@ ghost use Rattle.aeth_tables.specs.Granted.{receiving_seat, sending_seat};
 ghost use Rattle.aeth_text.specs.Order.{Rises};
 ghost use Rattle.std.specs.Prelude.{◌≡◌, ◌<◌, IfOk, length, option_copied};
 
-use crate::finding::{grants_of, line_of};
+use crate::finding::{grants_near, grants_of, line_of};
 use aeth_app::{App, Connection};
 use aeth_base::{ConnId, GroupId, NoMemory, Side, Unit, UseId};
 use aeth_group::{Grant, Groups, SeatLine};
@@ -102,6 +102,22 @@ fn granted_of(app: &App, plan: &Plan, group: GroupId, conn: ConnId) -> Option<Gr
     let _slots = plan.slots();
     let (fwd, back) = grants_of(plan.grants(), Unit { conn, group });
     granted_with(conn, &app.connection(conn), plan.seats(), fwd, back)
+}
+
+/// The same, where the grants at a place and behind it are looked at first.
+pub(crate) fn granted_near(
+    app: &App,
+    plan: &Plan,
+    place: usize,
+    unit: Unit,
+) -> Option<GrantedConnection>
+    requires { unit.conn.0 < length app.now.connections }
+    ensures { result ≡ granted_of app.now plan.now unit.group.0 unit.conn.0 }
+{
+    // The call tells that the lines of every plan are in order.
+    let _slots = plan.slots();
+    let (fwd, back) = grants_near(plan.grants(), place, unit);
+    granted_with(unit.conn, &app.connection(unit.conn), plan.seats(), fwd, back)
 }
 
 /// The connections of a use case, in file order, with their seats in a plan and their grants in the

@@ -2,6 +2,7 @@
 //! switches between use cases take.
 #![tactic(auto)]
 
+mod buffering;
 mod changes;
 mod entries;
 mod finding;
@@ -17,6 +18,7 @@ mod rows;
 mod switching;
 mod table;
 
+pub use buffering::{Buffer, buffers};
 pub use making::tables;
 pub use printing::table_text;
 pub use route::route_along;

@@ -20,7 +20,7 @@ use aeth_server::{ChannelShape, buffer};
 use std::alloc::Global;
 
 /// The queue number of a connection at the seat of one of its cores.
-fn queue_at(app: &App, conn: ConnId, line: &SeatLine) -> u8
+pub(crate) fn queue_at(app: &App, conn: ConnId, line: &SeatLine) -> u8
     requires seat { line.now.seat < seats_per_ni }
     requires end { IsSomeAnd (slice_get app.now.connections conn.0) (λ connection.
         IsTrue (is_end line.now.core connection)) }
@@ -30,7 +30,7 @@ fn queue_at(app: &App, conn: ConnId, line: &SeatLine) -> u8
 }
 
 /// What the channel of a side is granted and asks for.
-fn shape_on(chip: &Chip, app: &App, granted: &GrantedConnection, side: Side) -> ChannelShape
+pub(crate) fn shape_on(chip: &Chip, app: &App, granted: &GrantedConnection, side: Side) -> ChannelShape
     requires { IsReserved chip.now app.now granted.now }
     ensures { result ≡ shape_on chip.now app.now granted.now side }
 {
