@@ -74,8 +74,7 @@ module _ (chip : ChipData) (app : AppData) (plan : PlanData) (design : IsDesign 
       groups.uses member in
       let (u, at) = slice_get-Contains groups.uses found.item found.is_in in
       let (own, had) = and_parts (found.item.group == group) (is_marked found.item.has conn)
-      found.passes in
-      (
+      found.passes in (
         u,
         omega (arith, length-groups_of app, slice_get_within groups.uses u found.item at),
         ap (λ (o : Option UseGroupData). use_has o conn) at ∙ had,
@@ -109,12 +108,17 @@ module _ (chip : ChipData) (app : AppData) (plan : PlanData) (design : IsDesign 
               | None ↦ λ is none. Contains-nil none
               | Some granted ↦ λ is inside.
                   let gives : granted_of app plan (group_at groups u) conn ≡ Some granted =
-                  ap (λ (g : ℕ). granted_of app plan g conn) is_group ∙ is in
-                  (u, within, granted, Contains-given (granted_of app plan (group_at groups u))
-                  (filter (has_at groups u) all) conn granted
-                  (Contains-filter (has_at groups u) all conn
-                  (Contains-range 0 groups.connections conn (omega arith)
-                  (omega (arith, connections-groups_of app, number))) had) gives, inside)
+                  ap (λ (g : ℕ). granted_of app plan g conn) is_group ∙ is in (
+                    u,
+                    within,
+                    granted,
+                    Contains-given (granted_of app plan (group_at groups u))
+                        (filter (has_at groups u) all) conn granted
+                        (Contains-filter (has_at groups u) all conn
+                        (Contains-range 0 groups.connections conn (omega arith)
+                        (omega (arith, connections-groups_of app, number))) had) gives,
+                    inside,
+                  )
             ]
             in cases (granted_of app plan group conn) refl given
         | inr other ↦ Contains-nil (rw other at here)

@@ -117,7 +117,13 @@ pub(crate) fn granted_near(
     // The call tells that the lines of every plan are in order.
     let _slots = plan.slots();
     let (fwd, back) = grants_near(plan.grants(), place, unit);
-    granted_with(unit.conn, &app.connection(unit.conn), plan.seats(), fwd, back)
+    granted_with(
+        unit.conn,
+        &app.connection(unit.conn),
+        plan.seats(),
+        fwd,
+        back,
+    )
 }
 
 /// The connections of a use case, in file order, with their seats in a plan and their grants in the

@@ -30,7 +30,12 @@ pub(crate) fn queue_at(app: &App, conn: ConnId, line: &SeatLine) -> u8
 }
 
 /// What the channel of a side is granted and asks for.
-pub(crate) fn shape_on(chip: &Chip, app: &App, granted: &GrantedConnection, side: Side) -> ChannelShape
+pub(crate) fn shape_on(
+    chip: &Chip,
+    app: &App,
+    granted: &GrantedConnection,
+    side: Side,
+) -> ChannelShape
     requires { IsReserved chip.now app.now granted.now }
     ensures { result ≡ shape_on chip.now app.now granted.now side }
 {
