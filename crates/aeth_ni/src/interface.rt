@@ -194,8 +194,8 @@ impl Ni {
         to
     }
 
-    // Whether the queue of the cycle's slot sends nothing.
-    fn is_mute(&self, cycle: u64) -> bool
+    /// Whether the queue of a cycle's slot sends nothing, as the interface stands.
+    pub fn is_mute(&self, cycle: u64) -> bool
         ensures { IsTrue result
             ↔ (emitted_by (queue_at_cycle self.now.entries cycle) self.now.queues ≡ None) }
     {
