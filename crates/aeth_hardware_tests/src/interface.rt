@@ -145,12 +145,13 @@ impl Bench {
     }
 
     fn drives(&mut self, cycle: u64, flit: Option<[u32; 3]>) -> bool {
+        let is_mute = self.ni.is_mute(cycle);
         self.ni.drive(cycle, &mut self.wires);
         let words = match self.wires.get(LEAVING) {
             Some(flit) => Some([flit.header, flit.first, flit.second]),
             None => None,
         };
-        words == flit
+        words == flit && is_mute == flit.is_none()
     }
 
     fn latches(&mut self, [header, first, second]: [u32; 3], last: Option<(u8, u8)>) -> bool {
