@@ -100,9 +100,8 @@ pub(crate) fn is_silent(part: &Part) -> bool
 pub(crate) fn sends_own(part: &Part, cycle: u32) -> bool
     ensures { result ≡ sends_own cycle part.now }
 {
-    let cycle = u64::from(cycle);
     match part {
-        Part::Interface(ni) => ni.next_sending(cycle, cycle + 1) == cycle,
+        Part::Interface(ni) => !ni.is_mute(u64::from(cycle)),
         _ => false,
     }
 }
