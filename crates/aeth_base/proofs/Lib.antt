@@ -6,6 +6,7 @@ pub mod Filters
 pub mod Lists
 mod MarkLemmas
 pub mod MarkedLemmas
+mod MarkedMasks
 pub mod Members
 mod NameLemmas
 mod NumberReading

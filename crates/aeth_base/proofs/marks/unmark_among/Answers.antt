@@ -1,8 +1,8 @@
-use Rattle.std.proofs.Common.{◌≡◌, ◌<◌, ◌≤◌, ◌/◌, ◌%◌, ◌*◌, ◌∙◌, ℕ, ap, arith, inl, inr, length, length-set, sym}
+use Rattle.std.proofs.Common.{◌<◌, ◌/◌, ◌%◌, ◌∙◌, ap, arith, inl, inr, length, length-set, sym}
 use Rattle.std.specs.Int.{bit_at}
 use Rattle.std.specs.Prelude.{slice_index}
-use Rattle.std.proofs.lemmas.Bool.{cases_eq, cases_lt}
-use Rattle.aeth_base.proofs.MarkedLemmas.{bit_of-elsewhere, bit_of-written}
+use Rattle.std.proofs.lemmas.Bool.{cases_eq}
+use Rattle.aeth_base.proofs.MarkedMasks.{bit_of-elsewhere, bit_of-written}
 use Rattle.aeth_base.proofs.marks.unmark_among.Goals as goal
 
 -- One mask more is cleared where it has numbers of the range.
