@@ -254,28 +254,33 @@ flits_counted-skipped wires counts now from (suc gap) within none so_far =
 
 -- So it is up to a link, be it the last that is counted or one past it.
 pub flits_counted-until : (wires : List (Option Flit)) (counts now : List ℕ) (from to : ℕ)
-    → from ≤ length counts → from ≤ to → to ≤ length wires
+    → from ≤ to → to ≤ length wires
     → ((link : ℕ) → from ≤ link → link < to → flit_on wires link ≡ None)
     → now ≡ flits_counted (take from wires) counts → now ≡ flits_counted (take to wires) counts
-flits_counted-until wires counts now from to begun ordered within none so_far =
+flits_counted-until wires counts now from to ordered within none so_far =
     let empty = λ (link : ℕ) (after : from ≤ link) (below : link < to).
     let at = slice_get-get_or wires link None (omega arith) in
     at ∙ ap (λ (flit : Option Flit). Some flit)
     (sym (unwrap_or-slice_get wires link None) ∙ none link after below) in
-    elim (cases_lt (length counts) to) [
-      | inr short ↦
-          let there : from + (to - from) ≡ to = omega arith in
-          flits_counted-skipped wires counts now from (to - from) (omega arith)
-          (λ link after below. empty link after (omega arith)) so_far
-          ∙ ap (λ n. flits_counted (take n wires) counts) there
-      | inl past ↦
-          let size = length counts in
-          let there : from + (size - from) ≡ size = omega arith in
-          flits_counted-skipped wires counts now from (size - from) (omega arith)
-          (λ link after below. empty link after (omega arith)) so_far
-          ∙ ap (λ n. flits_counted (take n wires) counts) there
-          ∙ flits_counted-whole wires counts size (omega arith)
+    elim (cases_lt (length counts) from) [
+      | inl over ↦
+          so_far ∙ flits_counted-whole wires counts from (omega arith)
           ∙ sym (flits_counted-whole wires counts to (omega arith))
+      | inr begun ↦ elim (cases_lt (length counts) to) [
+        | inr short ↦
+            let there : from + (to - from) ≡ to = omega arith in
+            flits_counted-skipped wires counts now from (to - from) (omega arith)
+            (λ link after below. empty link after (omega arith)) so_far
+            ∙ ap (λ n. flits_counted (take n wires) counts) there
+        | inl past ↦
+            let size = length counts in
+            let there : from + (size - from) ≡ size = omega arith in
+            flits_counted-skipped wires counts now from (size - from) (omega arith)
+            (λ link after below. empty link after (omega arith)) so_far
+            ∙ ap (λ n. flits_counted (take n wires) counts) there
+            ∙ flits_counted-whole wires counts size (omega arith)
+            ∙ sym (flits_counted-whole wires counts to (omega arith))
+      ]
     ]
 
 -- A link whose wire carries a flit counts.

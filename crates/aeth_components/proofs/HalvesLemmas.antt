@@ -22,7 +22,7 @@ use Rattle.aeth_components.specs.Resting.{holding_of, holds_from, left_held}
 use Rattle.aeth_components.specs.Turns.{AreUnmarked, Lists, MarkDrive, MarkEnds, MarkSending}
 use Rattle.aeth_components.specs.Turns.{flits_on, mark_of, marks_below, sends_own}
 use Rattle.aeth_components.specs.declared.ends.Ends.{Ends}
-use Rattle.aeth_components.proofs.ClearLemmas.{flit_on-replicate}
+use Rattle.aeth_clocked.proofs.ClearLemmas.{flit_on-replicate}
 use Rattle.aeth_components.proofs.FrameLemmas.{from-map, inputs_of-frame}
 use Rattle.aeth_components.proofs.HoldingLemmas.{holds_from-part, left-none, left-places, none-unless}
 use Rattle.aeth_components.proofs.MarkedLemmas.{mark_of-below, mark_of-others, marks_below-none}

@@ -1,6 +1,5 @@
 pub mod AloneLemmas
 pub mod CountingLemmas
-mod ClearLemmas
 mod CycleLemmas
 mod EndLemmas
 pub mod EnteringLemmas

@@ -14,17 +14,13 @@ use Rattle.aeth_base.specs.Marks.{bit_of}
 use Rattle.aeth_clocked.specs.Resting.{is_chosen}
 use Rattle.aeth_components.specs.Turns.{AreListed, marks_below}
 
--- The marked numbers behind the first are listed, up to a place, and marked no more; the others are
--- as they were.
-pub record ListedTo (first : ℕ) (old now : List ℕ) (list : List ℕ) (to : ℕ) : Type 0 where
+-- The marked numbers behind the first are listed, up to a place.
+pub record ListedTo (first : ℕ) (marks : List ℕ) (list : List ℕ) (to : ℕ) : Type 0 where
   pub below : All (λ number. number < to) list
   pub distinct : IsDistinct eqb list
-  pub all : (number : ℕ) → number < to → bit_of old (first + number) ≡ 1
+  pub all : (number : ℕ) → number < to → bit_of marks (first + number) ≡ 1
       → is_chosen list number ≡ true
-  pub few : length list + marks_below old first ≡ marks_below old (first + to)
-  pub away : (number : ℕ) → (number < first) ⊎ (first + to ≤ number)
-      → bit_of now number ≡ bit_of old number
-  pub behind : (number : ℕ) → number < to → bit_of now (first + number) ≡ 0
+  pub few : length list + marks_below marks first ≡ marks_below marks (first + to)
 
 -- Numbers that aren't marked add none.
 marks_below-gap : (marks : List ℕ) (from gap : ℕ)
@@ -39,8 +35,8 @@ marks_below-gap marks from (suc gap) none =
     let next : from + suc gap ≡ suc (from + gap) = omega arith in
     ap (marks_below marks) next ∙ omega (arith, rest, here)
 
-module _ (first : ℕ) (old : List ℕ) where
-  pub ListedTo-first : ListedTo first old old [] 0
+module _ (first : ℕ) (marks : List ℕ) where
+  pub ListedTo-first : ListedTo first marks [] 0
   unfolding IsDistinct
   ListedTo-first = record {
     below = λ place default within. absurd (omega arith);
@@ -48,20 +44,15 @@ module _ (first : ℕ) (old : List ℕ) where
     all = λ number below. absurd (omega arith);
     few = (
         let same : first ≡ first + 0 = omega arith in
-        let none = ap (marks_below old) same in
+        let none = ap (marks_below marks) same in
         omega (arith, none));
-    away = λ number out. refl;
-    behind = λ number below. absurd (omega arith);
   }
 
   -- The next marked number is listed.
-  pub ListedTo-more : (now new list : List ℕ) (place : ℕ) → ListedTo first old now list place
-      → bit_of now (first + place) ≡ 1 → bit_of new (first + place) ≡ 0
-      → ((other : ℕ) → other ≢ first + place → bit_of new other ≡ bit_of now other)
-      → ListedTo first old new (list ++ place ∷ []) (place + 1)
-  ListedTo-more now new list place listed is here away =
-      let own : bit_of old (first + place) ≡ 1 =
-      sym (listed.away (first + place) (inr (omega arith))) ∙ is in
+  pub ListedTo-more : (list : List ℕ) (place : ℕ) → ListedTo first marks list place
+      → bit_of marks (first + place) ≡ 1
+      → ListedTo first marks (list ++ place ∷ []) (place + 1)
+  ListedTo-more list place listed own =
       let apart : list_any (eqb place) list ≡ false =
       list_any_none (eqb place) list (λ i default within.
       let less = listed.below i default within in
@@ -85,30 +76,14 @@ module _ (first : ℕ) (old : List ℕ) where
             let size = length-append list (place ∷ []) in
             let before = listed.few in
             let next : first + (place + 1) ≡ suc (first + place) = omega arith in
-            sym (ap (marks_below old) next ∙ omega (arith, size, before, own)));
-        away = λ number out. elim out [
-          | inl ahead ↦
-              away number (λ same. omega (arith, ahead, same)) ∙ listed.away number (inl ahead)
-          | inr past ↦
-              away number (λ same. omega (arith, past, same))
-              ∙ listed.away number (inr (omega arith))
-        ];
-        behind = λ number below. elim (cases_eq number place) [
-          | inl same ↦ ap (λ n. bit_of new (first + n)) same ∙ here
-          | inr other ↦
-              away (first + number) (λ same. omega (arith, other, same))
-              ∙ listed.behind number (omega arith)
-        ];
+            sym (ap (marks_below marks) next ∙ omega (arith, size, before, own)));
       }
 
   -- Up to the next one none is marked.
-  pub ListedTo-until : (now list : List ℕ) (from to : ℕ) → ListedTo first old now list from
-      → from ≤ to
-      → ((number : ℕ) → first + from ≤ number → number < first + to → bit_of now number ≡ 0)
-      → ListedTo first old now list to
-  ListedTo-until now list from to listed after none =
-      let none_old = λ (number : ℕ) (behind : first + from ≤ number) (below : number < first + to).
-      sym (listed.away number (inr behind)) ∙ none number behind below in
+  pub ListedTo-until : (list : List ℕ) (from to : ℕ) → ListedTo first marks list from → from ≤ to
+      → ((number : ℕ) → first + from ≤ number → number < first + to → bit_of marks number ≡ 0)
+      → ListedTo first marks list to
+  ListedTo-until list from to listed after none =
       let there : first + from + (to - from) ≡ first + to = omega arith in
       record {
         below = λ place default within.
@@ -117,27 +92,19 @@ module _ (first : ℕ) (old : List ℕ) where
         all = λ number below bit. elim (cases_lt number from) [
           | inl before ↦ listed.all number before bit
           | inr behind ↦
-              absurd (let zero_too = none_old (first + number) (omega arith) (omega arith) in
+              absurd (let zero_too = none (first + number) (omega arith) (omega arith) in
               omega (arith, zero_too, bit))
         ];
         few = listed.few
-            ∙ sym (ap (marks_below old) (sym there)
-            ∙ marks_below-gap old (first + from) (to - from) (λ number behind below.
-            none_old number behind (omega arith)));
-        away = λ number out. elim out [
-          | inl ahead ↦ listed.away number (inl ahead)
-          | inr past ↦ listed.away number (inr (omega arith))
-        ];
-        behind = λ number below. elim (cases_lt number from) [
-          | inl before ↦ listed.behind number before
-          | inr later ↦ none (first + number) (omega arith) (omega arith)
-        ];
+            ∙ sym (ap (marks_below marks) (sym there)
+            ∙ marks_below-gap marks (first + from) (to - from) (λ number behind below.
+            none number behind (omega arith)));
       }
 
   -- All among a count are listed.
-  pub ListedTo-all : (now list : List ℕ) (to count : ℕ) → ListedTo first old now list to
-      → to ≡ count → AreListed old first count list
-  ListedTo-all now list to count listed is =
+  pub ListedTo-all : (list : List ℕ) (to count : ℕ) → ListedTo first marks list to
+      → to ≡ count → AreListed marks first count list
+  ListedTo-all list to count listed is =
       rw (← is) (record {
         chosen = record { distinct = listed.distinct; below = listed.below };
         all = listed.all;

@@ -108,9 +108,9 @@ pub(crate) fn tally(flits: &mut [u32], wires: &Wires)
     requires few { length flits.old < 2 ^ 32 }
     ensures { flits.new ≡ flits_counted wires.now flits.old }
 {
-    let mut link = wires.next(0);
-    'links: while (link as usize) < flits.len() {
-        flits[link as usize] = flits[link as usize].saturating_add(1);
-        link = wires.next(link + 1);
+    for link in wires.used() {
+        if link < flits.len() {
+            flits[link] = flits[link].saturating_add(1);
+        }
     }
 }

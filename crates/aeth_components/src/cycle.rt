@@ -7,7 +7,6 @@ ghost use Rattle.aeth_components.specs.Frames.{IsWired, frame_of};
 ghost use Rattle.aeth_components.specs.Resting.{holding_of};
 ghost use Rattle.aeth_components.specs.Turns.{AreReady, HaveDriven, flits_on, marked_of};
 
-use crate::ends::clear;
 use crate::turns::Turns;
 use aeth_base::Steps;
 use aeth_clocked::{Wires, drive_some, latch_some};
@@ -36,7 +35,7 @@ pub(crate) fn drive<L: Ledger>(
         ≤ steps.old + 2 * flits_on wires.old + flits_on wires.new }
 {
     let count = turns.list_drive(parts, cycle, wires);
-    clear(wires, &turns.ends);
+    wires.clear();
     let numbers = &turns.numbers[..count];
     drive_some(parts, numbers, u64::from(cycle), wires, steps);
 }

@@ -1,7 +1,7 @@
 // The components at the ends of the wires of a chip.
 
 ghost use Rattle.std.specs.Prelude.{◌≡◌, ◌<◌, ◌+◌, ◌^◌, ◌↔◌, ℕ, All, IfOk, IfSome, IsTrue, None, length};
-ghost use Rattle.std.specs.Prelude.{replicate, slice_get};
+ghost use Rattle.std.specs.Prelude.{slice_get};
 ghost use Rattle.aeth_chip.specs.Chip.{IsNode};
 ghost use Rattle.aeth_chip.specs.Paths.{delay_of};
 ghost use Rattle.aeth_chip.specs.Wires.{wires_of};
@@ -139,16 +139,4 @@ pub(crate) fn are_empty(wires: &Wires, ends: &Ends) -> bool
     ensures { IsTrue result ↔ ((wire : ℕ) → flit_on wires.now wire ≡ None) }
 {
     wires.next(0) as usize == ends.senders.len()
-}
-
-// Takes the flits off all wires.
-pub(crate) fn clear(wires: &mut Wires, ends: &Ends)
-    requires { FitsWires (length wires.old) ends.now }
-    ensures { wires.new ≡ replicate (length wires.old) None }
-{
-    let mut wire = wires.next(0);
-    'flits: while (wire as usize) < ends.receivers.len() {
-        wires.put(LinkId(wire), None);
-        wire = wires.next(wire + 1);
-    }
 }

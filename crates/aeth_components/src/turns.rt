@@ -124,11 +124,8 @@ fn mark_ends(marks: &mut Marks, ends: &[u32], limit: u32, behind: u32, wires: &W
     ensures room { room_of marks.new ≡ room_of marks.old }
     ensures marks { MarkEnds limit behind ends.now wires.now marks.old marks.new }
 {
-    let mut wire = wires.next(0);
-    'wires: while (wire as usize) < ends.len() {
-        let number = ends[wire as usize];
-        marks.mark(mark_of(limit, behind, number));
-        wire = wires.next(wire + 1);
+    for wire in wires.used() {
+        marks.mark(mark_of(limit, behind, ends[wire]));
     }
 }
 
@@ -183,13 +180,13 @@ fn list_marked(marks: &mut Marks, numbers: &mut [u32], first: u32, count: u32) -
 {
     let end = first as usize + count as usize;
     let mut filled = 0;
-    let mut number = marks.next(first as usize, end);
-    'numbers: while number < end {
-        numbers[filled] = (number - first as usize) as u32;
-        filled += 1;
-        marks.unmark(number);
-        number = marks.next(number + 1, end);
+    for number in marks.iter() {
+        if number >= first as usize && number < end {
+            numbers[filled] = (number - first as usize) as u32;
+            filled += 1;
+        }
     }
+    marks.unmark_among(first as usize, count as usize);
     filled
 }
 

@@ -1,45 +1,60 @@
-use Rattle.std.proofs.Common.{◌≡◌, ◌<◌, ◌+◌, ◌∙◌, arith, length, refl}
+use Rattle.std.proofs.Common.{◌≡◌, ◌+◌, ◌∙◌, arith, length, sym}
+use Rattle.aeth_clocked.proofs.UsedLemmas.{used-end, used-next}
 use Rattle.aeth_components.proofs.counting.tally.Goals as goal
 use Rattle.aeth_components.proofs.CountingLemmas.{flits_counted-found, flits_counted-until}
 use Rattle.aeth_components.proofs.CountingLemmas.{flits_counted-whole}
 
--- No wire before the first one that carries a flit counts.
-pub links-init : goal.links-init
-links-init c =
-    let counts = c.args.flits.now in
-    let next = c.next-link.ensures in
-    record {
-      counted = flits_counted-until c.args.wires.now counts counts 0 c.next-link.result
-          (omega arith) (omega arith) next.end next.empty refl;
-      within = next.end;
-      found = next.found;
-    }
-
--- One link more is counted, and those up to the next one that carries a flit aren't.
-pub links-preserved : goal.links-preserved
-links-preserved c =
+-- One link more is counted, and those up to it that carry no flit aren't.
+pub loop-link-preserved-then-link-flits : goal.loop-link-preserved-then-link-flits
+loop-link-preserved-then-link-flits c =
     let wires = c.args.wires.now in
     let counts = c.args.flits.now in
-    let link = c.links.link in
-    let next = c.next-link-in-links.ensures in
-    let size : length c.links.flits ≡ length counts = c.links.auto.flits in
-    let test = c.links-test.true in
-    let few = c.requires.wires in
-    let here : link < length wires = omega arith in
+    let link = c.in-Some.link in
+    let done = c.loop-link.invariant in
+    let next = used-next wires done.from link c.next.new.self
+    (sym done.left ∙ c.in-Some.ensures.steps) in
+    let below = next.below in
+    let size : length c.loop-link.flits ≡ length counts = c.loop-link.auto.flits in
+    let test = c.if-link-flits.true in
     record {
-      counted = flits_counted-until wires counts _ (link + 1) c.next-link-in-links.result
-          (omega arith) next.from next.end next.empty
-          (flits_counted-found wires counts c.links.flits link 0 c.saturating_add.result here
-          (omega arith) (c.links.invariant.found here) c.links.invariant.counted
-          c.saturating_add.ensures);
-      within = next.end;
-      found = next.found;
+      from = link + 1;
+      left = next.behind;
+      within = omega (arith, below);
+      counted = flits_counted-found wires counts c.loop-link.flits link 0 c.saturating_add.result below
+          (omega (arith, size, test)) next.some
+          (flits_counted-until wires counts c.loop-link.flits done.from link next.after
+          (omega (arith, below)) next.empty done.counted)
+          c.saturating_add.ensures;
+    }
+
+-- A wire that isn't a link's first doesn't count.
+pub loop-link-preserved : goal.loop-link-preserved
+loop-link-preserved c =
+    let wires = c.args.wires.now in
+    let counts = c.args.flits.now in
+    let link = c.in-Some.link in
+    let done = c.loop-link.invariant in
+    let next = used-next wires done.from link c.next.new.self
+    (sym done.left ∙ c.in-Some.ensures.steps) in
+    let below = next.below in
+    let size : length c.loop-link.flits ≡ length counts = c.loop-link.auto.flits in
+    let test = c.if-link-flits.false in
+    record {
+      from = link + 1;
+      left = next.behind;
+      within = omega (arith, below);
+      counted = flits_counted-until wires counts c.loop-link.flits done.from link next.after
+          (omega (arith, below)) next.empty done.counted
+          ∙ flits_counted-whole wires counts link (omega (arith, size, test))
+          ∙ sym (flits_counted-whole wires counts (link + 1) (omega (arith, size, test)));
     }
 
 -- All are counted.
 pub returns : goal.returns
 returns c =
-    let size : length c.links.flits ≡ length c.args.flits.now = c.links.auto.flits in
-    let test = c.links-test.false in
-    c.links.invariant.counted
-    ∙ flits_counted-whole c.args.wires.now c.args.flits.now c.links.link (omega arith)
+    let wires = c.args.wires.now in
+    let counts = c.args.flits.now in
+    let done = c.loop-link.invariant in
+    flits_counted-until wires counts c.loop-link.flits done.from (length wires) done.within (omega arith)
+    (used-end wires done.from (sym done.left ∙ c.in-None.ensures.steps.0)) done.counted
+    ∙ flits_counted-whole wires counts (length wires) c.requires.wires

@@ -30,7 +30,7 @@ cleared wires now is = ap length is ∙ length-replicate (length wires) None
 pub drive_some-requires-clause-links : goal.drive_some-requires-clause-links
 drive_some-requires-clause-links g c =
     let parts = c.args.parts.now in
-    let size = cleared c.args.wires.now c.clear.new.wires c.clear.ensures in
+    let size = cleared c.args.wires.now c.clear.new.self c.clear.ensures in
     subst (λ (n : ℕ). All (λ part. AreLinks (outputs_of part) n) parts) (sym size)
     (AreLinks-outputs parts (length c.args.wires.now) c.requires.wired)
 
@@ -44,12 +44,12 @@ pub returns-clause-wires : goal.returns-clause-wires
 returns-clause-wires g c =
     let parts = c.args.parts.now in
     let count = length c.args.wires.now in
-    let size = cleared c.args.wires.now c.clear.new.wires c.clear.ensures in
+    let size = cleared c.args.wires.now c.clear.new.self c.clear.ensures in
     Drives-whole (is_output outputs_of parts) (driven outputs_of emit_of parts c.args.cycle)
-    c.clear.new.wires c.drive_some.new.wires
+    c.clear.new.self c.drive_some.new.wires
     (λ link below. is_output-parts parts count c.requires.wired link (omega (arith, size, below)))
     (subst (λ n. Drives (is_output outputs_of parts) (driven outputs_of emit_of parts n)
-    c.clear.new.wires c.drive_some.new.wires) c.from.ensures c.drive_some.ensures.wires)
+    c.clear.new.self c.drive_some.new.wires) c.from.ensures c.drive_some.ensures.wires)
     ∙ ap (λ (n : ℕ). wires_driven parts n c.args.cycle) size
 
 -- The frames stay.
@@ -61,7 +61,7 @@ returns-clause-frames g c =
 pub returns-clause-count : goal.returns-clause-count
 returns-clause-count g c =
     c.drive_some.ensures.wires.links
-    ∙ cleared c.args.wires.now c.clear.new.wires c.clear.ensures
+    ∙ cleared c.args.wires.now c.clear.new.self c.clear.ensures
 
 -- The numbers of components are listed.
 pub drive_some-requires-clause-chosen : goal.drive_some-requires-clause-chosen

@@ -1,18 +1,13 @@
-use Rattle.std.proofs.Common.{◌≡◌, ◌≤◌, ◌<◌, ◌+◌, ◌-◌, take}
-use Rattle.aeth_base.specs.Marks.{bit_of, room_of}
+use Rattle.std.proofs.Common.{◌≡◌, ◌≤◌, ◌-◌, ℕ, min, take}
+use Rattle.aeth_base.specs.Marks.{marked_from}
 use Rattle.aeth_components.proofs.ListedLemmas.{ListedTo}
 use Rattle.aeth_components.proofs.turns.list_marked.Given as goal
 
--- The marked numbers before the next one are listed.
-abbrev pub invariant-numbers : goal.invariant-numbers
-invariant-numbers l = record {
-  room : room_of l.marks ≡ room_of l.fn.marks;
-  listed : ListedTo l.first l.fn.marks l.marks (take l.filled l.numbers) (l.number - l.first);
-  behind : l.first ≤ l.number;
-  filled : l.first + l.filled ≤ l.number;
-  within : l.number ≤ l.first + l.count;
-  found : l.number < l.first + l.count → bit_of l.marks l.number ≡ 1;
+-- The marked numbers so far are listed.
+abbrev pub invariant-loop-number : goal.invariant-loop-number
+invariant-loop-number l = record {
+  from : ℕ;
+  left : l.number-iterator ≡ marked_from l.fn.marks from;
+  filled : l.filled ≤ min (from - l.first) l.count;
+  listed : ListedTo l.first l.fn.marks (take l.filled l.numbers) (min (from - l.first) l.count);
 }
-
-abbrev pub decreases-numbers : goal.decreases-numbers
-decreases-numbers l = l.first + l.count - l.number
