@@ -1,5 +1,5 @@
 -- Laws of the masks that mark channels.
-use Rattle.std.proofs.Common.{ℕ, ◌≡◌, ◌≢◌, ◌<◌, ◌≤◌, ◌∙◌}
+use Rattle.std.proofs.Common.{ℕ, ◌≡◌, ◌≢◌, ◌<◌, ◌∙◌}
 use Rattle.std.proofs.Common.{sym, ap, arith}
 use Rattle.std.proofs.Common.{inl, inr, subst, List, get_or, length}
 use Rattle.std.proofs.Common.{length-set, set, Some, slice_get}
