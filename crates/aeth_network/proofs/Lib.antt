@@ -1,4 +1,5 @@
 mod Adding
+mod AskerLemmas
 mod ByNumberLemmas
 mod CarriedLemmas
 mod CycleLemmas

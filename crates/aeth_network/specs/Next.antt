@@ -3,8 +3,10 @@
 --   HasOffer, HasWindow      a word is offered in a cycle, and a switch does something
 --   pull_behind      how many words a receiver takes in a cycle at most, behind rows
 --   AsksIn, HasAsker      a channel has a word that its receiver takes
+--   HasTaker, IsAskedBy, HasRowTaker      so of those whose receivers take some as they stand, or by rows
+--   IsFirstKnown      a first cycle, as far as is known
 -- This project's own.
-use Rattle.std.specs.Prelude.{◌≡◌, ◌<◌, ◌+◌, ◌==◌, ℕ, [], List, Some, filter, fold, if◌then◌else◌}
+use Rattle.std.specs.Prelude.{◌≡◌, ◌<◌, ◌≤◌, ◌+◌, ◌==◌, ℕ, [], List, Some, filter, fold, if◌then◌else◌}
 use Rattle.std.specs.Prelude.{slice_get, slice_range, true}
 use Rattle.aeth_components.specs.Lanes.{is_open}
 use Rattle.aeth_components.specs.declared.lane.Lane.{Lane}
@@ -42,3 +44,35 @@ pub record HasAsker (lanes : List Lane) (takes : List Take) (place t : ℕ) : Ty
   pub lane : Lane
   pub at : slice_get lanes number ≡ Some lane
   pub asks : AsksIn lane number takes place t
+
+-- Some channel has whose receiver takes some as it stands.
+pub record HasTaker (lanes : List Lane) (takes : List Take) (place t : ℕ) : Type 0 where
+  pub number : ℕ
+  pub lane : Lane
+  pub at : slice_get lanes number ≡ Some lane
+  pub some : 0 < lane.pull
+  pub asks : AsksIn lane number takes place t
+
+-- The channel of a row has, by which its receiver takes some.
+pub record IsAskedBy (lanes : List Lane) (row : Take) (takes : List Take) (place t : ℕ) : Type 0 where
+  pub lane : Lane
+  pub at : slice_get lanes row.number ≡ Some lane
+  pub some : 0 < row.pull
+  pub asks : AsksIn lane row.number takes place t
+
+-- The channel of one of the rows from a place on has, up to whose cycle this is.
+pub record HasRowTaker (lanes : List Lane) (takes : List Take) (place t : ℕ) : Type 0 where
+  pub number : ℕ
+  pub row : Take
+  pub at : slice_get takes number ≡ Some row
+  pub from : place ≤ number
+  pub since : row.cycle ≤ t
+  pub asked : IsAskedBy lanes row takes place t
+
+-- From one cycle on and below another, known things hold in none before this one, and something holds
+-- in this one; the other where no known thing holds in any.
+pub record IsFirstKnown (IsKnown Holds : ℕ → Type 0) (from to cycle : ℕ) : Type 0 where
+  pub least : from ≤ cycle
+  pub most : cycle ≤ to
+  pub before : (other : ℕ) → from ≤ other → other < cycle → IsKnown other → ⊥
+  pub holds : cycle < to → Holds cycle

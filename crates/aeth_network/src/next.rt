@@ -2,10 +2,10 @@
 
 ghost use Rattle.std.specs.Prelude.{◌≡◌, ◌<◌, ◌≤◌, ◌+◌, ◌^◌, ◌↔◌, IsTrue, min, length};
 ghost use Rattle.std.specs.List.Sorted.{IsNonDecreasingBy};
-ghost use Rattle.aeth_components.specs.Channels.{AreStill};
 ghost use Rattle.aeth_components.specs.First.{HasSender, IsFirst};
 ghost use Rattle.aeth_network.specs.Behind.{passed};
-ghost use Rattle.aeth_network.specs.Next.{AsksIn, HasAsker, HasOffer};
+ghost use Rattle.aeth_network.specs.Next.{AsksIn, HasAsker, HasOffer, HasRowTaker, HasTaker};
+ghost use Rattle.aeth_network.specs.Next.{IsAskedBy, IsFirstKnown};
 
 use crate::rows::{Offered, Taking};
 use aeth_components::{Components, Lane};
@@ -28,8 +28,8 @@ pub(crate) fn next_offer(offers: &[Offered], place: usize, time: u32, to: u32) -
 }
 
 // The first cycle from one on, and below a limit, in which a receiver takes a word, where nothing else
-// happens up to then. The rows from a place on are those that are not before the cycle. Where nothing is
-// left below the limit no channel is looked at.
+// happens up to then. The rows from a place on are those that are not before the cycle. A receiver takes
+// some as it stands, or by one of these rows: no other channel is looked at.
 pub(crate) fn next_taking(
     components: &Components,
     takes: &[Taking],
@@ -43,28 +43,68 @@ pub(crate) fn next_taking(
     requires to { time ≤ to }
     ensures { IsFirst (HasAsker components.now.lanes takes.now place) time to result }
 {
+    let next = next_by_pulls(components, takes, place, time, to);
+    next_by_rows(components.lanes(), takes, place, time, next)
+}
+
+// A cycle in which one takes, or the limit, before which none does that takes some as it stands. Where
+// nothing is left below the limit no channel is looked at.
+fn next_by_pulls(components: &Components, takes: &[Taking], place: usize, time: u32, to: u32) -> u32
+    requires order { IsNonDecreasingBy (λ one. one.cycle) takes.now }
+    requires place { place ≡ passed (λ one. one.cycle) time takes.now }
+    requires few { length components.now.lanes < 2 ^ 32 }
+    requires to { time ≤ to }
+    ensures { IsFirstKnown (HasTaker components.now.lanes takes.now place)
+        (HasAsker components.now.lanes takes.now place) time to result }
+{
     let lanes = components.lanes();
     let mut next = to;
-    let mut number = 0;
+    let mut number = components.next_taking(0);
     'channels: while number < lanes.len() && time < next {
         next = next_asking(&lanes[number], number as u32, takes, place, time, next);
-        number = next_waiting(lanes, number + 1);
+        number = components.next_taking(number + 1);
     }
     next
 }
 
-// The first channel from a number on of which words wait for their receiver.
-fn next_waiting(lanes: &[Lane], from: usize) -> usize
-    requires { from ≤ length lanes.now }
-    ensures from { from ≤ result }
-    ensures end { result ≤ length lanes.now }
-    ensures still { AreStill (λ lane. lane.landed ≤ lane.taken) lanes.now from result }
+// The same, before which none does by a row from the place on.
+fn next_by_rows(lanes: &[Lane], takes: &[Taking], place: usize, time: u32, to: u32) -> u32
+    requires order { IsNonDecreasingBy (λ one. one.cycle) takes.now }
+    requires place { place ≡ passed (λ one. one.cycle) time takes.now }
+    requires to { time ≤ to }
+    ensures { IsFirstKnown (HasRowTaker lanes.now takes.now place)
+        (HasAsker lanes.now takes.now place) time to result }
 {
-    let mut number = from;
-    'lanes: while number < lanes.len() && lanes[number].landed <= lanes[number].taken {
-        number += 1;
+    let mut next = to;
+    let mut row = place;
+    'rows: while is_before(takes, row, next) {
+        next = next_by_row(lanes, takes[row], takes, place, time, next);
+        row += 1;
     }
-    number
+    next
+}
+
+// The same, before which the channel of a row doesn't by it.
+fn next_by_row(
+    lanes: &[Lane],
+    row: Taking,
+    takes: &[Taking],
+    place: usize,
+    time: u32,
+    to: u32,
+) -> u32
+    requires order { IsNonDecreasingBy (λ one. one.cycle) takes.now }
+    requires place { place ≡ passed (λ one. one.cycle) time takes.now }
+    requires to { time ≤ to }
+    ensures { IsFirstKnown (IsAskedBy lanes.now row takes.now place)
+        (HasAsker lanes.now takes.now place) time to result }
+{
+    let number = row.number as usize;
+    if row.pull > 0 && number < lanes.len() {
+        next_asking(&lanes[number], row.number, takes, place, time, to)
+    } else {
+        to
+    }
 }
 
 // The first cycle from one on, and below a limit, in which a component sends words of its own as it

@@ -1,0 +1,159 @@
+-- Channels that have words which their receivers take: these take some as they stand, or by rows.
+use Rattle.std.proofs.Common.{◌≡◌, ◌≤◌, ◌<◌, ◌⊎◌, ◌+◌, ◌-◌, ◌==◌, ◌∙◌, ℕ, List, [], ◌∷◌, Some, ap}
+use Rattle.std.proofs.Common.{arith, drop, get_or, inl, inr, length, refl, slice_get, subst, suc}
+use Rattle.std.proofs.Common.{sym, take, zero}
+use Rattle.std.specs.Prelude.{slice_range}
+use Rattle.std.specs.List.Sorted.{IsNonDecreasingBy}
+use Rattle.std.proofs.lemmas.Bool.{cases_Bool, cases_lt, eqb-true}
+use Rattle.std.proofs.lemmas.List.{length-take}
+use Rattle.std.proofs.lemmas.Option.{get_or_from_slice_get, slice_get-get_or, slice_get_within}
+use Rattle.aeth_running.proofs.LandedWords.{slice_get-drop}
+use Rattle.aeth_components.specs.First.{IsFirst}
+use Rattle.aeth_components.specs.declared.lane.Lane.{Lane}
+use Rattle.aeth_stimuli.specs.Stimuli.{Take}
+use Rattle.aeth_network.specs.Behind.{passed}
+use Rattle.aeth_network.specs.Next.{AsksIn, HasAsker, HasRowTaker, HasTaker, IsFirstKnown}
+use Rattle.aeth_network.specs.Next.{pull_behind}
+use Rattle.aeth_network.proofs.Passed.{passed-at}
+use Rattle.aeth_network.proofs.PullLemmas.{cycle_of}
+
+-- A channel that asks, at its place.
+pub asker-at : (lanes : List Lane) (takes : List Take) (place number t : ℕ) (d : Lane)
+    → number < length lanes → AsksIn (get_or lanes number d) number takes place t
+    → HasAsker lanes takes place t
+asker-at lanes takes place number t d within asks = record {
+  number = number;
+  lane = get_or lanes number d;
+  at = slice_get-get_or lanes number d within;
+  asks = asks;
+}
+
+-- A row among some by which the receiver of a channel takes some.
+record IsPulledBy (number : ℕ) (rows : List Take) : Type 0 where
+  pub place : ℕ
+  pub row : Take
+  pub at : slice_get rows place ≡ Some row
+  pub own : row.number ≡ number
+  pub some : 0 < row.pull
+
+later : (number : ℕ) (row : Take) (rows : List Take) → IsPulledBy number rows
+    → IsPulledBy number (row ∷ rows)
+later number row rows by = record {
+  place = suc by.place;
+  row = by.row;
+  at = by.at;
+  own = by.own;
+  some = by.some;
+}
+
+-- Where it took none before, it takes some by a row.
+pulled-by : (number first : ℕ) (rows : List Take) → first ≡ 0 → 0 < pull_behind number first rows
+    → IsPulledBy number rows
+pulled-by number first [] none some = absurd (omega (arith, none, some))
+pulled-by number first (row ∷ rows) none some = elim (cases_Bool (row.number == number)) [
+  | inl own ↦
+      let same : pull_behind number first (row ∷ rows) ≡ pull_behind number row.pull rows =
+      rw own refl in
+      elim (cases_lt 0 row.pull) [
+        | inl more ↦ record {
+          place = 0;
+          row = row;
+          at = refl;
+          own = eqb-true row.number number own;
+          some = more;
+        }
+        | inr nothing ↦
+            later number row rows
+            (pulled-by number row.pull rows (omega arith) (omega (arith, same, some)))
+      ]
+  | inr other ↦
+      let same : pull_behind number first (row ∷ rows) ≡ pull_behind number first rows =
+      rw other refl in
+      later number row rows (pulled-by number first rows none (omega (arith, same, some)))
+]
+
+-- What stands among some first items.
+slice_get-take : {X : Type 0} (n : ℕ) (xs : List X) (i : ℕ) → i < n
+    → slice_get (take n xs) i ≡ slice_get xs i
+slice_get-take zero xs i less = absurd (omega arith)
+slice_get-take (suc n) [] i less = refl
+slice_get-take (suc n) (x ∷ xs) zero less = refl
+slice_get-take (suc n) (x ∷ xs) (suc i) less = slice_get-take n xs i (omega arith)
+
+-- What stands among the rows between two places stands behind the first and before the second.
+slice-at : {X : Type 0} (xs : List X) (a b i : ℕ) (x : X) → slice_get (slice_range xs a b) i ≡ Some x
+    → (slice_get xs (a + i) ≡ Some x) × (a + i < b)
+slice-at xs a b i x at =
+    let within = slice_get_within (slice_range xs a b) i x at in
+    let size = length-take (b - a) (drop a xs) in
+    let before : i < b - a = omega arith in (
+      sym (slice_get-drop a xs i) ∙ sym (slice_get-take (b - a) (drop a xs) i before) ∙ at,
+      omega arith,
+    )
+
+module _ (lanes : List Lane) (takes : List Take) (rises : IsNonDecreasingBy cycle_of takes)
+    (place : ℕ) where
+  -- So a receiver that takes does as it stands, or by a row from the place on.
+  pub asker-known : (t : ℕ) → HasAsker lanes takes place t
+      → HasTaker lanes takes place t ⊎ HasRowTaker lanes takes place t
+  asker-known t has = elim (cases_lt 0 has.lane.pull) [
+    | inl some ↦ inl (record {
+      number = has.number;
+      lane = has.lane;
+      at = has.at;
+      some = some;
+      asks = has.asks;
+    })
+    | inr none ↦
+        let by = pulled-by has.number has.lane.pull
+        (slice_range takes place (passed cycle_of (t + 1) takes)) (omega arith) has.asks.pulls in
+        let at = slice-at takes place (passed cycle_of (t + 1) takes) by.place by.row by.at in
+        let number = place + by.place in
+        let inside = slice_get_within takes number by.row at.0 in
+        let here = ap cycle_of (get_or_from_slice_get takes number by.row by.row at.0) in
+        let before = at.1 in
+        let since : by.row.cycle ≤ t = elim (cases_lt t by.row.cycle) [
+          | inr low ↦ low
+          | inl high ↦
+              let past = (passed-at cycle_of (t + 1) takes number by.row rises inside).1 (omega arith) in
+              absurd (omega arith)
+        ] in
+        inr (record {
+          number = number;
+          row = by.row;
+          at = at.0;
+          from = omega arith;
+          since = since;
+          asked = record {
+            lane = has.lane;
+            at = ap (slice_get lanes) by.own ∙ has.at;
+            some = by.some;
+            asks = subst (λ n. AsksIn has.lane n takes place t) (sym by.own) has.asks;
+          };
+        })
+  ]
+
+-- The first cycle in which one does, where the second is looked for below the first.
+pub first-known : (lanes : List Lane) (takes : List Take) (place time to middle cycle : ℕ)
+    → ((t : ℕ) → HasAsker lanes takes place t
+    → HasTaker lanes takes place t ⊎ HasRowTaker lanes takes place t)
+    → IsFirstKnown (HasTaker lanes takes place) (HasAsker lanes takes place) time to middle
+    → IsFirstKnown (HasRowTaker lanes takes place) (HasAsker lanes takes place) time middle cycle
+    → IsFirst (HasAsker lanes takes place) time to cycle
+first-known lanes takes place time to middle cycle known one other =
+    let most = one.most in
+    let within = other.most in
+    record {
+      least = other.least;
+      most = omega arith;
+      before = λ t since less has. elim (known t has) [
+        | inl first ↦ one.before t since (omega arith) first
+        | inr second ↦ other.before t since less second
+      ];
+      holds = λ early. elim (cases_lt cycle middle) [
+        | inl sooner ↦ other.holds sooner
+        | inr same ↦
+            let is : middle ≡ cycle = omega arith in
+            subst (HasAsker lanes takes place) is (one.holds (omega arith))
+      ];
+    }
