@@ -1,6 +1,6 @@
 -- The rooms of queues, for one channel more.
-use Rattle.std.proofs.Common.{◌≡◌, ◌∙◌, ◌<◌, ◌+◌, ◌++◌, ◌==◌, ℕ, true, false, List, [], ◌∷◌, arith, filter, inl}
-use Rattle.std.proofs.Common.{inr, All, ap, get_or, length, map, max, refl, subst, sym}
+use Rattle.std.proofs.Common.{◌≡◌, ◌∙◌, ◌<◌, ◌++◌, ◌==◌, ℕ, true, false, List, [], ◌∷◌, arith, filter, inl}
+use Rattle.std.proofs.Common.{inr, All, ap, get_or, map, max, refl, subst, sym}
 use Rattle.std.specs.List.{range_with_len}
 use Rattle.std.specs.Prelude.{replicate, slice_index, slice_set}
 use Rattle.std.proofs.lemmas.Bool.{cases_Bool, eqb-false, eqb-true}
