@@ -1,5 +1,5 @@
 -- Laws of the inputs of a run that were judged, one after the other.
-use Rattle.std.proofs.Common.{◌≡◌, ◌≤◌, ℕ}
+use Rattle.std.proofs.Common.{◌≤◌, ℕ}
 use Rattle.aeth_accepted.specs.Inputs.{AreAccepted}
 use Rattle.aeth_app.specs.App.{IsAppOf}
 use Rattle.aeth_base.specs.Limits.{max_cycles}

@@ -13,19 +13,21 @@ ghost use Rattle.aeth_plan.specs.PlanText.{plan_of};
 ghost use Rattle.aeth_tables.specs.Reserved.{IsDesign};
 ghost use Rattle.aeth_tables.specs.Switching.{spans_of};
 ghost use Rattle.aeth_trace.specs.Receivers.{AreReceiversOf, receivers_of};
+ghost use Rattle.aeth_trace.specs.Spans.{SpanData};
 ghost use Rattle.aeth_trace.specs.Switches.{AreSwitchesOf, switches_of};
 ghost use Rattle.aeth_trace.specs.Words.{AreWordsOf, words_of};
-ghost use Rattle.std.specs.Prelude.{◌≡◌, IfOk, codes};
+ghost use Rattle.std.specs.Prelude.{◌≡◌, IfOk, IfSome, Ok, codes};
 
 use aeth_answers::{FileName, Stop, judged, read_file};
 use aeth_app::{App, read_app};
+use aeth_base::NoMemory;
 use aeth_chip::{Chip, read_chip};
 use aeth_group::Groups;
 use aeth_io::Shelf;
 use aeth_plan::{Plan, read_plan};
 use aeth_playing::{Design, Planned};
 use aeth_tables::spans;
-use aeth_trace::{Receivers, Switches, Words, read_receivers, read_switches, read_words};
+use aeth_trace::{Receivers, Spans, Switches, Words, read_receivers, read_switches, read_words};
 use std::alloc::Global;
 
 /// How a chip file is called in texts.
@@ -45,6 +47,9 @@ const RECEIVERS: &str = "receivers";
 
 /// How a file of switches is called in texts.
 const SWITCHES: &str = "switches";
+
+/// How many bytes a file of switches has at most, as a rule, in which no row follows the first.
+const SHORT_FILE: usize = 64;
 
 /// The chip of a chip file's bytes.
 pub fn chip_in(alloc: Global, bytes: &[u8]) -> Result<Chip, Stop>
@@ -99,6 +104,27 @@ pub fn receivers_in(alloc: Global, app: &App, bytes: &[u8]) -> Result<Receivers,
     judged(alloc, RECEIVERS, read_receivers(alloc, bytes, app))
 }
 
+/// The switches of a short file's bytes, where no row follows the first. Whatever the plan, the bytes
+/// tell these: only a second row asks how long switches take.
+fn loaded_alone(alloc: Global, app: &App, bytes: &[u8]) -> Result<Option<Switches>, NoMemory>
+    ensures { IfOk result (λ found. IfSome found (λ switches.
+        (spans : SpanData) → switches_of app.now spans bytes.now ≡ Ok switches)) }
+{
+    if bytes.len() > SHORT_FILE {
+        return Ok(None);
+    }
+    let uses = app.uses();
+    let spans = Spans::new(uses, vec![in alloc; (0, 0); (uses * uses) as usize]?);
+    let Ok(switches) = read_switches(alloc, bytes, app, &spans) else {
+        return Ok(None);
+    };
+    if switches.rows().len() < 2 {
+        Ok(Some(switches))
+    } else {
+        Ok(None)
+    }
+}
+
 /// The switches of a file's bytes, for an accepted plan, which says how long switches take.
 pub fn switches_in(
     alloc: Global,
@@ -116,6 +142,9 @@ pub fn switches_in(
         design.now.app (groups_of design.now.app) planned.now.plan)) }
 {
     let Design { chip, app } = design;
+    if let Some(switches) = loaded_alone(alloc, app, bytes)? {
+        return Ok(switches);
+    }
     let spans = spans(alloc, chip, app, &planned.groups, &planned.plan)?;
     judged(alloc, SWITCHES, read_switches(alloc, bytes, app, &spans))
 }

@@ -2,5 +2,6 @@ mod GoingLemmas
 pub mod LineLemmas
 pub mod Places
 pub mod RoomLemmas
+pub mod RoomLaws
 pub mod ScheduleLemmas
 mod Within

@@ -1,9 +1,10 @@
 -- What is made from the lines of all use cases is what the switches of a run do.
 use Rattle.std.proofs.Common.{◌≡◌, ◌∙◌, ◌<◌, ◌≤◌, ◌*◌, ℕ, List, [], ◌∷◌, All, Contains, ap, arith}
-use Rattle.std.proofs.Common.{filter, inl, inr, length, map, not, refl, subst, sym}
+use Rattle.std.proofs.Common.{◌==◌, filter, inl, inr, length, map, not, refl, subst, sym}
 use Rattle.std.specs.Prelude.{flat_map}
 use Rattle.std.specs.List.{range_with_len}
-use Rattle.std.proofs.lemmas.List.Elements.{All-head, All-tail}
+use Rattle.std.proofs.lemmas.Bool.{cases_Bool, eq-eqb}
+use Rattle.std.proofs.lemmas.List.Elements.{All-head, All-nil, All-tail}
 use Rattle.aeth_base.specs.Limits.{max_path_delay}
 use Rattle.aeth_base.specs.declared.ids.Side.{Side}
 use Rattle.aeth_base.specs.declared.ids.Side.TheVariants.{Back, Fwd}
@@ -24,19 +25,22 @@ use Rattle.aeth_tables.specs.Tables.{tables_of}
 use Rattle.aeth_tables.proofs.PromiseLaws.{are_printable, keep_promises}
 use Rattle.aeth_accepted.specs.Inputs.{AreAccepted, Inputs, design_of, row_at, run_of}
 use Rattle.aeth_accepted.proofs.TableFlows.{rows-of_tables}
-use Rattle.aeth_schedule.specs.Lines.{all_lines, lines_of}
+use Rattle.aeth_schedule.specs.Entered.{entered_lines, is_entered, lines_if_entered}
+use Rattle.aeth_schedule.specs.Lines.{all_lines, lines_at, lines_of}
+use Rattle.aeth_group.proofs.ListLemmas.{any_from_passes}
 use Rattle.aeth_group.proofs.MemberLemmas.{length-groups_of}
 use Rattle.aeth_tables.specs.Granted.{Granted, grant_on, granted_in}
 use Rattle.aeth_tables.specs.Promises.{HasNumbers}
 use Rattle.aeth_tables.specs.Switching.{changing, delays_in, lag_of, spans_of}
 use Rattle.aeth_tables.specs.TableText.{IsRowOf}
+use Rattle.aeth_tables.proofs.ListLaws.{all_from_places, all_has, has_place}
 use Rattle.aeth_tables.proofs.ShapeRanges.{shape_in_range}
 use Rattle.aeth_tables.proofs.UseLaws.{is_reserved}
 use Rattle.aeth_schedule.specs.Rooms.{queue_number}
 use Rattle.aeth_schedule.specs.declared.lines.Line.{Line}
 use Rattle.std.proofs.lemmas.List.FromFn.{get_or-map-range_with_len, length-map-range_with_len}
 use Rattle.aeth_schedule.specs.Made.{AreRows, IsSetting, IsTask, events_over, loaded_over}
-use Rattle.aeth_schedule.specs.Goings.{goings_from}
+use Rattle.aeth_schedule.specs.Goings.{goings_behind, goings_from}
 use Rattle.aeth_schedule.specs.Made.{timed_over}
 use Rattle.aeth_schedule.specs.Tasks.{AreSpansFor}
 use Rattle.aeth_schedule.specs.Windows.{windows_over}
@@ -65,6 +69,62 @@ module _ (groups : GroupsData) (spans other : SpanData) (all : List (List Line))
   goings-by words cycles (first ∷ row ∷ rows) same =
       ap (λ (s : SpanData). goings_from groups s all words cycles (first ∷ row ∷ rows))
       (same (omega arith))
+
+-- The greatest is no more than what all are at most.
+pub greatest-below : (xs : List ℕ) (n : ℕ) → ((x : ℕ) → Contains xs x → x ≤ n) → greatest xs ≤ n
+greatest-below [] n all = omega arith
+greatest-below (x ∷ xs) n all =
+    let first = all x (Contains-here x xs) in
+    let rest = greatest-below xs n (λ y has. all y (Contains-there x xs y has)) in
+    omega arith
+
+-- What is made of a list of rows is the same by other lines, where those of the use cases that the rows
+-- enter are the same.
+abbrev pub HasSameLines : List (List Line) → List (List Line) → SwitchRow → Type 0
+HasSameLines all other row = lines_at all row.to.0 ≡ lines_at other row.to.0
+
+module _ (groups : GroupsData) (spans : SpanData) (all other : List (List Line)) where
+  abbrev HasSame : SwitchRow → Type 0
+  HasSame row = HasSameLines all other row
+
+  events-lines : (u : ℕ) (rows : List SwitchRow) → lines_at all u ≡ lines_at other u
+      → All HasSame rows → flat_map (events_over groups spans all) (switches_from u rows)
+      ≡ flat_map (events_over groups spans other) (switches_from u rows)
+  events-lines u [] left same = refl
+  events-lines u (row ∷ rows) left same =
+      let to = All-head HasSame row rows same in
+      let rest = events-lines row.to.0 rows to (All-tail HasSame row rows same) in
+      rw (left, to, rest) refl
+
+  pub timed-lines : (rows : List SwitchRow) (cycles : ℕ) → All HasSame rows
+      → timed_over groups spans all rows cycles ≡ timed_over groups spans other rows cycles
+  timed-lines [] cycles same = refl
+  timed-lines (first ∷ rows) cycles same =
+      ap (within cycles) (events-lines first.to.0 rows (All-head HasSame first rows same)
+      (All-tail HasSame first rows same))
+
+  behind-lines : (words : List WordRow) (cycles u : ℕ) (rows : List SwitchRow) → All HasSame rows
+      → goings_behind groups spans all words cycles u rows
+      ≡ goings_behind groups spans other words cycles u rows
+  behind-lines words cycles u [] same = refl
+  behind-lines words cycles u (row ∷ rows) same =
+      let to = All-head HasSame row rows same in
+      let rest = behind-lines words cycles row.to.0 rows (All-tail HasSame row rows same) in
+      rw (to, rest) refl
+
+  pub goings-lines : (words : List WordRow) (cycles : ℕ) (rows : List SwitchRow) → All HasSame rows
+      → goings_from groups spans all words cycles rows
+      ≡ goings_from groups spans other words cycles rows
+  goings-lines words cycles [] same = refl
+  goings-lines words cycles (first ∷ rows) same =
+      let to = All-head HasSame first rows same in
+      let rest = behind-lines words cycles first.to.0 rows (All-tail HasSame first rows same) in
+      rw (to, rest) refl
+
+  pub loaded-lines : (rows : List SwitchRow) → All HasSame rows
+      → loaded_over all rows ≡ loaded_over other rows
+  loaded-lines [] same = refl
+  loaded-lines (first ∷ rows) same = rw (All-head HasSame first rows same) refl
 
 pub windows-by : (spans other : SpanData) (rows : List SwitchRow)
     → (2 ≤ length rows → spans ≡ other) → windows_over spans rows ≡ windows_over other rows
@@ -189,6 +249,40 @@ module _ (inputs : Inputs) (accepted : AreAccepted inputs) where
       (sym (get_or-map-range_with_len (lines_of inputs) 0 (length inputs.app.uses) k k d known
       (omega arith))) (lines-fit k known)
 
+  -- There are entered lines for each use case, and each of these fits.
+  pub entered-are : length (entered_lines inputs) ≡ length (groups_of inputs.app).uses
+  entered-are = length-map-range_with_len (lines_if_entered inputs) 0 (length inputs.app.uses)
+      ∙ sym (length-groups_of inputs.app)
+
+  if-entered-fit : (u : ℕ) → u < length inputs.app.uses → All Fits (lines_if_entered inputs u)
+  if-entered-fit u known = elim (cases_Bool (is_entered inputs.switches u)) [
+    | inl entered ↦ rw entered (lines-fit u known)
+    | inr other ↦ rw other (All-nil Fits)
+  ]
+
+  entered-fit : All (All Fits) (entered_lines inputs)
+  entered-fit k d within =
+      let count = length-map-range_with_len (lines_if_entered inputs) 0 (length inputs.app.uses) in
+      let known : k < length inputs.app.uses = omega (arith, count) in
+      subst (λ (lines : List Line). All Fits lines)
+      (sym (get_or-map-range_with_len (lines_if_entered inputs) 0 (length inputs.app.uses) k k d known
+      (omega arith))) (if-entered-fit k known)
+
+  -- Those of the use cases that rows enter are among all.
+  pub entered-same : All (HasSameLines (entered_lines inputs) (all_lines inputs)) inputs.switches
+  entered-same =
+      all_from_places (HasSameLines (entered_lines inputs) (all_lines inputs)) inputs.switches
+      (λ place row at.
+      let u = row.to.0 in
+      let has = has_place inputs.switches place row at in
+      let known = all_has (λ (one : SwitchRow). one.to.0 < length inputs.app.uses) inputs.switches row
+      accepted.switches.known has in
+      let entered = any_from_passes (λ (one : SwitchRow). one.to.0 == u) inputs.switches row has
+      (eq-eqb u u refl) in
+      let own : lines_if_entered inputs u ≡ lines_of inputs u = rw entered refl in
+      get_or-map-range_with_len (lines_if_entered inputs) 0 (length inputs.app.uses) u u [] known
+      (omega arith) ∙ (own ∙ sym (line-at inputs accepted u known)))
+
   -- No switch has a long lag.
   short : (u : ℕ) → u < length inputs.app.uses → (one : Granted) (side : Side)
       → Contains (granted_in inputs.app (groups_of inputs.app) inputs.plan u) one
@@ -198,13 +292,6 @@ module _ (inputs : Inputs) (accepted : AreAccepted inputs) where
       (is_reserved inputs.chip inputs.app inputs.plan accepted.design u known one has)
       side).most_links
 
-  below : (xs : List ℕ) (n : ℕ) → ((x : ℕ) → Contains xs x → x ≤ n) → greatest xs ≤ n
-  below [] n all = omega arith
-  below (x ∷ xs) n all =
-      let first = all x (Contains-here x xs) in
-      let rest = below xs n (λ y has. all y (Contains-there x xs y has)) in
-      omega arith
-
   pub lag-short : (u v : ℕ) → u < length inputs.app.uses
       → lag_of inputs.chip inputs.app (groups_of inputs.app) inputs.plan u v ≤ max_path_delay
   lag-short u v known =
@@ -212,7 +299,7 @@ module _ (inputs : Inputs) (accepted : AreAccepted inputs) where
       let all = granted_in inputs.app groups inputs.plan u in
       let delays = λ (one : Granted). path_delay inputs.chip.links one.fwd.path
       ∷ path_delay inputs.chip.links one.back.path ∷ [] in
-      below (delays_in inputs.chip (changing groups u v all)) max_path_delay (λ x has.
+      greatest-below (delays_in inputs.chip (changing groups u v all)) max_path_delay (λ x has.
       let (one, is_in, here) = flat_map-Contains delays (changing groups u v all) x has in
       let (given, goes) = filter-Contains
       (λ (other : Granted). not (is_kept groups u v other.conn.0)) all one is_in in
@@ -243,11 +330,11 @@ module _ (inputs : Inputs) (accepted : AreAccepted inputs) where
   -- What events and sessions are made from.
   module _ (groups : GroupsData) (spans : SpanData) (all : List (List Line))
       (groups_are : groups ≡ groups_of inputs.app) (spans_are : AreSpansFor inputs spans)
-      (all_are : all ≡ all_lines inputs) where
+      (all_are : all ≡ entered_lines inputs) where
     setting-of : IsSetting groups spans all
     setting-of = record {
       spans_are = rw groups_are spans_are.uses;
-      lines_are = rw (groups_are, all_are) lines-are;
+      lines_are = rw (groups_are, all_are) entered-are;
     }
 
     pub task-of : (words : List WordRow) (starts : List ℕ) (cycles : ℕ) → words ≡ inputs.words
@@ -259,7 +346,7 @@ module _ (inputs : Inputs) (accepted : AreAccepted inputs) where
         ap (λ (list : List ℕ). length list) starts_are
         ∙ length-map-range_with_len (λ c. length (values_of inputs.words c)) 0
         (length inputs.app.connections) in
-        let fit = all-fit in
+        let fit = entered-fit in
         record {
           setting = setting-of;
           lags = rw groups_are spans_are.lags;

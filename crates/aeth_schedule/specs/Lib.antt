@@ -1,3 +1,4 @@
+pub mod Entered
 pub mod Goings
 pub mod Lines
 pub mod Made

@@ -2,6 +2,7 @@
 --
 --   queue_number      the queue at which a channel lands
 --   room_at, rooms_in, rooms_of      the room of a queue, of so many, and of all queues of a chip
+--   landing_number      the queue at which a channel with a buffer lands
 --   raised, raised_all      one channel more
 -- Buffers at the receiving interface: after Æthereal (2005).
 use Rattle.std.specs.Prelude.{ℕ, ◌+◌, ◌*◌, ◌==◌, max, List, filter, flat_map, fold, length, map}
@@ -11,6 +12,7 @@ use Rattle.aeth_slots.specs.SlotSet.{greatest}
 use Rattle.aeth_ni.specs.Limits.{queues_of_interface}
 use Rattle.aeth_accepted.specs.Inputs.{Inputs}
 use Rattle.aeth_schedule.specs.Lines.{all_lines}
+use Rattle.aeth_tables.specs.declared.buffering.Buffer.{Buffer}
 use Rattle.aeth_schedule.specs.declared.lines.Line.{Line}
 
 -- The number of the queue at which a channel lands, among those of all interfaces.
@@ -31,12 +33,15 @@ unfoldable pub rooms_of : Inputs → List ℕ
 rooms_of inputs =
     rooms_in (flat_map (λ lines. lines) (all_lines inputs)) (queues_of_interface * length inputs.chip.nis)
 
+-- The number of the queue at which a channel with a buffer lands.
+abbrev pub landing_number : Buffer → ℕ
+landing_number one = queues_of_interface * one.ni.0 + one.queue
+
 -- The rooms, once one channel more has its room.
-abbrev pub raised : List ℕ → Line → List ℕ
-raised rooms line =
-    slice_set rooms (queue_number line)
-    (max (slice_index rooms (queue_number line)) line.row.credits)
+abbrev pub raised : List ℕ → Buffer → List ℕ
+raised rooms one =
+    slice_set rooms (landing_number one) (max (slice_index rooms (landing_number one)) one.words)
 
 -- Once these have.
-abbrev pub raised_all : List ℕ → List Line → List ℕ
-raised_all rooms lines = fold raised rooms lines
+abbrev pub raised_all : List ℕ → List Buffer → List ℕ
+raised_all rooms buffers = fold raised rooms buffers

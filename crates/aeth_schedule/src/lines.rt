@@ -1,6 +1,6 @@
 // The channels of a use case, as its tables have them.
 
-ghost use Rattle.std.specs.Prelude.{◌≡◌, ◌<◌, ◌++◌, IfOk, OnOk, length};
+ghost use Rattle.std.specs.Prelude.{◌≡◌, ◌<◌, ◌++◌, [], IfOk, OnOk, length};
 ghost use Rattle.aeth_schedule.specs.Lines.{end_of, line_with, lines_at, lines_with};
 
 use aeth_base::{NoMemory, UseId};
@@ -39,9 +39,18 @@ impl Lines {
     pub(crate) fn of(alloc: Global, tables: &Tables) -> Result<Lines, NoMemory>
         ensures { IfOk result (λ lines. lines ≡ lines_with tables.now.rows tables.now.shapes) }
     {
-        let mut list = Vec::new(alloc);
+        let mut list = Vec::with_capacity(alloc, tables.rows.len())?;
         push_lines(&mut list, &tables.rows, &tables.shapes)?;
         Ok(Lines { list })
+    }
+
+    // No lines.
+    pub(crate) fn none(alloc: Global) -> Lines
+        ensures { result ≡ [] }
+    {
+        Lines {
+            list: Vec::new(alloc),
+        }
     }
 
     // The lines.

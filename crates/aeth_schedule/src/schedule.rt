@@ -1,7 +1,8 @@
 // What a run does, cycle by cycle.
 
 ghost use Rattle.std.specs.Prelude.{◌≡◌, ◌≤◌, ◌<◌, IfOk, length, slice_range};
-ghost use Rattle.aeth_schedule.specs.Lines.{all_lines, lines_of};
+ghost use Rattle.aeth_schedule.specs.Entered.{entered_lines, is_entered, lines_if_entered};
+ghost use Rattle.aeth_schedule.specs.Lines.{lines_of};
 ghost use Rattle.aeth_schedule.specs.Schedule.{schedule_of};
 ghost use Rattle.aeth_schedule.specs.Tasks.{IsTaskOf};
 
@@ -17,6 +18,7 @@ use aeth_accepted::RunInputs;
 use aeth_base::{NoMemory, UseId};
 use aeth_components::Event;
 use aeth_tables::tables;
+use aeth_trace::SwitchRow;
 use std::alloc::Global;
 use std::marker::Model;
 
@@ -56,7 +58,7 @@ impl Schedule {
         ensures { IfOk result (λ schedule. schedule ≡ schedule_of inputs.now) }
     {
         inputs.are_accepted();
-        let all = lines_of_uses(alloc, inputs)?;
+        let all = entered_lines(alloc, inputs)?;
         let spans = spans_for(alloc, inputs)?;
         let starts = starts(alloc, inputs.app(), inputs.words())?;
         let task = Task {
@@ -128,19 +130,38 @@ fn made(alloc: Global, inputs: &RunInputs, task: &Task) -> Result<Schedule, NoMe
         timed: timed_events(alloc, task, rows)?,
         goings: goings_of(alloc, task, rows)?,
         windows: windows_of(alloc, task, rows)?,
-        rooms: rooms_of(alloc, inputs.chip(), task.all)?,
+        rooms: rooms_of(alloc, inputs)?,
     })
 }
 
-// The channels of all use cases.
-fn lines_of_uses(alloc: Global, inputs: &RunInputs) -> Result<Vec<Lines>, NoMemory>
-    ensures { IfOk result (λ all. all.items ≡ all_lines inputs.now) }
+// The channels of all use cases that rows of switches enter. Of the others none are made.
+fn entered_lines(alloc: Global, inputs: &RunInputs) -> Result<Vec<Lines>, NoMemory>
+    ensures { IfOk result (λ all. all.items ≡ entered_lines inputs.now) }
 {
     let mut all = Vec::new(alloc);
     for u in 0..inputs.app().uses() {
-        all.push(lines_of_use(alloc, inputs, UseId(u))?)?;
+        all.push(lines_if_entered(alloc, inputs, UseId(u))?)?;
     }
     Ok(all)
+}
+
+// The channels of a use case, where a row enters it.
+fn lines_if_entered(alloc: Global, inputs: &RunInputs, u: UseId) -> Result<Lines, NoMemory>
+    requires { u.0 < length inputs.now.app.uses }
+    ensures { IfOk result (λ lines. lines ≡ lines_if_entered inputs.now u.0) }
+{
+    if is_entered(inputs.switches().rows(), u) {
+        lines_of_use(alloc, inputs, u)
+    } else {
+        Ok(Lines::none(alloc))
+    }
+}
+
+// Whether a row enters a use case.
+fn is_entered(rows: &[SwitchRow], u: UseId) -> bool
+    ensures { result ≡ is_entered rows.now u.0 }
+{
+    rows.iter().any(|row| row.to.0 == u.0)
 }
 
 // The channels of a use case.

@@ -6,8 +6,8 @@ use crate::lines::Lines;
 use aeth_group::Groups;
 use aeth_trace::{Spans, Words};
 
-// The groups of an application, how long its switches take, the channels of all use cases, the words of
-// a run, the place of the first word of each connection, and the cycles.
+// The groups of an application, how long its switches take, the channels of the use cases that a run
+// enters, the words of the run, the place of the first word of each connection, and the cycles.
 #[derive(Clone, Copy)]
 pub(crate) struct Task<'a> {
     pub groups: &'a Groups,

@@ -1,12 +1,12 @@
-use Rattle.std.proofs.Common.{◌∙◌, Result, Err, length, ap, subst}
+use Rattle.std.proofs.Common.{◌≡◌, ◌∙◌, Ok, ap, length, refl}
 use Rattle.std.specs.Prelude.{codes}
-use Rattle.std.proofs.lemmas.Result.{err_from_is_err_and}
 use Rattle.aeth_group.specs.Members.{GroupsData, groups_of}
 use Rattle.aeth_group.proofs.MemberLemmas.{length-groups_of}
 use Rattle.aeth_tables.specs.Switching.{spans_of}
 use Rattle.aeth_trace.specs.Fault.{rule_of}
 use Rattle.aeth_trace.specs.Spans.{SpanData}
 use Rattle.aeth_trace.specs.Switches.{AreSwitchesOf, switches_of}
+use Rattle.aeth_trace.proofs.FileLemmas.{switches_of-kept}
 use Rattle.aeth_answers.proofs.FileLemmas.{HandsOn-keeps, Judges-told}
 use Rattle.aeth_files.proofs.files.switches_in.Goals as goal
 
@@ -42,3 +42,23 @@ returns-clause-switches c =
     HandsOn-keeps rule_of (codes "switches")
     (AreSwitchesOf app (spans_of chip app (groups_of app) plan)) c.read_switches.result
     c.judged.result (rw same at c.read_switches.ensures.switches) c.judged.ensures
+
+-- The first row alone is told whatever the plan.
+told-alone : (c : goal.In-Some) (spans : SpanData)
+    → switches_of c.args.design.now.app spans c.args.bytes.now ≡ Ok c.in-Some.switches
+told-alone c = rw c.in-Some.is at c.in_ok-switches.ensures
+
+pub returns-in-Some-clause-judges : goal.returns-in-Some-clause-judges
+returns-in-Some-clause-judges c =
+    let app = c.args.design.now.app in
+    let spans = spans_of c.args.design.now.chip app (groups_of app) c.args.planned.now.plan in
+    let switches = c.in-Some.switches in
+    λ now. Judges-told now (codes "switches") rule_of (λ switches. switches)
+    (switches_of app spans c.args.bytes.now) (Ok switches) (Ok switches)
+    (told-alone c spans) refl
+
+pub returns-in-Some-clause-switches : goal.returns-in-Some-clause-switches
+returns-in-Some-clause-switches c =
+    let app = c.args.design.now.app in
+    let spans = spans_of c.args.design.now.chip app (groups_of app) c.args.planned.now.plan in
+    switches_of-kept app spans c.args.bytes.now c.in-Some.switches (told-alone c spans)

@@ -1,33 +1,62 @@
-use Rattle.std.proofs.Common.{◌*◌, ◌+◌, List, length, sym, take}
+use Rattle.std.proofs.Common.{◌∙◌, ◌*◌, ℕ, [], length}
 use Rattle.std.proofs.lemmas.List.{length-replicate}
-use Rattle.std.specs.Prelude.{flat_map}
-use Rattle.std.proofs.lemmas.List.FromFn.{length-map-range_with_len}
+use Rattle.aeth_group.specs.Members.{groups_of}
 use Rattle.aeth_ni.specs.Limits.{queues_of_interface}
-use Rattle.aeth_schedule.specs.Rooms.{room_at}
-use Rattle.aeth_schedule.specs.declared.lines.Line.{Line}
-use Rattle.aeth_schedule.proofs.RoomLemmas.{none-in, rooms-next}
+use Rattle.aeth_tables.specs.Buffers.{buffers_of}
+use Rattle.aeth_schedule.specs.Rooms.{rooms_of}
+use Rattle.aeth_schedule.proofs.RoomLaws.{all-land, same-rooms}
+use Rattle.aeth_schedule.proofs.RoomLemmas.{none-in, raised_all-in}
 use Rattle.aeth_schedule.proofs.rooms.rooms_of.Goals as goal
 
--- At first there is none.
-pub loop-lines-init : goal.loop-lines-init
-loop-lines-init c =
-    let items = c.in_ok-rooms.ensures.items_if_clones_equal (λ y same. same) in
-    let count = queues_of_interface * length c.args.chip.now.nis in
-    record {
-      rooms = rw (items, c.nis.ensures.nis) (sym (none-in count));
-      count = rw (items, c.nis.ensures.nis) (length-replicate count 0);
-    }
+-- The plan is accepted.
+pub buffers-requires-clause-plan : goal.buffers-requires-clause-plan
+buffers-requires-clause-plan c =
+    rw (c.chip-chip.ensures, c.app.ensures, c.groups.ensures, c.plan.ensures)
+    c.are_accepted.ensures.design.plan_is
 
--- One use case more.
-pub loop-lines-preserved : goal.loop-lines-preserved
-loop-lines-preserved c =
-    let count = queues_of_interface * length c.args.chip.now.nis in
-    let i = c.loop-lines.lines-index in
-    let lines = c.lines-item.result in
-    let next = rooms-next c.args.all.now i count lines c.loop-lines-test.true c.lines-item.is
-    c.requires in
-    record {
-      rooms = rw (c.raise_all.ensures, c.list.ensures, c.loop-lines.invariant.rooms) next;
-      count = rw (c.raise_all.ensures, c.list.ensures, c.loop-lines.invariant.rooms, next) (length-map-range_with_len (room_at (flat_map (λ (one : List Line). one)
-          (take (i + 1) c.args.all.now))) 0 count);
-    }
+pub buffers-requires-clause-accepted : goal.buffers-requires-clause-accepted
+buffers-requires-clause-accepted c =
+    rw (c.chip-chip.ensures, c.app.ensures, c.groups.ensures, c.plan.ensures)
+    c.are_accepted.ensures.design.accepted
+
+-- Each channel lands at a queue of the chip.
+pub raise_all-requires : goal.raise_all-requires
+raise_all-requires c =
+    let inputs = c.args.inputs.now in
+    let items = c.in_ok-rooms.ensures.items_if_clones_equal (λ y same. same) in
+    let count = queues_of_interface * length inputs.chip.nis in
+    rw (
+      items,
+      c.nis.ensures.nis,
+      c.deref.ensures.value,
+      c.in_ok-buffers.ensures,
+      c.chip-chip.ensures,
+      c.app.ensures,
+      c.groups.ensures,
+      c.plan.ensures,
+      length-replicate {A = ℕ} count 0,
+    )
+    (all-land inputs c.are_accepted.ensures)
+
+-- The rooms are those for the channels of all use cases.
+pub returns : goal.returns
+unfolding rooms_of
+returns c =
+    let inputs = c.args.inputs.now in
+    let accepted = c.are_accepted.ensures in
+    let items = c.in_ok-rooms.ensures.items_if_clones_equal (λ y same. same) in
+    let count = queues_of_interface * length inputs.chip.nis in
+    let needed = buffers_of inputs.chip inputs.app (groups_of inputs.app) inputs.plan in
+    rw (
+      c.raise_all.ensures,
+      items,
+      c.nis.ensures.nis,
+      c.deref.ensures.value,
+      c.in_ok-buffers.ensures,
+      c.chip-chip.ensures,
+      c.app.ensures,
+      c.groups.ensures,
+      c.plan.ensures,
+      ← none-in count,
+    )
+    (raised_all-in [] needed count (all-land inputs accepted) ∙ same-rooms inputs accepted count)

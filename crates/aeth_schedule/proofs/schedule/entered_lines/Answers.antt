@@ -1,10 +1,10 @@
 use Rattle.std.proofs.Common.{arith, sym}
 use Rattle.std.proofs.lemmas.List.FromFn.{map-range_with_len_more}
-use Rattle.aeth_schedule.specs.Lines.{lines_of}
-use Rattle.aeth_schedule.proofs.schedule.lines_of_uses.Goals as goal
+use Rattle.aeth_schedule.specs.Entered.{lines_if_entered}
+use Rattle.aeth_schedule.proofs.schedule.entered_lines.Goals as goal
 
 -- One use case more.
 pub loop-u-preserved : goal.loop-u-preserved
 loop-u-preserved c =
-    rw (c.in_ok-push.ensures.items, c.loop-u.invariant, c.in_ok-lines_of_use.ensures)
-    (sym (map-range_with_len_more (lines_of c.args.inputs.now) 0 c.loop-u.u c.loop-u.u (omega arith)))
+    rw (c.in_ok-push.ensures.items, c.loop-u.invariant, c.in_ok-lines_if_entered.ensures)
+    (sym (map-range_with_len_more (lines_if_entered c.args.inputs.now) 0 c.loop-u.u c.loop-u.u (omega arith)))

@@ -3,9 +3,10 @@ use Rattle.aeth_accepted.specs.Inputs.{run_of}
 use Rattle.aeth_group.specs.Members.{groups_of}
 use Rattle.aeth_schedule.specs.Goings.{goings_of}
 use Rattle.aeth_schedule.specs.Lines.{all_lines}
-use Rattle.aeth_schedule.specs.Rooms.{rooms_of}
-use Rattle.aeth_schedule.proofs.ScheduleLemmas.{all-fit, goings-by, lines-are, loaded-same, rows-are}
-use Rattle.aeth_schedule.proofs.ScheduleLemmas.{timed-by, timed-same, windows-by}
+use Rattle.aeth_schedule.specs.Entered.{entered_lines}
+use Rattle.aeth_schedule.proofs.ScheduleLemmas.{entered-are, entered-same, goings-by, goings-lines}
+use Rattle.aeth_schedule.proofs.ScheduleLemmas.{loaded-lines, loaded-same, rows-are, timed-by, timed-lines}
+use Rattle.aeth_schedule.proofs.ScheduleLemmas.{timed-same, windows-by}
 use Rattle.aeth_schedule.proofs.schedule.made.Goals as goal
 
 -- Each switch enters a use case that has its channels.
@@ -13,7 +14,7 @@ pub loaded_of-requires : goal.loaded_of-requires
 loaded_of-requires c =
     let inputs = c.args.inputs.now in
     let accepted = c.are_accepted.ensures in
-    rw (c.rows-rows.ensures, c.switches.ensures, c.requires.lines, lines-are inputs accepted)
+    rw (c.rows-rows.ensures, c.switches.ensures, c.requires.lines, entered-are inputs accepted)
     (rows-are inputs accepted).known
 
 pub timed_events-requires : goal.timed_events-requires
@@ -34,21 +35,18 @@ goings_of-requires c =
     rw (c.rows-rows.ensures, c.switches.ensures, c.requires.groups)
     (rows-are inputs c.are_accepted.ensures)
 
--- Each channel lands at a queue of the chip.
-pub rooms_of-requires : goal.rooms_of-requires
-rooms_of-requires c =
-    let fit = all-fit c.args.inputs.now c.are_accepted.ensures in
-    rw (c.chip.ensures, c.requires.lines) (λ k d within i e inside. (fit k d within i e inside).1)
-
 -- The parts are those of the schedule.
 pub returns : goal.returns
-unfolding goings_of rooms_of
+unfolding goings_of
 returns c =
     let inputs = c.args.inputs.now in
     let accepted = c.are_accepted.ensures in
     let groups = groups_of inputs.app in
     let task = c.args.task.now.spans.now in
     let planned = c.requires.spans.planned in
+    let entered = entered_lines inputs in
+    let same = entered-same inputs accepted in
+    let spans = (run_of inputs).spans in
     rw (
       c.in_ok-loaded_of.ensures,
       c.in_ok-timed_events.ensures.events,
@@ -58,15 +56,16 @@ returns c =
       c.in_ok-rooms_of.ensures,
       c.rows-rows.ensures,
       c.switches.ensures,
-      c.chip.ensures,
       c.requires.groups,
       c.requires.lines,
       c.requires.words,
       c.requires.cycles,
-      timed-by groups task (run_of inputs).spans (all_lines inputs) inputs.switches inputs.cycles
-          planned,
-      goings-by groups task (run_of inputs).spans (all_lines inputs) inputs.words inputs.cycles
-          inputs.switches planned,
+      timed-by groups task spans entered inputs.switches inputs.cycles planned,
+      goings-by groups task spans entered inputs.words inputs.cycles inputs.switches planned,
+      timed-lines groups spans entered (all_lines inputs) inputs.switches inputs.cycles same,
+      goings-lines groups spans entered (all_lines inputs) inputs.words inputs.cycles
+          inputs.switches same,
+      loaded-lines groups spans entered (all_lines inputs) inputs.switches same,
       windows-by task (run_of inputs).spans inputs.switches planned,
       timed-same inputs accepted inputs.switches refl,
       loaded-same inputs accepted inputs.switches refl,
