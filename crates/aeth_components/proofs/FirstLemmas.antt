@@ -1,5 +1,5 @@
 -- Before the first cycle: the ends of a chip's wires, and that its components hold nothing.
-use Rattle.std.proofs.Common.{ℕ, ◌≡◌, ◌<◌, ◌≤◌, ◌+◌, ◌∙◌, refl, sym, ap, arith, subst}
+use Rattle.std.proofs.Common.{ℕ, ◌≡◌, ◌<◌, ◌≤◌, ◌∙◌, refl, sym, ap, arith, subst}
 use Rattle.std.proofs.Common.{List, length, map, None, Option, replicate, true, false}
 use Rattle.std.specs.List.{All}
 use Rattle.std.proofs.lemmas.List.{length-map, length-replicate}
@@ -94,14 +94,15 @@ module _ (chip : ChipData) (is_chip : IsChip chip) (rooms : List ℕ) where
 
   -- Nothing is marked, and nothing is held.
   pub AreReady-new : (turns : Turns) → AreEndsOf chip turns.ends → HasRoom turns
-      → AreUnmarked (turns.ends.parts + turns.ends.parts) turns.marks
+      → AreUnmarked turns.ends.parts turns.driving → AreUnmarked turns.ends.parts turns.latching
       → AreReady (map frame_of (new_parts chip ByHeader rooms))
       (map holding_of (new_parts chip ByHeader rooms))
       (replicate (wires_of chip.links) None) turns
-  AreReady-new turns are room none = record {
+  AreReady-new turns are room driving latching = record {
     ends = subst (λ n. AreEnds (map frame_of (new_parts chip ByHeader rooms)) n turns.ends)
         (sym (length-replicate (wires_of chip.links) None)) (AreEnds-new turns.ends are);
     room = room;
-    unmarked = none;
+    driving = driving;
+    latching = latching;
     hold = HoldNoMore-new chip rooms (replicate (wires_of chip.links) None);
   }

@@ -1,5 +1,5 @@
 -- What components hold: which phases of a cycle keep it, and which components rest by it.
-use Rattle.std.proofs.Common.{ℕ, ◌≡◌, ◌+◌, ◌<◌, ◌∙◌, refl, sym, ap, map, List, [], ◌∷◌, length}
+use Rattle.std.proofs.Common.{ℕ, ◌≡◌, ◌<◌, ◌∙◌, refl, sym, ap, map, List, [], ◌∷◌, length}
 use Rattle.std.proofs.Common.{Bool, true, false, IsSome, Option, Some, None, replicate, slice_get}
 use Rattle.std.proofs.lemmas.Option.{slice_get_within}
 use Rattle.aeth_base.specs.Marks.{bit_of}
@@ -209,19 +209,19 @@ pub none-unless : (flit : Option Flit) → (IsSome flit → ⊥) → flit ≡ No
 none-unless None never = refl
 none-unless (Some flit) never = absurd (never refl)
 
-module _ (parts : List Part) (marks : List ℕ) (first : ℕ) (list : List ℕ)
-    (all : (number : ℕ) → number < length parts → bit_of marks (first + number) ≡ 1
+module _ (parts : List Part) (marks : List ℕ) (list : List ℕ)
+    (all : (number : ℕ) → number < length parts → bit_of marks number ≡ 1
     → is_chosen list number ≡ true) where
   -- What isn't listed isn't marked.
   pub unlisted : (number : ℕ) (part : Part) → slice_get parts number ≡ Some part
-      → is_chosen list number ≡ false → bit_of marks (first + number) ≡ 1 → ⊥
+      → is_chosen list number ≡ false → bit_of marks number ≡ 1 → ⊥
   unlisted number part at left is =
       cc (sym (all number (slice_get_within parts number part at) is) ∙ left)
 
   -- Its wires on a side are empty.
   pub empty-unlisted : (wires : List (Option Flit)) (sides : Part → ℕ → Bool)
       → ((wire number : ℕ) (part : Part) → slice_get parts number ≡ Some part
-      → sides part wire ≡ true → IsSome (flit_on wires wire) → bit_of marks (first + number) ≡ 1)
+      → sides part wire ≡ true → IsSome (flit_on wires wire) → bit_of marks number ≡ 1)
       → AllOthers list (λ part. HasNoFlit (sides part) wires) parts
   empty-unlisted wires sides marked number part at left link is =
       none-unless (flit_on wires link)

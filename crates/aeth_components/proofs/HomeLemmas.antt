@@ -1,7 +1,6 @@
 -- Laws of the places at which channels are noted.
 use Rattle.std.proofs.Common.{ℕ, ◌≡◌, ◌<◌, ◌^◌, ◌∙◌, sym, ap, arith, subst, inl, inr, true}
-use Rattle.std.proofs.Common.{List, length, length-set, map, slice_get, Some, None, Option, false}
-use Rattle.std.proofs.Common.{refl}
+use Rattle.std.proofs.Common.{List, length, length-set, map, refl, slice_get, Some, None, Option}
 use Rattle.std.specs.List.{All}
 use Rattle.std.specs.Option.{option_map_or}
 use Rattle.std.specs.List.{slice_set}
@@ -10,18 +9,15 @@ use Rattle.std.proofs.lemmas.List.{length-map}
 use Rattle.std.proofs.lemmas.Option.{get_or_from_slice_get, same_Some, slice_get_within}
 use Rattle.aeth_base.proofs.Lists.{slice_get-slice_set_other, slice_get-slice_set_same}
 use Rattle.aeth_base.specs.Marks.{bit_of, room_of}
+use Rattle.aeth_clocked.specs.declared.flit.Flit.{Flit}
+use Rattle.aeth_clocked.proofs.UsedLemmas.{flit-within}
 use Rattle.aeth_router.specs.declared.part.Part.{Part}
-use Rattle.aeth_router.specs.declared.part.Part.TheVariants.{Interface, Router, Stage, TableRouter}
-use Rattle.aeth_components.specs.declared.ends.Ends.{Ends}
-use Rattle.aeth_components.specs.Ends.{AreEnds, is_interface}
-use Rattle.aeth_components.specs.Frames.{frame_of}
-use Rattle.aeth_components.proofs.UnlistedLemmas.{seen-at}
 use Rattle.aeth_components.specs.declared.homes.Homes.{Homes}
 use Rattle.aeth_components.specs.declared.lane.ChannelEnd.{ChannelEnd}
 use Rattle.aeth_components.specs.declared.lane.Lane.{Lane}
 use Rattle.aeth_components.specs.Busy.{AreMarked, HandsNothing, IsIdle}
 use Rattle.aeth_components.specs.Counting.{brings, brought_at, counted}
-use Rattle.aeth_components.specs.Homes.{AreHomes, AreOthersSilent, AreTold, home_at}
+use Rattle.aeth_components.specs.Homes.{AreBrought, AreHomes, AreTold, home_at}
 use Rattle.aeth_components.specs.Lanes.{IsLane, is_open}
 use Rattle.aeth_components.specs.Phases.{pulled, refilled}
 use Rattle.aeth_components.specs.Queues.{brought_by}
@@ -139,11 +135,11 @@ AreHomes-map homes lanes change stays are = record {
 }
 
 -- No words come to a channel of which none are to land, or that isn't marked.
-module _ (homes : Homes) (lanes : List Lane) (parts : List Part) (words interfaces : ℕ)
-    (marks : List ℕ) (are : AreHomes homes lanes) (apart : homes.is_apart ≡ true)
-    (sound : All (IsLane words (length parts)) lanes)
-    (silent : AreOthersSilent interfaces parts)
-    (told : AreTold homes.numbers.items parts interfaces (length lanes) marks) where
+module _ (homes : Homes) (lanes : List Lane) (parts : List Part) (words : ℕ) (ends : List ℕ)
+    (wires : List (Option Flit)) (marks : List ℕ) (are : AreHomes homes lanes)
+    (apart : homes.is_apart ≡ true) (sound : All (IsLane words (length parts)) lanes)
+    (brought : AreBrought parts ends wires)
+    (told : AreTold homes.numbers.items parts ends wires (length wires) (length lanes) marks) where
   brings-unmarked : (number : ℕ) (lane : Lane) → slice_get lanes number ≡ Some lane
       → lane.landed < lane.accepted → bit_of marks number ≡ 0
       → (found : Option Part) → slice_get parts lane.receiver.ni.0 ≡ found → brings parts lane ≡ 0
@@ -155,14 +151,13 @@ module _ (homes : Homes) (lanes : List Lane) (parts : List Part) (words interfac
       let i = lane.receiver.ni.0 in
       let home = are.at apart number lane at waits in
       let within = slice_get_within lanes number lane at in
-      brings-silent parts lane part there (elim (cases_lt i interfaces) [
-        | inl below ↦ elim (cases_lt 0 (brought_by lane.receiver.queue part)) [
-          | inl some ↦
-              let one = told i lane.receiver.queue number part below there some home within in
-              absurd (omega (arith, one, bit))
-          | inr none ↦ (let zero : brought_by lane.receiver.queue part ≡ 0 = omega (arith, none) in zero)
-        ]
-        | inr over ↦ silent i part over there lane.receiver.queue
+      brings-silent parts lane part there (elim (cases_lt 0 (brought_by lane.receiver.queue part)) [
+        | inl some ↦
+            let by = brought i lane.receiver.queue part there some in
+            let one = told by.0 i lane.receiver.queue number part (flit-within wires by.0 by.1) by.1
+            by.2 there some home within in
+            absurd (omega (arith, one, bit))
+        | inr none ↦ (let zero : brought_by lane.receiver.queue part ≡ 0 = omega (arith, none) in zero)
       ])
 
   lane-sound : (number : ℕ) (lane : Lane) → slice_get lanes number ≡ Some lane
@@ -211,17 +206,3 @@ HandsNothing-counted cycle parts lane none = elim (cases_Bool (is_open lane cycl
   | inl opened ↦ subst HandsNothing (sym (counted-open cycle parts lane opened)) none
   | inr closed ↦ subst HandsNothing (sym (counted-closed cycle parts lane closed)) none
 ]
-
--- Just interfaces get words, which are the first components.
-silent-part : (part : Part) → is_interface (frame_of part) ≡ false
-    → (queue : ℕ) → brought_by queue part ≡ 0
-silent-part (Interface ni) is queue = absurd (cc is)
-silent-part (Router router) is queue = refl
-silent-part (TableRouter router) is queue = refl
-silent-part (Stage stage) is queue = refl
-
-pub AreOthersSilent-ends : (parts : List Part) (wires : ℕ) (ends : Ends)
-    → AreEnds (map frame_of parts) wires ends → AreOthersSilent ends.interfaces parts
-AreOthersSilent-ends parts wires ends are number part from at =
-    silent-part part
-    (are.others number (frame_of part) (seen-at frame_of parts number part at) from)

@@ -1,4 +1,5 @@
 pub mod AloneLemmas
+mod BroughtLemmas
 pub mod CountingLemmas
 mod CycleLemmas
 mod EndLemmas
@@ -21,6 +22,7 @@ pub mod PartLemmas
 pub mod QueueLemmas
 mod ReadyLemmas
 mod ReceiverLemmas
+mod SenderLemmas
 mod SendingLemmas
 mod SkipLemmas
 mod SlotLemmas

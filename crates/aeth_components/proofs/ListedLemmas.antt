@@ -1,5 +1,5 @@
--- Laws of marked numbers that are listed upwards, by their places behind a first one.
-use Rattle.std.proofs.Common.{ℕ, zero, suc, ◌≡◌, ◌≢◌, ◌+◌, ◌-◌, ◌≤◌, ◌<◌, refl, sym, ap, ◌∙◌, arith}
+-- Laws of marked numbers that are listed upwards.
+use Rattle.std.proofs.Common.{ℕ, zero, suc, ◌≡◌, ◌+◌, ◌-◌, ◌≤◌, ◌<◌, refl, sym, ap, ◌∙◌, arith}
 use Rattle.std.proofs.Common.{inl, inr, eqb, true, false, List, [], ◌∷◌, ◌++◌, length, get_or}
 use Rattle.std.specs.List.{All, IsDistinct, list_any}
 use Rattle.std.specs.Cmp.{nat_eq_equiv}
@@ -9,18 +9,16 @@ use Rattle.std.proofs.lemmas.List.{length-append}
 use Rattle.std.proofs.lemmas.List.Elements.{All-push}
 use Rattle.std.proofs.lemmas.List.Folds.{list_any-append, list_any_none}
 use Rattle.std.proofs.lemmas.Map.Keys.{IsDistinct-push}
-use Rattle.std.specs.Prelude.{◌⊎◌}
 use Rattle.aeth_base.specs.Marks.{bit_of}
 use Rattle.aeth_clocked.specs.Resting.{is_chosen}
 use Rattle.aeth_components.specs.Turns.{AreListed, marks_below}
 
--- The marked numbers behind the first are listed, up to a place.
-pub record ListedTo (first : ℕ) (marks : List ℕ) (list : List ℕ) (to : ℕ) : Type 0 where
+-- The marked numbers below one are listed.
+pub record ListedTo (marks : List ℕ) (list : List ℕ) (to : ℕ) : Type 0 where
   pub below : All (λ number. number < to) list
   pub distinct : IsDistinct eqb list
-  pub all : (number : ℕ) → number < to → bit_of marks (first + number) ≡ 1
-      → is_chosen list number ≡ true
-  pub few : length list + marks_below marks first ≡ marks_below marks (first + to)
+  pub all : (number : ℕ) → number < to → bit_of marks number ≡ 1 → is_chosen list number ≡ true
+  pub few : length list ≡ marks_below marks to
 
 -- Numbers that aren't marked add none.
 marks_below-gap : (marks : List ℕ) (from gap : ℕ)
@@ -35,23 +33,19 @@ marks_below-gap marks from (suc gap) none =
     let next : from + suc gap ≡ suc (from + gap) = omega arith in
     ap (marks_below marks) next ∙ omega (arith, rest, here)
 
-module _ (first : ℕ) (marks : List ℕ) where
-  pub ListedTo-first : ListedTo first marks [] 0
+module _ (marks : List ℕ) where
+  pub ListedTo-first : ListedTo marks [] 0
   unfolding IsDistinct
   ListedTo-first = record {
     below = λ place default within. absurd (omega arith);
     distinct = tt;
     all = λ number below. absurd (omega arith);
-    few = (
-        let same : first ≡ first + 0 = omega arith in
-        let none = ap (marks_below marks) same in
-        omega (arith, none));
+    few = refl;
   }
 
   -- The next marked number is listed.
-  pub ListedTo-more : (list : List ℕ) (place : ℕ) → ListedTo first marks list place
-      → bit_of marks (first + place) ≡ 1
-      → ListedTo first marks (list ++ place ∷ []) (place + 1)
+  pub ListedTo-more : (list : List ℕ) (place : ℕ) → ListedTo marks list place
+      → bit_of marks place ≡ 1 → ListedTo marks (list ++ place ∷ []) (place + 1)
   ListedTo-more list place listed own =
       let apart : list_any (eqb place) list ≡ false =
       list_any_none (eqb place) list (λ i default within.
@@ -75,16 +69,16 @@ module _ (first : ℕ) (marks : List ℕ) where
         few = (
             let size = length-append list (place ∷ []) in
             let before = listed.few in
-            let next : first + (place + 1) ≡ suc (first + place) = omega arith in
+            let next : place + 1 ≡ suc place = omega arith in
             sym (ap (marks_below marks) next ∙ omega (arith, size, before, own)));
       }
 
   -- Up to the next one none is marked.
-  pub ListedTo-until : (list : List ℕ) (from to : ℕ) → ListedTo first marks list from → from ≤ to
-      → ((number : ℕ) → first + from ≤ number → number < first + to → bit_of marks number ≡ 0)
-      → ListedTo first marks list to
+  pub ListedTo-until : (list : List ℕ) (from to : ℕ) → ListedTo marks list from → from ≤ to
+      → ((number : ℕ) → from ≤ number → number < to → bit_of marks number ≡ 0)
+      → ListedTo marks list to
   ListedTo-until list from to listed after none =
-      let there : first + from + (to - from) ≡ first + to = omega arith in
+      let there : from + (to - from) ≡ to = omega arith in
       record {
         below = λ place default within.
             let less = listed.below place default within in omega (arith, less);
@@ -92,21 +86,19 @@ module _ (first : ℕ) (marks : List ℕ) where
         all = λ number below bit. elim (cases_lt number from) [
           | inl before ↦ listed.all number before bit
           | inr behind ↦
-              absurd (let zero_too = none (first + number) (omega arith) (omega arith) in
-              omega (arith, zero_too, bit))
+              absurd (let zero_too = none number behind below in omega (arith, zero_too, bit))
         ];
         few = listed.few
             ∙ sym (ap (marks_below marks) (sym there)
-            ∙ marks_below-gap marks (first + from) (to - from) (λ number behind below.
+            ∙ marks_below-gap marks from (to - from) (λ number behind below.
             none number behind (omega arith)));
       }
 
-  -- All among a count are listed.
-  pub ListedTo-all : (list : List ℕ) (to count : ℕ) → ListedTo first marks list to
-      → to ≡ count → AreListed marks first count list
-  ListedTo-all list to count listed is =
-      rw (← is) (record {
-        chosen = record { distinct = listed.distinct; below = listed.below };
-        all = listed.all;
-        few = listed.few;
-      })
+  -- All below a count are listed.
+  pub ListedTo-all : (list : List ℕ) (count : ℕ) → ListedTo marks list count
+      → AreListed marks count list
+  ListedTo-all list count listed = record {
+    chosen = record { distinct = listed.distinct; below = listed.below };
+    all = listed.all;
+    few = listed.few;
+  }

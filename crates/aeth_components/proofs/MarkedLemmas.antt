@@ -1,20 +1,18 @@
 -- Laws of marks of components: what one mark more adds, and a walk over the wires with a flit.
 use Rattle.std.proofs.Common.{ℕ, zero, suc, ◌≡◌, ◌≢◌, ◌+◌, ◌≤◌, ◌<◌, refl, sym, ap, ◌∙◌, arith}
-use Rattle.std.specs.Prelude.{◌⊎◌, ◌/◌, ◌%◌, slice_index}
+use Rattle.std.specs.List.{All}
 use Rattle.std.proofs.Common.{inl, inr, List, [], ◌∷◌, length, take, Option, Some, None, IsSome}
-use Rattle.std.proofs.Common.{false, is_some, slice_get, subst, true}
-use Rattle.std.proofs.lemmas.Bool.{cases_eq, cases_lt, le-ltb, lt-ltb}
+use Rattle.std.proofs.Common.{is_some, slice_get, subst}
+use Rattle.std.proofs.lemmas.Bool.{cases_eq, cases_lt}
 use Rattle.std.proofs.lemmas.List.{take_all}
-use Rattle.std.proofs.lemmas.List.Sums.{count_by_more_no, count_by_more_yes}
 use Rattle.std.proofs.lemmas.Option.{get_or_from_slice_get, same_Some, slice_get_within}
-use Rattle.aeth_router.specs.declared.part.Part.{Part}
 use Rattle.aeth_base.proofs.Lists.{count_by-yes}
-use Rattle.std.proofs.lemmas.Nat.Bits.{bit_at-lt}
-use Rattle.aeth_base.specs.Marks.{bit_of, numbers_of_mask}
+use Rattle.aeth_base.specs.Marks.{bit_of}
 use Rattle.aeth_clocked.specs.Wires.{flit_on}
 use Rattle.aeth_clocked.specs.declared.flit.Flit.{Flit}
-use Rattle.aeth_components.specs.Turns.{AreUnmarked, MarkEnds, MarkSending, StayMarked, flits_on}
-use Rattle.aeth_components.specs.Turns.{mark_of, marks_below, sends_own}
+use Rattle.aeth_clocked.proofs.UsedLemmas.{flit-within}
+use Rattle.aeth_components.specs.Turns.{AreUnmarked, MarkEnd, MarkEnds, StayMarked}
+use Rattle.aeth_components.specs.Turns.{flits_on, marks_below}
 
 -- Where no number below a count changes, as many are marked.
 marks_below-same : (old new : List ℕ) (count : ℕ)
@@ -90,99 +88,131 @@ flits_on-take (Some flit ∷ wires) (suc from) (suc to) within =
     count_by-yes is_some (Some flit) (take from wires) refl in
     omega (arith, rest, more, fewer)
 
--- Of a component below the limit, and of another one.
-pub mark_of-below : (limit behind number : ℕ) → number < limit
-    → mark_of limit behind number ≡ behind + number
-mark_of-below limit behind number less = rw (lt-ltb number limit less) refl
+-- One number more is marked with the low ones, or with the high ones.
+module _ (limit number : ℕ) (old new : List ℕ) (here : bit_of new number ≡ 1)
+    (away : (other : ℕ) → other ≢ number → bit_of new other ≡ bit_of old other) where
+  pub MarkEnd-low : (high : List ℕ) → number < limit → MarkEnd limit number old high new high
+  MarkEnd-low high less = record {
+    below = λ below. here;
+    over = λ over. absurd (omega (arith, less, over));
+    low_kept = StayMarked-mark old new number here away;
+    high_kept = λ other is. is;
+    same = λ below. refl;
+    few = λ count.
+        let more = marks_below-mark old new number count here away in
+        omega (arith, more);
+  }
 
-pub mark_of-others : (limit behind number : ℕ) → limit ≤ number
-    → mark_of limit behind number ≡ number
-mark_of-others limit behind number over = rw (le-ltb number limit over) refl
+  pub MarkEnd-high : (low : List ℕ) → limit ≤ number → MarkEnd limit number low old low new
+  MarkEnd-high low over = record {
+    below = λ below. absurd (omega (arith, below, over));
+    over = λ over. here;
+    low_kept = λ other is. is;
+    high_kept = StayMarked-mark old new number here away;
+    same = λ below. absurd (omega (arith, below, over));
+    few = λ count.
+        let more = marks_below-mark old new number count here away in
+        omega (arith, more);
+  }
 
 -- The walk has come to a wire.
-pub record MarkedTo (limit behind : ℕ) (ends : List ℕ) (wires : List (Option Flit))
-    (old now : List ℕ) (to : ℕ) : Type 0 where
-  pub at : (wire number : ℕ) → wire < to → IsSome (flit_on wires wire)
-      → slice_get ends wire ≡ Some number → bit_of now (mark_of limit behind number) ≡ 1
-  pub kept : StayMarked old now
-  pub few : (count : ℕ) → marks_below now count ≤ marks_below old count + flits_on (take to wires)
-  pub own : (mark : ℕ) → bit_of now mark ≡ 1 → (bit_of old mark ≡ 1)
-      ⊎ ((wire : ℕ) × (number : ℕ) × (slice_get ends wire ≡ Some number)
-      × (mark ≡ mark_of limit behind number))
+pub record MarkedTo (limit : ℕ) (ends : List ℕ) (wires : List (Option Flit))
+    (low high now_low now_high : List ℕ) (to : ℕ) : Type 0 where
+  pub below : (wire number : ℕ) → wire < to → IsSome (flit_on wires wire)
+      → slice_get ends wire ≡ Some number → number < limit → bit_of now_low number ≡ 1
+  pub over : (wire number : ℕ) → wire < to → IsSome (flit_on wires wire)
+      → slice_get ends wire ≡ Some number → limit ≤ number → bit_of now_high number ≡ 1
+  pub kept : StayMarked low now_low
+  pub same : All (λ number. number < limit) ends → now_high ≡ high
+  pub few : (count : ℕ) → marks_below now_low count + marks_below now_high count
+      ≤ marks_below low count + marks_below high count + flits_on (take to wires)
 
-module _ (limit behind : ℕ) (ends : List ℕ) (wires : List (Option Flit)) (old : List ℕ) where
-  pub MarkedTo-first : MarkedTo limit behind ends wires old old 0
+module _ (limit : ℕ) (ends : List ℕ) (wires : List (Option Flit)) (low high : List ℕ) where
+  pub MarkedTo-first : MarkedTo limit ends wires low high low high 0
   MarkedTo-first = record {
-    at = λ wire number below. absurd (omega arith);
+    below = λ wire number below. absurd (omega (arith, below));
+    over = λ wire number below. absurd (omega (arith, below));
     kept = λ number is. is;
+    same = λ all. refl;
     few = λ count. omega arith;
-    own = λ mark is. inl is;
   }
 
   -- The component at the end of one wire more is marked.
-  pub MarkedTo-more : (now new : List ℕ) (to number : ℕ)
-      → MarkedTo limit behind ends wires old now to
+  pub MarkedTo-more : (now_low now_high new_low new_high : List ℕ) (to number : ℕ)
+      → MarkedTo limit ends wires low high now_low now_high to
       → slice_get ends to ≡ Some number → IsSome (flit_on wires to)
-      → bit_of new (mark_of limit behind number) ≡ 1
-      → ((other : ℕ) → other ≢ mark_of limit behind number
-      → bit_of new other ≡ bit_of now other)
-      → MarkedTo limit behind ends wires old new (to + 1)
-  MarkedTo-more now new to number marked there some here away =
-      let place = mark_of limit behind number in
-      let stay = StayMarked-mark now new place here away in
+      → MarkEnd limit number now_low now_high new_low new_high
+      → MarkedTo limit ends wires low high new_low new_high (to + 1)
+  MarkedTo-more now_low now_high new_low new_high to number marked there some more =
+      let one : (wire other : ℕ) → wire ≡ to → slice_get ends wire ≡ Some other → other ≡ number =
+      λ wire other same is.
+      same_Some other number (sym is ∙ ap (slice_get ends) same ∙ there) in
       record {
-        at = λ wire other below has is. elim (cases_lt wire to) [
-          | inl before ↦ stay (mark_of limit behind other) (marked.at wire other before has is)
+        below = λ wire other within has is less. elim (cases_lt wire to) [
+          | inl before ↦ more.low_kept other (marked.below wire other before has is less)
           | inr last ↦
-              let same : wire ≡ to = omega arith in
-              let one : other ≡ number =
-              same_Some other number (sym is ∙ ap (slice_get ends) same ∙ there) in
-              ap (λ n. bit_of new (mark_of limit behind n)) one ∙ here
+              let same = one wire other (omega (arith, within, last)) is in
+              ap (bit_of new_low) same ∙ more.below (omega (arith, same, less))
         ];
-        kept = λ other is. stay other (marked.kept other is);
+        over = λ wire other within has is over. elim (cases_lt wire to) [
+          | inl before ↦ more.high_kept other (marked.over wire other before has is over)
+          | inr last ↦
+              let same = one wire other (omega (arith, within, last)) is in
+              ap (bit_of new_high) same ∙ more.over (omega (arith, same, over))
+        ];
+        kept = λ other is. more.low_kept other (marked.kept other is);
+        same = λ all.
+            let less = subst (λ number. number < limit) (get_or_from_slice_get ends to number number there)
+            (all to number (slice_get_within ends to number there)) in
+            more.same less ∙ marked.same all;
         few = λ count.
-            let more = marks_below-mark now new place count here away in
+            let fresh = more.few count in
             let before = marked.few count in
             let flits = flits_on-more wires to some in
-            omega (arith, more, before, flits);
-        own = λ mark is. elim (cases_eq mark place) [
-          | inl same ↦ inr (to, number, there, same)
-          | inr other ↦ marked.own mark (sym (away mark other) ∙ is)
-        ];
+            omega (arith, fresh, before, flits);
       }
 
   -- Empty wires mark none.
-  pub MarkedTo-until : (now : List ℕ) (from to : ℕ) → MarkedTo limit behind ends wires old now from
+  pub MarkedTo-until : (now_low now_high : List ℕ) (from to : ℕ)
+      → MarkedTo limit ends wires low high now_low now_high from
       → from ≤ to → ((wire : ℕ) → from ≤ wire → wire < to → flit_on wires wire ≡ None)
-      → MarkedTo limit behind ends wires old now to
-  MarkedTo-until now from to marked after empty = record {
-    at = λ wire number below has is. elim (cases_lt wire from) [
-      | inl before ↦ marked.at wire number before has is
-      | inr behind ↦
-          let none = empty wire behind below in
-          absurd (cc (sym (ap is_some none) ∙ has))
-    ];
-    kept = marked.kept;
-    few = λ count.
-        let before = marked.few count in
-        let more = flits_on-take wires from to after in
-        omega (arith, before, more);
-    own = marked.own;
-  }
+      → MarkedTo limit ends wires low high now_low now_high to
+  MarkedTo-until now_low now_high from to marked after empty =
+      let before : (wire : ℕ) → wire < to → IsSome (flit_on wires wire) → wire < from =
+      λ wire within has. elim (cases_lt wire from) [
+        | inl less ↦ less
+        | inr behind ↦
+            let none = empty wire behind within in
+            absurd (cc (sym (ap is_some none) ∙ has))
+      ] in
+      record {
+        below = λ wire number within has. marked.below wire number (before wire within has) has;
+        over = λ wire number within has. marked.over wire number (before wire within has) has;
+        kept = marked.kept;
+        same = marked.same;
+        few = λ count.
+            let fewer = marked.few count in
+            let more = flits_on-take wires from to after in
+            omega (arith, fewer, more);
+      }
 
   -- Past the last wire all are marked.
-  pub MarkedTo-all : (now : List ℕ) (to : ℕ) → MarkedTo limit behind ends wires old now to
-      → length wires ≤ to → length ends ≤ length wires → MarkEnds limit behind ends wires old now
-  MarkedTo-all now to marked over size = record {
-    at = λ wire number has is.
-        let within = slice_get_within ends wire number is in
-        marked.at wire number (omega arith) has is;
-    kept = marked.kept;
-    few = subst (λ (all : List (Option Flit)). (count : ℕ)
-        → marks_below now count ≤ marks_below old count + flits_on all)
-        (take_all to wires over) marked.few;
-    own = marked.own;
-  }
+  pub MarkedTo-all : (now_low now_high : List ℕ) (to : ℕ)
+      → MarkedTo limit ends wires low high now_low now_high to
+      → length wires ≤ to → MarkEnds limit ends wires low high now_low now_high
+  MarkedTo-all now_low now_high to marked past =
+      let within : (wire : ℕ) → IsSome (flit_on wires wire) → wire < to =
+      λ wire has. let below = flit-within wires wire has in omega (arith, below, past) in
+      record {
+        below = λ wire number has. marked.below wire number (within wire has) has;
+        over = λ wire number has. marked.over wire number (within wire has) has;
+        kept = marked.kept;
+        same = marked.same;
+        few = subst (λ (all : List (Option Flit)). (count : ℕ)
+            → marks_below now_low count + marks_below now_high count
+            ≤ marks_below low count + marks_below high count + flits_on all)
+            (take_all to wires past) marked.few;
+      }
 
 -- Where none below a count is marked, none is.
 pub marks_below-none : (marks : List ℕ) (count : ℕ) → AreUnmarked count marks
@@ -192,60 +222,3 @@ marks_below-none marks (suc number) none =
     let rest = marks_below-none marks number (λ other below. none other (omega arith)) in
     let here = none number (omega arith) in
     omega (arith, rest, here)
-
--- What isn't marked is unmarked.
-pub unmarked-from : (marks : List ℕ) (number : ℕ) → bit_of marks number ≢ 1
-    → bit_of marks number ≡ 0
-unmarked-from marks number never =
-    let bit = bit_at-lt (slice_index marks (number / numbers_of_mask)) (number % numbers_of_mask) in
-    omega (arith, bit, never)
-
-module _ (cycle : ℕ) (parts : List Part) (old : List ℕ) where
-  pub MarkSending-first : MarkSending cycle 0 parts old old
-  MarkSending-first = record {
-    at = λ number part below. absurd (omega arith);
-    kept = λ number is. is;
-    few = λ count. omega arith;
-  }
-
-  -- One component more, which sends and is marked, or doesn't send.
-  pub MarkSending-yes : (now new : List ℕ) (to : ℕ) (part : Part) → MarkSending cycle to parts old now
-      → slice_get parts to ≡ Some part → sends_own cycle part ≡ true → bit_of new to ≡ 1
-      → ((other : ℕ) → other ≢ to → bit_of new other ≡ bit_of now other)
-      → MarkSending cycle (to + 1) parts old new
-  MarkSending-yes now new to part marked there sends here away =
-      let stay = StayMarked-mark now new to here away in
-      record {
-        at = λ number other below at is. elim (cases_eq number to) [
-          | inl same ↦ ap (bit_of new) same ∙ here
-          | inr apart ↦ stay number (marked.at number other (omega arith) at is)
-        ];
-        kept = λ other is. stay other (marked.kept other is);
-        few = λ count.
-            let more = marks_below-mark now new to count here away in
-            let before = marked.few count in
-            let one = count_by_more_yes (sends_own cycle) parts to part
-            (slice_get_within parts to part there)
-            (ap (sends_own cycle) (get_or_from_slice_get parts to part part there) ∙ sends) in
-            omega (arith, more, before, one);
-      }
-
-  pub MarkSending-no : (now : List ℕ) (to : ℕ) (part : Part) → MarkSending cycle to parts old now
-      → slice_get parts to ≡ Some part → sends_own cycle part ≡ false
-      → MarkSending cycle (to + 1) parts old now
-  MarkSending-no now to part marked there mute = record {
-    at = λ number other below at is. elim (cases_eq number to) [
-      | inl same ↦
-          let one : part ≡ other =
-          same_Some part other (sym there ∙ ap (slice_get parts) (sym same) ∙ at) in
-          absurd (cc (sym mute ∙ ap (sends_own cycle) one ∙ is))
-      | inr apart ↦ marked.at number other (omega arith) at is
-    ];
-    kept = marked.kept;
-    few = λ count.
-        let before = marked.few count in
-        let same = count_by_more_no (sends_own cycle) parts to part
-        (slice_get_within parts to part there)
-        (ap (sends_own cycle) (get_or_from_slice_get parts to part part there) ∙ mute) in
-        omega (arith, before, same);
-  }

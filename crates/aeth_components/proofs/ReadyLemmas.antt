@@ -1,12 +1,13 @@
 -- What holds of the components that take a turn from one phase of a cycle to the next.
-use Rattle.std.proofs.Common.{ℕ, ◌≡◌, ◌<◌, ◌+◌, ◌==◌, ◌∙◌, refl, sym, ap, arith, subst, inl, inr}
+use Rattle.std.proofs.Common.{ℕ, ◌≡◌, ◌<◌, ◌==◌, ◌∙◌, refl, sym, ap, arith, subst, inl, inr}
 use Rattle.std.proofs.Common.{IsPermutation, List, length, length-set, map, Option, slice_get, Some}
 use Rattle.std.specs.Prelude.{◌⊎◌, slice_set}
 use Rattle.std.specs.Cmp.{nat_eq_equiv}
+use Rattle.std.specs.List.{All}
 use Rattle.std.proofs.lemmas.Bool.{cases_eq}
 use Rattle.std.proofs.lemmas.List.Sorted.{All-permutation, length_permutation, list_any-IsPermutation}
 use Rattle.std.proofs.lemmas.Map.Keys.{IsDistinct-IsPermutation}
-use Rattle.std.proofs.lemmas.Option.{same_Some, slice_get_within}
+use Rattle.std.proofs.lemmas.Option.{get_or_from_slice_get, same_Some, slice_get_within}
 use Rattle.aeth_base.proofs.Lists.{slice_get-slice_set_other, slice_get-slice_set_same}
 use Rattle.aeth_clocked.specs.declared.flit.Flit.{Flit}
 use Rattle.aeth_router.specs.declared.part.Part.{Part}
@@ -14,8 +15,7 @@ use Rattle.aeth_components.specs.Ends.{AreEnds}
 use Rattle.aeth_components.specs.Frames.{Frame, frame_of}
 use Rattle.aeth_components.specs.Resting.{HasPlaces, HoldNoMore, HoldUnlessMarked, Holding, HoldsNone}
 use Rattle.aeth_components.specs.Resting.{holding_of}
-use Rattle.aeth_components.specs.Turns.{AreReady, AreUnmarked, HasRoom, HaveDriven, Lists}
-use Rattle.aeth_components.specs.Turns.{marks_below}
+use Rattle.aeth_components.specs.Turns.{AreListed, AreReady, AreUnmarked, HasRoom, HaveDriven}
 use Rattle.aeth_components.specs.declared.ends.Ends.{Ends}
 use Rattle.aeth_components.specs.declared.turns.Turns.{Turns}
 use Rattle.aeth_components.proofs.CycleLemmas.{frames-slice_set}
@@ -48,29 +48,28 @@ AreEnds-same frames others wires count ends now framed counted is are =
 pub HaveDriven-from : (frames others : List Frame) (holdings held : List Holding) (wires count : ℕ)
     (ends : Ends) (now : Turns) → others ≡ frames → held ≡ holdings → count ≡ wires
     → now.ends ≡ ends → AreEnds frames wires ends → HasRoom now
-    → AreUnmarked ends.parts now.marks → HoldUnlessMarked now.marks ends.parts holdings
+    → AreUnmarked ends.parts now.driving → HoldUnlessMarked now.latching holdings
     → HaveDriven others held count now
 HaveDriven-from frames others holdings held wires count ends now framed holds counted is are room
-    unmarked hold =
+    driving hold =
     record {
       ends = AreEnds-same frames others wires count ends now.ends framed counted is are;
       room = room;
-      unmarked = subst (λ (ends : Ends). AreUnmarked ends.parts now.marks) (sym is) unmarked;
-      hold = subst (λ (ends : Ends). HoldUnlessMarked now.marks ends.parts held) (sym is)
-          (subst (HoldUnlessMarked now.marks ends.parts) (sym holds) hold);
+      driving = subst (λ (ends : Ends). AreUnmarked ends.parts now.driving) (sym is) driving;
+      hold = subst (HoldUnlessMarked now.latching) (sym holds) hold;
     }
 
 -- What holds behind the latch.
 pub AreReady-from : (frames others : List Frame) (held : List Holding) (wires : List (Option Flit))
     (ends : Ends) (now : Turns) → others ≡ frames → now.ends ≡ ends
     → AreEnds frames (length wires) ends → HasRoom now
-    → AreUnmarked (ends.parts + ends.parts) now.marks → HoldNoMore wires held
-    → AreReady others held wires now
-AreReady-from frames others held wires ends now framed is are room unmarked hold = record {
+    → AreUnmarked ends.parts now.driving → AreUnmarked ends.parts now.latching
+    → HoldNoMore wires held → AreReady others held wires now
+AreReady-from frames others held wires ends now framed is are room driving latching hold = record {
   ends = AreEnds-same frames others (length wires) (length wires) ends now.ends framed refl is are;
   room = room;
-  unmarked = subst (λ (ends : Ends). AreUnmarked (ends.parts + ends.parts) now.marks) (sym is)
-      unmarked;
+  driving = subst (λ (ends : Ends). AreUnmarked ends.parts now.driving) (sym is) driving;
+  latching = subst (λ (ends : Ends). AreUnmarked ends.parts now.latching) (sym is) latching;
   hold = hold;
 }
 
@@ -80,34 +79,36 @@ pub AreReady-begun : (frames : List Frame) (holdings : List Holding) (wires : Li
     → AreReady frames holdings wires (record turns { turn = turn })
 AreReady-begun frames holdings wires turns turn ready = record {
   ends = ready.ends;
-  room = record { marks = ready.room.marks; numbers = ready.room.numbers };
-  unmarked = ready.unmarked;
+  room = record {
+    driving = ready.room.driving;
+    latching = ready.room.latching;
+    numbers = ready.room.numbers;
+  };
+  driving = ready.driving;
+  latching = ready.latching;
   hold = ready.hold;
 }
 
+-- What holds of all holds of what is at a place.
+pub all-at : (P : ℕ → Type 0) (xs : List ℕ) (place x : ℕ) → All P xs → slice_get xs place ≡ Some x
+    → P x
+all-at P xs place x all at =
+    subst P (get_or_from_slice_get xs place x x at) (all place x (slice_get_within xs place x at))
+
 -- A list in another order lists the same numbers.
-pub Lists-round : (first count : ℕ) (old new numbers others : List ℕ)
-    → IsPermutation numbers others → Lists first count old new numbers
-    → Lists first count old new others
-Lists-round first count old new numbers others moved lists =
-    let listed = lists.listed in
-    record {
-      listed = record {
-        chosen = record {
-          distinct = IsDistinct-IsPermutation (λ number other. number == other) nat_eq_equiv.symm
-              numbers others moved listed.chosen.distinct;
-          below = All-permutation (λ number. number < count) numbers others moved
-              listed.chosen.below;
-        };
-        all = λ number below bit.
-            sym (list_any-IsPermutation (λ other. other == number) numbers others moved)
-            ∙ listed.all number below bit;
-        few = ap (λ n. n + marks_below old first) (length_permutation numbers others moved)
-            ∙ listed.few;
-      };
-      unmarked = lists.unmarked;
-      away = lists.away;
-    }
+pub AreListed-round : (marks : List ℕ) (count : ℕ) (numbers others : List ℕ)
+    → IsPermutation numbers others → AreListed marks count numbers → AreListed marks count others
+AreListed-round marks count numbers others moved listed = record {
+  chosen = record {
+    distinct = IsDistinct-IsPermutation (λ number other. number == other) nat_eq_equiv.symm
+        numbers others moved listed.chosen.distinct;
+    below = All-permutation (λ number. number < count) numbers others moved listed.chosen.below;
+  };
+  all = λ number below bit.
+      sym (list_any-IsPermutation (λ other. other == number) numbers others moved)
+      ∙ listed.all number below bit;
+  few = length_permutation numbers others moved ∙ listed.few;
+}
 
 -- Where one component has come in place of another, each is that one or as before.
 replaced-at : (parts : List Part) (number : ℕ) (part : Part) (i : ℕ) (now : Part)
@@ -159,6 +160,7 @@ AreReady-replaced number part parts wires turns at places none ready = record {
   ends = subst (λ (list : List Frame). AreEnds list (length wires) turns.ends)
       (sym (frames-slice_set parts number part at)) ready.ends;
   room = ready.room;
-  unmarked = ready.unmarked;
+  driving = ready.driving;
+  latching = ready.latching;
   hold = HoldNoMore-replaced wires parts number part places none ready.hold;
 }

@@ -1,5 +1,5 @@
 -- Components that aren't listed rest: from driving, and from latching.
-use Rattle.std.proofs.Common.{ℕ, ◌≡◌, ◌≢◌, ◌+◌, ◌<◌, ◌∙◌, sym, ap, map, List, length, Some}
+use Rattle.std.proofs.Common.{ℕ, ◌≡◌, ◌≢◌, ◌<◌, ◌∙◌, sym, ap, map, List, length, Some}
 use Rattle.std.proofs.Common.{IsSome, None, true, false, slice_get, inl, inr, Option}
 use Rattle.std.specs.Prelude.{◌⊎◌}
 use Rattle.std.specs.Option.{option_map}
@@ -26,9 +26,9 @@ pub seen-at : {X : Type 0} (view : Part → X) (parts : List Part) (number : ℕ
 seen-at view parts number part at =
     slice_get-map view parts number ∙ ap (option_map view) at
 
-module _ (parts : List Part) (marks : List ℕ) (first : ℕ) (list : List ℕ)
+module _ (parts : List Part) (marks : List ℕ) (list : List ℕ)
     (receivers : List ℕ)
-    (all : (number : ℕ) → number < length parts → bit_of marks (first + number) ≡ 1
+    (all : (number : ℕ) → number < length parts → bit_of marks number ≡ 1
     → is_chosen list number ≡ true)
     (receives : IsAtEnds receives_by (map frame_of parts) receivers) where
   -- The component that receives on a wire is its receiver.
@@ -43,9 +43,9 @@ module _ (parts : List Part) (marks : List ℕ) (first : ℕ) (list : List ℕ)
       (empty : (wire : ℕ) → flit_on cleared wire ≡ None)
       (arrived : (wire number : ℕ) (part : Part) → IsSome (flit_on wires wire)
       → slice_get receivers wire ≡ Some number → slice_get parts number ≡ Some part
-      → (IsTelling (holding_of part) → ⊥) → bit_of marks (first + number) ≡ 1)
+      → (IsTelling (holding_of part) → ⊥) → bit_of marks number ≡ 1)
       (sending : (number : ℕ) (ni : InterfaceState) → slice_get parts number ≡ Some (Interface ni)
-      → (bit_of marks (first + number) ≡ 1) ⊎ DrivesNone cycle (Interface ni)) where
+      → (bit_of marks number ≡ 1) ⊎ DrivesNone cycle (Interface ni)) where
     -- A router or a stage that isn't listed holds nothing.
     holds-none : (number : ℕ) (part : Part) → slice_get parts number ≡ Some part
         → is_chosen list number ≡ false → (IsTelling (holding_of part) → ⊥)
@@ -53,7 +53,7 @@ module _ (parts : List Part) (marks : List ℕ) (first : ℕ) (list : List ℕ)
     holds-none number part at left passing =
         hold.none number (holding_of part) (seen-at holding_of parts number part at)
         (λ wire is. none-unless (flit_on wires wire)
-        (λ some. unlisted parts marks first list all number part at left
+        (λ some. unlisted parts marks list all number part at left
         (arrived wire number part some
         (receiver-at wire number part at (sym (holds_from-part part wire) ∙ is)) at passing)))
 
@@ -61,7 +61,7 @@ module _ (parts : List Part) (marks : List ℕ) (first : ℕ) (list : List ℕ)
         → is_chosen list number ≡ false → DrivesNone cycle part
     drives-none number (Interface ni) at left =
         elim (sending number ni at) [
-          | inl is ↦ absurd (unlisted parts marks first list all number (Interface ni) at left is)
+          | inl is ↦ absurd (unlisted parts marks list all number (Interface ni) at left is)
           | inr none ↦ none
         ]
     drives-none number (Router router) at left =
@@ -78,15 +78,15 @@ module _ (parts : List Part) (marks : List ℕ) (first : ℕ) (list : List ℕ)
 
   module _ (wires : List (Option Flit))
       (held : (number : ℕ) (part : Part) → slice_get parts number ≡ Some part
-      → bit_of marks (first + number) ≢ 1
+      → bit_of marks number ≢ 1
       → HasPlaces (holding_of part) × HoldsNone (holding_of part))
       (received : (wire number : ℕ) → IsSome (flit_on wires wire)
-      → slice_get receivers wire ≡ Some number → bit_of marks (first + number) ≡ 1) where
+      → slice_get receivers wire ≡ Some number → bit_of marks number ≡ 1) where
     pub RestsLatch-unlisted : AllOthers list (RestsLatch absorb_of wires) parts
     RestsLatch-unlisted number part at left =
         let holds = held number part at
-        (unlisted parts marks first list all number part at left) in
+        (unlisted parts marks list all number part at left) in
         RestsLatch-part wires part holds.0 holds.1
-        (empty-unlisted parts marks first list all wires inputs_of
+        (empty-unlisted parts marks list all wires inputs_of
         (λ wire other one there is some. received wire other some (receiver-at wire other one there is))
         number part at left)

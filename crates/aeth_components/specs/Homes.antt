@@ -2,12 +2,15 @@
 --
 --   home_at, home_count        the place of a queue
 --   AreHomes                   what is noted of channels
---   AreTold, AreOthersSilent   the channels to which flits may have brought words
+--   AreTold, AreBrought        the channels to which flits may have brought words
 --
 -- This project's own.
-use Rattle.std.specs.Prelude.{◌≡◌, ◌≤◌, ◌<◌, ◌+◌, ◌*◌, ◌%◌, ◌^◌, ℕ, true, List, Some, length, slice_get}
+use Rattle.std.specs.Prelude.{◌≡◌, ◌<◌, ◌+◌, ◌*◌, ◌%◌, ◌^◌, ℕ, true, List, Option, Some, length, slice_get}
+use Rattle.std.specs.Prelude.{IsSome}
 use Rattle.aeth_base.specs.Marks.{bit_of}
 use Rattle.aeth_chip.specs.Limits.{max_nis}
+use Rattle.aeth_clocked.specs.Wires.{flit_on}
+use Rattle.aeth_clocked.specs.declared.flit.Flit.{Flit}
 use Rattle.aeth_ni.specs.Limits.{queues_of_interface}
 use Rattle.aeth_router.specs.declared.part.Part.{Part}
 use Rattle.aeth_components.specs.declared.homes.Homes.{Homes}
@@ -32,15 +35,17 @@ pub record AreHomes (homes : Homes) (lanes : List Lane) : Type 0 where
       → lane.landed < lane.accepted
       → slice_get homes.numbers.items (home_at lane.receiver.ni.0 lane.receiver.queue) ≡ Some number
 
--- Of the first so many components each that got words has its channel marked.
-abbrev pub AreTold : List ℕ → List Part → ℕ → ℕ → List ℕ → Type 0
-AreTold numbers parts to count marks =
-    (i queue number : ℕ) (part : Part) → i < to → slice_get parts i ≡ Some part
+-- Of the component at the end of each of the first so many wires that have a flit the channels are
+-- marked of which it got words.
+abbrev pub AreTold : List ℕ → List Part → List ℕ → List (Option Flit) → ℕ → ℕ → List ℕ → Type 0
+AreTold numbers parts ends wires to count marks =
+    (wire i queue number : ℕ) (part : Part) → wire < to → IsSome (flit_on wires wire)
+    → slice_get ends wire ≡ Some i → slice_get parts i ≡ Some part
     → 0 < brought_by queue part → slice_get numbers (home_at i queue) ≡ Some number
     → number < count → bit_of marks number ≡ 1
 
--- From a number on no component got words.
-abbrev pub AreOthersSilent : ℕ → List Part → Type 0
-AreOthersSilent from parts =
-    (number : ℕ) (part : Part) → from ≤ number → slice_get parts number ≡ Some part
-    → (queue : ℕ) → brought_by queue part ≡ 0
+-- Each component that got words is at the end of a wire with a flit.
+abbrev pub AreBrought : List Part → List ℕ → List (Option Flit) → Type 0
+AreBrought parts ends wires =
+    (i queue : ℕ) (part : Part) → slice_get parts i ≡ Some part → 0 < brought_by queue part
+    → (wire : ℕ) × IsSome (flit_on wires wire) × (slice_get ends wire ≡ Some i)

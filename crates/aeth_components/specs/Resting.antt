@@ -8,7 +8,7 @@
 --   DrivesNone                 a component that has nothing to drive
 --
 -- Idle hardware that isn't stepped: this project's own.
-use Rattle.std.specs.Prelude.{◌≡◌, ◌≢◌, ℕ, ◌+◌, ◌==◌, Bool, ⊤, List, length, replicate, slice_get}
+use Rattle.std.specs.Prelude.{◌≡◌, ◌≢◌, ℕ, ◌==◌, Bool, ⊤, List, length, replicate, slice_get}
 use Rattle.std.specs.Prelude.{Option, Some, None}
 use Rattle.aeth_base.specs.Marks.{bit_of}
 use Rattle.aeth_base.specs.declared.ids.LinkId.{LinkId}
@@ -69,12 +69,12 @@ left_held (InterfaceHolds entering last) = InterfaceHolds entering last
 left_held (RouterHolds incoming held) = RouterHolds incoming (replicate (length held) None)
 left_held (StageHolds input held) = StageHolds input None
 
--- A component that isn't marked, so many numbers behind its own, holds nothing.
-pub record HoldUnlessMarked (marks : List ℕ) (behind : ℕ) (holdings : List Holding) : Type 0 where
+-- A component that isn't marked holds nothing.
+pub record HoldUnlessMarked (marks : List ℕ) (holdings : List Holding) : Type 0 where
   pub places : (i : ℕ) (holding : Holding) → slice_get holdings i ≡ Some holding
       → HasPlaces holding
   pub none : (i : ℕ) (holding : Holding) → slice_get holdings i ≡ Some holding
-      → bit_of marks (behind + i) ≢ 1 → HoldsNone holding
+      → bit_of marks i ≢ 1 → HoldsNone holding
 
 -- A component has nothing to drive in a cycle: the queue of an interface's slot sends nothing, and a
 -- router or a stage holds nothing.

@@ -6,7 +6,7 @@ ghost use Rattle.aeth_components.specs.Busy.{HandsNothing, IsIdle, TakesNothing}
 ghost use Rattle.aeth_components.specs.Channels.{AreStill, OfLane};
 ghost use Rattle.aeth_components.specs.Counting.{counted, noted};
 ghost use Rattle.aeth_components.specs.Frames.{frame_of};
-ghost use Rattle.aeth_components.specs.Homes.{AreOthersSilent};
+ghost use Rattle.aeth_components.specs.Homes.{AreBrought};
 ghost use Rattle.aeth_components.specs.Lanes.{IsLane, with_lane};
 ghost use Rattle.aeth_components.specs.Phases.{in_turn, pulled, refilled, turned};
 
@@ -15,6 +15,7 @@ use crate::homes::{Homes, tell};
 use crate::lane::Lane;
 use crate::phases::{close, refill_one, rest, settle, take_one};
 use aeth_base::{Marks, NoMemory};
+use aeth_clocked::Wires;
 use aeth_router::Part;
 use std::alloc::Global;
 use std::marker::Model;
@@ -124,26 +125,29 @@ impl Channels {
         }
     }
 
-    /// Counts what has landed of each channel, and notes the cycle. Behind so many interfaces no
-    /// component gets words.
+    /// Counts what has landed of each channel, and notes the cycle. Words come just by the wires with
+    /// a flit, to the components at their ends.
     pub(crate) fn count(
         &mut self,
         parts: &[Part],
-        interfaces: u32,
+        ends: &[u32],
+        wires: &Wires,
         landings: &mut [u32],
         cycle: u32,
     )
         requires cycle { cycle + 1 < 2 ^ 32 }
         requires lanes { All (IsLane (length landings.old) (length parts.now)) self.old.lanes }
-        requires within { interfaces ≤ length parts.now }
-        requires silent { AreOthersSilent interfaces parts.now }
+        requires ends { length ends.now ≡ length wires.now }
+        requires few { length ends.now < 2 ^ 32 }
+        requires below { All (λ number. number < length parts.now) ends.now }
+        requires brought { AreBrought parts.now ends.now wires.now }
         ensures lanes { self.new.lanes ≡ map (counted cycle parts.now) self.old.lanes }
         ensures words { self.new.words ≡ self.old.words }
         ensures landings { landings.new ≡ fold (noted cycle parts.now) landings.old self.old.lanes }
     {
         if self.homes.is_apart {
             let count = self.lanes.len();
-            tell(&mut self.told, &self.homes, parts, interfaces, count);
+            tell(&mut self.told, &self.homes, parts, ends, wires, count);
             count_told(
                 &mut self.lanes,
                 &mut self.taking,

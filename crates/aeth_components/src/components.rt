@@ -261,9 +261,9 @@ impl Components {
             events,
             steps,
         );
-        let interfaces = self.turns.ends.interfaces;
+        let ends = &self.turns.ends.receivers;
         self.channels
-            .count(&self.parts, interfaces, &mut self.landings, cycle);
+            .count(&self.parts, ends, &self.wires, &mut self.landings, cycle);
         tally(&mut self.flits, &self.wires);
     }
 

@@ -1,6 +1,6 @@
 // Which channel the words are of that land in a queue.
 
-ghost use Rattle.std.specs.Prelude.{◌≡◌, ◌≤◌, ◌<◌, ◌^◌, ℕ, IfOk, List, Some, false, length, slice_get};
+ghost use Rattle.std.specs.Prelude.{◌≡◌, ◌≤◌, ◌<◌, ◌^◌, ℕ, All, IfOk, List, Some, length, slice_get};
 ghost use Rattle.std.specs.Prelude.{slice_set, true};
 ghost use Rattle.aeth_base.specs.Marks.{bit_of, room_of};
 ghost use Rattle.aeth_components.specs.Homes.{AreHomes, AreTold, home_at, home_count};
@@ -9,6 +9,7 @@ ghost use Rattle.aeth_components.specs.Turns.{StayMarked};
 
 use crate::lane::Lane;
 use aeth_base::{Marks, NoMemory};
+use aeth_clocked::Wires;
 use aeth_router::Part;
 use std::alloc::Global;
 
@@ -88,15 +89,27 @@ fn come_to(numbers: &mut [usize], place: usize, number: usize) -> bool
     numbers[place] == number
 }
 
-// Marks of so many channels those to which the last flits may have brought words.
-pub(crate) fn tell(told: &mut Marks, homes: &Homes, parts: &[Part], interfaces: u32, count: usize)
+// Marks of so many channels those to which the last flits may have brought words: they came by a wire
+// to the component at its end.
+pub(crate) fn tell(
+    told: &mut Marks,
+    homes: &Homes,
+    parts: &[Part],
+    ends: &[u32],
+    wires: &Wires,
+    count: usize,
+)
     requires size { length homes.now.numbers.items ≡ home_count }
-    requires within { interfaces ≤ length parts.now }
+    requires ends { length ends.now ≡ length wires.now }
+    requires few { length ends.now < 2 ^ 32 }
+    requires below { All (λ number. number < length parts.now) ends.now }
     requires room { count < room_of told.old }
     ensures room { room_of told.new ≡ room_of told.old }
-    ensures told { AreTold homes.now.numbers.items parts.now interfaces count told.new }
+    ensures told { AreTold homes.now.numbers.items parts.now ends.now wires.now (length wires.now)
+        count told.new }
 {
-    for number in 0..interfaces {
+    for wire in wires.used() {
+        let number = ends[wire];
         tell_one(told, homes, &parts[number as usize], number, count);
     }
 }

@@ -1,6 +1,6 @@
 // The components that take a turn in a half of a cycle, read off the wires.
 
-ghost use Rattle.std.specs.Prelude.{◌≡◌, ◌≢◌, ◌<◌, ◌≤◌, ◌+◌, ◌^◌, ◌⊎◌, ℕ, All, IfOk, IsTrue, false};
+ghost use Rattle.std.specs.Prelude.{◌≡◌, ◌≢◌, ◌<◌, ◌≤◌, ◌^◌, ℕ, All, IfOk, IsTrue, false};
 ghost use Rattle.std.specs.Prelude.{IsPermutation, List, None, length, map, replicate, take};
 ghost use Rattle.aeth_base.specs.Marks.{bit_of, room_of};
 ghost use Rattle.aeth_chip.specs.Wires.{wires_of};
@@ -9,8 +9,7 @@ ghost use Rattle.aeth_components.specs.Frames.{frame_of};
 ghost use Rattle.aeth_components.specs.Making.{new_parts};
 ghost use Rattle.aeth_components.specs.Resting.{holding_of};
 ghost use Rattle.aeth_components.specs.Turns.{AreListed, AreReady, AreUnmarked, HasRoom, ListDrive};
-ghost use Rattle.aeth_components.specs.Turns.{ListLatch, Lists, MarkDrive, MarkEnds, MarkSending};
-ghost use Rattle.aeth_components.specs.Turns.{mark_of};
+ghost use Rattle.aeth_components.specs.Turns.{ListLatch, MarkDrive, MarkEnd, MarkEnds, MarkSending};
 ghost use Rattle.aeth_components.specs.declared.making.RouterKind.TheVariants.{ByHeader};
 
 use crate::ends::Ends;
@@ -26,8 +25,9 @@ use std::alloc::Global;
 #[derive(Drop)]
 pub(crate) struct Turns {
     pub ends: Ends,
-    // Marks of the components to drive, and behind these of those to latch.
-    pub marks: Marks,
+    // Marks of the components to drive, and of those to latch.
+    pub driving: Marks,
+    pub latching: Marks,
     // Room to list their numbers.
     pub numbers: Vec<u32>,
     // The component from which on they are listed, and round.
@@ -48,7 +48,8 @@ impl Turns {
         let numbers = vec![in alloc; 0; count]?;
         Ok(Turns {
             ends,
-            marks: Marks::none(alloc, count + count)?,
+            driving: Marks::none(alloc, count)?,
+            latching: Marks::none(alloc, count)?,
             numbers,
             turn: 0,
         })
@@ -68,21 +69,24 @@ impl Turns {
         requires parts { self.old.ends.parts ≡ length parts.now }
         requires ends { FitsWires (length wires.now) self.old.ends }
         requires room { HasRoom self.old }
-        requires unmarked { AreUnmarked (self.old.ends.parts + self.old.ends.parts) self.old.marks }
+        requires driving { AreUnmarked self.old.ends.parts self.old.driving }
+        requires latching { AreUnmarked self.old.ends.parts self.old.latching }
         ensures ends { self.new.ends ≡ self.old.ends }
         ensures room { HasRoom self.new }
         ensures within { result ≤ length self.new.numbers.items }
-        ensures listed { ListDrive cycle parts.now wires.now self.old.ends self.new.marks
+        ensures unmarked { AreUnmarked self.old.ends.parts self.new.driving }
+        ensures listed { ListDrive cycle parts.now wires.now self.old.ends self.new.latching
             (take result self.new.numbers.items) }
     {
-        mark_drive(&mut self.marks, &self.ends, parts, cycle, wires);
-        list_from(
-            &mut self.marks,
-            &mut self.numbers,
-            0,
-            self.ends.parts,
-            self.turn,
-        )
+        mark_drive(
+            &mut self.driving,
+            &mut self.latching,
+            &self.ends,
+            parts,
+            cycle,
+            wires,
+        );
+        list_from(&mut self.driving, &mut self.numbers, self.turn)
     }
 
     // Lists the components to latch, and gives how many.
@@ -92,67 +96,87 @@ impl Turns {
         ensures ends { self.new.ends ≡ self.old.ends }
         ensures room { HasRoom self.new }
         ensures within { result ≤ length self.new.numbers.items }
-        ensures listed { ListLatch wires.now self.old.ends self.old.marks self.new.marks
+        ensures driving { self.new.driving ≡ self.old.driving }
+        ensures latching { AreUnmarked self.old.ends.parts self.new.latching }
+        ensures listed { ListLatch wires.now self.old.ends self.old.latching
             (take result self.new.numbers.items) }
     {
-        let count = self.ends.parts;
-        mark_ends(&mut self.marks, &self.ends.receivers, count, count, wires);
-        list_from(&mut self.marks, &mut self.numbers, count, count, self.turn)
+        mark_ends(
+            &mut self.latching,
+            &mut self.driving,
+            self.ends.parts,
+            &self.ends.receivers,
+            wires,
+        );
+        list_from(&mut self.latching, &mut self.numbers, self.turn)
     }
 }
 
-// Marks the components to drive, and behind these the interfaces that were told of a flit.
-fn mark_drive(marks: &mut Marks, ends: &Ends, parts: &[Part], cycle: u32, wires: &Wires)
+// Marks the components to drive, and those to latch that were told of a flit.
+fn mark_drive(
+    driving: &mut Marks,
+    latching: &mut Marks,
+    ends: &Ends,
+    parts: &[Part],
+    cycle: u32,
+    wires: &Wires,
+)
     requires parts { ends.now.parts ≡ length parts.now }
     requires ends { FitsWires (length wires.now) ends.now }
-    requires room { ends.now.parts + ends.now.parts < room_of marks.old }
-    requires unmarked { AreUnmarked (ends.now.parts + ends.now.parts) marks.old }
-    ensures room { room_of marks.new ≡ room_of marks.old }
-    ensures marks { MarkDrive cycle parts.now wires.now ends.now marks.new }
+    requires driving { ends.now.parts < room_of driving.old }
+    requires latching { ends.now.parts < room_of latching.old }
+    requires driving_none { AreUnmarked ends.now.parts driving.old }
+    requires latching_none { AreUnmarked ends.now.parts latching.old }
+    ensures driving { room_of driving.new ≡ room_of driving.old }
+    ensures latching { room_of latching.new ≡ room_of latching.old }
+    ensures marks { MarkDrive cycle parts.now wires.now ends.now driving.new latching.new }
 {
-    mark_ends(marks, &ends.receivers, ends.interfaces, ends.parts, wires);
-    mark_sending(marks, parts, ends.interfaces, cycle);
+    mark_ends(latching, driving, ends.interfaces, &ends.receivers, wires);
+    mark_sending(driving, parts, ends.interfaces, cycle);
 }
 
-// Marks of each wire with a flit the component at its end, and so many numbers behind it where it is
-// below the limit.
-fn mark_ends(marks: &mut Marks, ends: &[u32], limit: u32, behind: u32, wires: &Wires)
+// Marks of each wire with a flit the component at its end, with the low ones where it is below the
+// limit.
+fn mark_ends(low: &mut Marks, high: &mut Marks, limit: u32, ends: &[u32], wires: &Wires)
     requires size { length ends.now ≡ length wires.now }
     requires few { length ends.now < 2 ^ 32 }
-    requires below { All (λ number. number < behind) ends.now }
-    requires room { behind + behind < room_of marks.old }
-    ensures room { room_of marks.new ≡ room_of marks.old }
-    ensures marks { MarkEnds limit behind ends.now wires.now marks.old marks.new }
+    requires low { All (λ number. number < room_of low.old) ends.now }
+    requires high { All (λ number. number < room_of high.old) ends.now }
+    ensures low { room_of low.new ≡ room_of low.old }
+    ensures high { room_of high.new ≡ room_of high.old }
+    ensures marks { MarkEnds limit ends.now wires.now low.old high.old low.new high.new }
 {
     for wire in wires.used() {
-        marks.mark(mark_of(limit, behind, ends[wire]));
+        mark_end(low, high, limit, ends[wire]);
     }
 }
 
-// The mark of a component.
-fn mark_of(limit: u32, behind: u32, number: u32) -> usize
-    requires { number < behind }
-    ensures mark { result ≡ mark_of limit behind number }
-    ensures below { result < behind + behind }
+// Marks a number, with the low ones where it is below the limit.
+fn mark_end(low: &mut Marks, high: &mut Marks, limit: u32, number: u32)
+    requires low { number < room_of low.old }
+    requires high { number < room_of high.old }
+    ensures low { room_of low.new ≡ room_of low.old }
+    ensures high { room_of high.new ≡ room_of high.old }
+    ensures marks { MarkEnd limit number low.old high.old low.new high.new }
 {
     if number < limit {
-        behind as usize + number as usize
+        low.mark(number as usize);
     } else {
-        number as usize
+        high.mark(number as usize);
     }
 }
 
-// Lists the marked numbers among so many behind a first one, by their places there, from a turn on and
-// round, and marks them no more. It gives how many.
-fn list_from(marks: &mut Marks, numbers: &mut [u32], first: u32, count: u32, turn: u32) -> usize
-    requires room { first + count < room_of marks.old }
-    requires few { first + count < 2 ^ 32 }
-    requires size { count ≤ length numbers.old }
+// Lists the marked numbers from a turn on and round, and marks them no more. It gives how many.
+fn list_from(marks: &mut Marks, numbers: &mut [u32], turn: u32) -> usize
+    requires few { length numbers.old < 2 ^ 32 }
+    requires room { length numbers.old ≤ room_of marks.old }
     ensures room { room_of marks.new ≡ room_of marks.old }
-    ensures within { result ≤ count }
-    ensures lists { Lists first count marks.old marks.new (take result numbers.new) }
+    ensures within { result ≤ length numbers.old }
+    ensures listed { AreListed marks.old (length numbers.old) (take result numbers.new) }
+    ensures unmarked { (number : ℕ) → bit_of marks.new number ≡ 0 }
 {
-    let filled = list_marked(marks, numbers, first, count);
+    let filled = list_marked(marks, numbers);
+    marks.clear();
     go_round(&mut numbers[..filled], turn);
     filled
 }
@@ -165,28 +189,20 @@ fn go_round(numbers: &mut [u32], turn: u32)
     numbers.rotate_left(before);
 }
 
-// Lists the marked numbers among so many behind a first one, by their places there, upwards, and marks
-// them no more. It gives how many.
-fn list_marked(marks: &mut Marks, numbers: &mut [u32], first: u32, count: u32) -> usize
-    requires room { first + count < room_of marks.old }
-    requires few { first + count < 2 ^ 32 }
-    requires size { count ≤ length numbers.old }
-    ensures room { room_of marks.new ≡ room_of marks.old }
-    ensures within { result ≤ count }
-    ensures listed { AreListed marks.old first count (take result numbers.new) }
-    ensures unmarked { (number : ℕ) → number < count → bit_of marks.new (first + number) ≡ 0 }
-    ensures away { (number : ℕ) → (number < first) ⊎ (first + count ≤ number)
-        → bit_of marks.new number ≡ bit_of marks.old number }
+// Lists upwards the marked numbers for as many as there are places, and gives how many.
+fn list_marked(marks: &Marks, numbers: &mut [u32]) -> usize
+    requires few { length numbers.old < 2 ^ 32 }
+    requires room { length numbers.old ≤ room_of marks.now }
+    ensures within { result ≤ length numbers.old }
+    ensures listed { AreListed marks.now (length numbers.old) (take result numbers.new) }
 {
-    let end = first as usize + count as usize;
     let mut filled = 0;
     for number in marks.iter() {
-        if number >= first as usize && number < end {
-            numbers[filled] = (number - first as usize) as u32;
+        if number < numbers.len() {
+            numbers[filled] = number as u32;
             filled += 1;
         }
     }
-    marks.unmark_among(first as usize, count as usize);
     filled
 }
 

@@ -1,4 +1,4 @@
-use Rattle.std.proofs.Common.{◌≡◌, ◌+◌, ◌∙◌, ap, arith, length, List, map, subst, sym, take, ℕ}
+use Rattle.std.proofs.Common.{◌≡◌, ◌∙◌, ap, arith, length, List, map, subst, sym, take, ℕ}
 use Rattle.std.proofs.Common.{None, Option, replicate}
 use Rattle.std.specs.List.{All}
 use Rattle.std.proofs.lemmas.List.{length-map, length-replicate}
@@ -11,7 +11,7 @@ use Rattle.aeth_router.specs.Part.{emit_of, outputs_of}
 use Rattle.aeth_components.proofs.cycle.drive.Goals as goal
 use Rattle.aeth_components.proofs.FrameLemmas.{AreDisjoint-parts, AreLinks-outputs, frames-after}
 use Rattle.aeth_components.proofs.FrameLemmas.{is_output-parts}
-use Rattle.aeth_components.proofs.HalvesLemmas.{few-drive, held-drive, rests-drive, unmarked-drive}
+use Rattle.aeth_components.proofs.HalvesLemmas.{few-drive, held-drive, rests-drive}
 use Rattle.aeth_components.proofs.HoldingLemmas.{holdings-after}
 use Rattle.aeth_components.proofs.ReadyLemmas.{HaveDriven-from}
 use Rattle.aeth_components.proofs.SendingLemmas.{sending-few}
@@ -70,7 +70,7 @@ drive_some-requires-clause-chosen g c =
     let lists = c.list_drive-count.ensures.listed in
     rw c.deref.ensures.value
     (subst (λ n. AreChosen n (take c.list_drive-count.result turns.numbers.items))
-    (c.requires.ready.ends.count ∙ length-map c.args.parts.now frame_of) lists.lists.listed.chosen)
+    (c.requires.ready.ends.count ∙ length-map c.args.parts.now frame_of) lists.listed.chosen)
 
 -- What isn't listed rests.
 pub drive_some-requires-clause-rest : goal.drive_some-requires-clause-rest
@@ -80,8 +80,8 @@ drive_some-requires-clause-rest g c =
     let ready = c.requires.ready in
     rw (c.from.ensures, c.deref.ensures.value, c.clear.ensures)
     (rests-drive c.args.parts.now c.args.wires.now c.args.turns.now.ends ready.ends c.args.cycle
-    lists.marked turns.marks (take c.list_drive-count.result turns.numbers.items) ready.hold
-    lists.marks lists.lists)
+    lists.driving turns.latching (take c.list_drive-count.result turns.numbers.items) ready.hold
+    lists.marks lists.listed)
 
 -- What is held behind it.
 pub returns-clause-driven : goal.returns-clause-driven
@@ -91,7 +91,7 @@ returns-clause-driven g c =
     let parts = c.args.parts.now in
     let wires = c.args.wires.now in
     let ends = c.args.turns.now.ends in
-    let new = c.list_drive-count.new.self.marks in
+    let latching = c.list_drive-count.new.self.latching in
     let list = take c.list_drive-count.result c.list_drive-count.new.self.numbers.items in
     HaveDriven-from (map frame_of parts) (map frame_of c.drive_some.new.parts)
     (map left_held (map holding_of parts)) (map holding_of c.drive_some.new.parts) (length wires)
@@ -99,10 +99,9 @@ returns-clause-driven g c =
     (ap (map holding_of) c.drive_some.ensures.parts ∙ holdings-after c.from.result parts)
     (returns-clause-count g c) c.list_drive-count.ensures.ends ready.ends
     c.list_drive-count.ensures.room
-    (unmarked-drive parts wires ends ready.ends c.args.cycle lists.marked new list ready.hold
-    lists.marks lists.lists)
-    (held-drive parts wires ends ready.ends c.args.cycle lists.marked new list ready.hold lists.marks
-    lists.lists)
+    c.list_drive-count.ensures.unmarked
+    (held-drive parts wires ends ready.ends c.args.cycle lists.driving latching list ready.hold
+    lists.marks lists.listed)
 
 -- And how many steps it takes.
 pub returns-clause-steps : goal.returns-clause-steps
@@ -110,17 +109,16 @@ returns-clause-steps g c =
     let lists = c.list_drive-count.ensures.listed in
     let ready = c.requires.ready in
     let few = few-drive c.args.parts.now c.args.wires.now c.args.turns.now.ends ready.ends
-    c.args.cycle lists.marked c.list_drive-count.new.self.marks
+    c.args.cycle lists.driving c.list_drive-count.new.self.latching
     (take c.list_drive-count.result c.list_drive-count.new.self.numbers.items) ready.hold lists.marks
-    lists.lists in
+    lists.listed in
     let sending = sending-few c.args.cycle (length c.args.wires.now) c.args.parts.now
     c.requires.wired in
     let wires = ap flits_on (returns-clause-wires g c) in
     let list = ap (λ (numbers : List ℕ). length (take c.list_drive-count.result numbers))
     c.deref.ensures.value in
     let marked : marked_of c.list_drive-count.new.self
-    ≡ marks_below c.list_drive-count.new.self.marks
-    (c.args.turns.now.ends.parts + c.args.turns.now.ends.parts) =
-    ap (λ (ends : Ends). marks_below c.list_drive-count.new.self.marks (ends.parts + ends.parts))
+    ≡ marks_below c.list_drive-count.new.self.latching c.args.turns.now.ends.parts =
+    ap (λ (ends : Ends). marks_below c.list_drive-count.new.self.latching ends.parts)
     c.list_drive-count.ensures.ends in
     omega (arith, few, sending, wires, list, marked, c.drive_some.ensures.steps)

@@ -4,11 +4,12 @@ use Rattle.aeth_clocked.specs.Order.{AreChosen}
 use Rattle.aeth_router.specs.declared.part.Part.{Part}
 use Rattle.aeth_components.proofs.cycle.latch.Goals as goal
 use Rattle.aeth_components.proofs.FrameLemmas.{AreLinks-inputs, frames-absorb}
-use Rattle.aeth_components.proofs.HalvesLemmas.{few-latch, rests-latch, unmarked-latch}
+use Rattle.aeth_components.proofs.HalvesLemmas.{few-latch, rests-latch}
 use Rattle.aeth_components.proofs.HoldingLemmas.{HoldNoMore-latched}
 use Rattle.aeth_components.proofs.ReadyLemmas.{AreReady-from}
 use Rattle.aeth_components.specs.Frames.{frame_of}
 use Rattle.aeth_components.specs.Resting.{HoldNoMore, holding_of}
+use Rattle.aeth_components.specs.Turns.{AreUnmarked}
 
 -- Inputs are links.
 pub latch_some-requires-clause-links : goal.latch_some-requires-clause-links
@@ -23,7 +24,7 @@ latch_some-requires-clause-chosen g c =
     rw c.deref.ensures.value
     (subst (λ n. AreChosen n (take c.list_latch-count.result turns.numbers.items))
     (c.requires.driven.ends.count ∙ length-map c.args.parts.now frame_of)
-    lists.lists.listed.chosen)
+    lists.listed.chosen)
 
 -- What isn't listed rests.
 pub latch_some-requires-clause-rest : goal.latch_some-requires-clause-rest
@@ -33,8 +34,7 @@ latch_some-requires-clause-rest g c =
     let driven = c.requires.driven in
     rw c.deref.ensures.value
     (rests-latch c.args.parts.now c.args.wires.now c.args.turns.now.ends driven.ends
-    c.args.turns.now.marks lists.marked turns.marks
-    (take c.list_latch-count.result turns.numbers.items) driven.hold lists.marks lists.lists)
+    c.args.turns.now.latching (take c.list_latch-count.result turns.numbers.items) driven.hold lists)
 
 -- The frames stay.
 pub returns-clause-frames : goal.returns-clause-frames
@@ -44,7 +44,6 @@ returns-clause-frames g c =
 -- The components are ready for the next cycle.
 pub returns-clause-ready : goal.returns-clause-ready
 returns-clause-ready g c =
-    let lists = c.list_latch-count.ensures.listed in
     let driven = c.requires.driven in
     let parts = c.args.parts.now in
     let wires = c.args.wires.now in
@@ -53,10 +52,8 @@ returns-clause-ready g c =
     (map holding_of c.latch_some.new.parts) wires ends c.list_latch-count.new.self
     (returns-clause-frames g c) c.list_latch-count.ensures.ends driven.ends
     c.list_latch-count.ensures.room
-    (unmarked-latch parts wires ends driven.ends c.args.turns.now.marks lists.marked
-    c.list_latch-count.new.self.marks
-    (take c.list_latch-count.result c.list_latch-count.new.self.numbers.items) driven.hold
-    lists.marks lists.lists driven.unmarked)
+    (subst (AreUnmarked ends.parts) (sym c.list_latch-count.ensures.driving) driven.driving)
+    c.list_latch-count.ensures.latching
     (subst (λ (list : List Part). HoldNoMore wires (map holding_of list))
     (sym c.latch_some.ensures.parts) (HoldNoMore-latched wires parts))
 
@@ -66,9 +63,8 @@ returns-clause-steps g c =
     let lists = c.list_latch-count.ensures.listed in
     let driven = c.requires.driven in
     let few = few-latch c.args.parts.now c.args.wires.now c.args.turns.now.ends driven.ends
-    c.args.turns.now.marks lists.marked c.list_latch-count.new.self.marks
-    (take c.list_latch-count.result c.list_latch-count.new.self.numbers.items) driven.hold
-    lists.marks lists.lists in
+    c.args.turns.now.latching
+    (take c.list_latch-count.result c.list_latch-count.new.self.numbers.items) driven.hold lists in
     let list = ap (λ (numbers : List ℕ). length (take c.list_latch-count.result numbers))
     c.deref.ensures.value in
     omega (arith, few, list, c.latch_some.ensures.steps)

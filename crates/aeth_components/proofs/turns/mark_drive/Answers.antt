@@ -1,5 +1,4 @@
-use Rattle.std.proofs.Common.{◌<◌, ◌∙◌, ap, arith, length, List, ℕ, subst, sym}
-use Rattle.std.specs.List.{All}
+use Rattle.std.proofs.Common.{◌∙◌, ap, arith, length, List, ℕ, subst}
 use Rattle.aeth_components.proofs.HalvesLemmas.{MarkDrive-from}
 use Rattle.aeth_components.proofs.turns.mark_drive.Goals as goal
 use Rattle.aeth_components.specs.Turns.{MarkEnds}
@@ -15,18 +14,28 @@ mark_ends-requires-clause-few c =
     let few = c.requires.ends.few_wires in
     omega (arith, same, size, few)
 
-pub mark_ends-requires-clause-below : goal.mark_ends-requires-clause-below
-mark_ends-requires-clause-below c =
-    subst (All (λ number. number < c.args.ends.now.parts)) (sym c.deref.ensures.value)
-    c.requires.ends.receivers_below
+-- They have their marks.
+pub mark_ends-requires-clause-low : goal.mark_ends-requires-clause-low
+mark_ends-requires-clause-low c =
+    rw c.deref.ensures.value (λ place default within.
+    let below = c.requires.ends.receivers_below place default within in
+    omega (arith, below, c.requires.latching))
+
+pub mark_ends-requires-clause-high : goal.mark_ends-requires-clause-high
+mark_ends-requires-clause-high c =
+    rw c.deref.ensures.value (λ place default within.
+    let below = c.requires.ends.receivers_below place default within in
+    omega (arith, below, c.requires.driving))
 
 -- Two walks mark who is to drive.
 pub returns-clause-marks : goal.returns-clause-marks
 returns-clause-marks c =
     let ends = c.args.ends.now in
     let wires = c.args.wires.now in
-    MarkDrive-from c.args.cycle c.args.parts.now wires ends c.args.marks.now c.mark_ends.new.marks
-    c.mark_sending.new.marks c.requires.unmarked
-    (subst (λ (list : List ℕ). MarkEnds ends.interfaces ends.parts list wires c.args.marks.now
-    c.mark_ends.new.marks) c.deref.ensures.value c.mark_ends.ensures.marks)
+    MarkDrive-from c.args.cycle c.args.parts.now wires ends c.args.driving.now c.args.latching.now
+    c.mark_ends.new.high c.mark_sending.new.marks c.mark_ends.new.low c.requires.driving_none
+    c.requires.latching_none
+    (subst (λ (list : List ℕ). MarkEnds ends.interfaces list wires c.args.latching.now
+    c.args.driving.now c.mark_ends.new.low c.mark_ends.new.high) c.deref.ensures.value
+    c.mark_ends.ensures.marks)
     c.mark_sending.ensures.marks

@@ -10,6 +10,7 @@ invariant-loop-wire l = record {
   from : ℕ;
   left : l.wire-iterator ≡ used_from l.fn.wires from;
   within : from ≤ length l.fn.wires;
-  room : room_of l.marks ≡ room_of l.fn.marks;
-  marked : MarkedTo l.limit l.behind l.fn.ends l.fn.wires l.fn.marks l.marks from;
+  low : room_of l.low ≡ room_of l.fn.low;
+  high : room_of l.high ≡ room_of l.fn.high;
+  marked : MarkedTo l.limit l.fn.ends l.fn.wires l.fn.low l.fn.high l.low l.high from;
 }

@@ -4,7 +4,7 @@ use Rattle.std.proofs.Common.{◌+◌, ◌∙◌, arith, inl, inr, List, ℕ, re
 use Rattle.std.proofs.lemmas.Bool.{cases_Bool}
 use Rattle.std.proofs.lemmas.Option.{slice_get-get_or}
 use Rattle.aeth_components.specs.Turns.{MarkSending}
-use Rattle.aeth_components.proofs.MarkedLemmas.{MarkSending-first, MarkSending-no, MarkSending-yes}
+use Rattle.aeth_components.proofs.SenderLemmas.{MarkSending-first, MarkSending-no, MarkSending-yes}
 use Rattle.aeth_components.proofs.turns.mark_sending.Goals as goal
 
 -- No component yet.

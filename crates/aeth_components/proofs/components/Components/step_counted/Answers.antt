@@ -1,4 +1,4 @@
-use Rattle.std.proofs.Common.{◌≡◌, ◌∙◌, ◌++◌, ℕ, List, ap, ap₂, arith, drop, fold, length, map}
+use Rattle.std.proofs.Common.{◌≡◌, ◌<◌, ◌∙◌, ◌++◌, ℕ, List, ap, ap₂, arith, drop, fold, length, map}
 use Rattle.std.proofs.Common.{subst, sym, take}
 use Rattle.std.specs.List.{All}
 use Rattle.aeth_router.specs.declared.part.Part.{Part}
@@ -9,8 +9,8 @@ use Rattle.aeth_components.proofs.components.Components.step_counted.Goals.{Afte
 use Rattle.aeth_components.proofs.CycleLemmas.{Cycle-from, IsComponents-from, components-same}
 use Rattle.std.proofs.lemmas.List.{length-map}
 use Rattle.aeth_components.proofs.FrameLemmas.{length-wires_driven}
-use Rattle.aeth_components.proofs.HomeLemmas.{AreOthersSilent-ends}
-use Rattle.aeth_components.specs.Homes.{AreOthersSilent}
+use Rattle.aeth_components.proofs.BroughtLemmas.{AreBrought-ends}
+use Rattle.aeth_components.specs.Homes.{AreBrought}
 use Rattle.aeth_base.proofs.Lists.{written_back}
 use Rattle.aeth_components.specs.Components.{ComponentsState, Cycle, IsComponents, Runs}
 use Rattle.aeth_components.specs.Components.{components_of, ready_of}
@@ -60,22 +60,36 @@ count-requires-clause-lanes g c =
     (subst (λ n. All (IsLane (length c.self.inside.channels.words) n) c.run.new.channels.lanes)
     (sym (ap length (c.deref.ensures.value ∙ run_parts g run))) (sound g run))
 
--- The interfaces are the first components, and no others get words.
-pub count-requires-clause-within : goal.count-requires-clause-within
-count-requires-clause-within g c =
-    let run = (goal.at.count-requires-clause-within g c).After-run in
-    let ends = c.run.ensures.ready.ends in
-    let size = length-map c.run.new.parts frame_of in
-    let same = ap length (c.deref.ensures.value ∙ run_parts g run) in
-    omega (arith, ends.fits.interfaces, ends.count, size, same)
+-- The ends of the wires are components, and words came by those with a flit.
+pub count-requires-clause-ends : goal.count-requires-clause-ends
+count-requires-clause-ends g c =
+    ap length c.deref-2.ensures.value ∙ c.run.ensures.ready.ends.fits.receivers
 
-pub count-requires-clause-silent : goal.count-requires-clause-silent
-count-requires-clause-silent g c =
-    let run = (goal.at.count-requires-clause-silent g c).After-run in
-    subst (AreOthersSilent c.run.new.turns.ends.interfaces)
+pub count-requires-clause-few : goal.count-requires-clause-few
+count-requires-clause-few g c =
+    let fits = c.run.ensures.ready.ends.fits in
+    let same = ap length c.deref-2.ensures.value in
+    omega (arith, fits.receivers, fits.few_wires, same)
+
+pub count-requires-clause-below : goal.count-requires-clause-below
+count-requires-clause-below g c =
+    let run = (goal.at.count-requires-clause-below g c).After-run in
+    let ends = c.run.ensures.ready.ends in
+    subst (λ n. All (λ number. number < n) c.deref-2.result.now)
+    (ends.count ∙ length-map c.run.new.parts frame_of
+    ∙ sym (ap length (c.deref.ensures.value ∙ run_parts g run)))
+    (subst (All (λ number. number < c.run.new.turns.ends.parts)) (sym c.deref-2.ensures.value)
+    ends.fits.receivers_below)
+
+pub count-requires-clause-brought : goal.count-requires-clause-brought
+count-requires-clause-brought g c =
+    let run = (goal.at.count-requires-clause-brought g c).After-run in
+    let ready = c.run.ensures.ready in
+    subst (λ (parts : List Part). AreBrought parts c.deref-2.result.now c.run.new.wires)
     (sym (c.deref.ensures.value ∙ run_parts g run))
-    (AreOthersSilent-ends c.run.new.parts (length c.run.new.wires) c.run.new.turns.ends
-    c.run.ensures.ready.ends)
+    (subst (λ (list : List ℕ). AreBrought c.run.new.parts list c.run.new.wires)
+    (sym c.deref-2.ensures.value)
+    (AreBrought-ends c.run.new.parts c.run.new.wires c.run.new.turns.ends ready.ends ready.hold))
 
 -- What is counted.
 counts : (g : given.Over) (c : goal.After-count g)
@@ -92,10 +106,14 @@ notes : (g : given.Over) (c : goal.After-count g)
     c.run.new.channels.lanes
 notes g c =
     let run = (goal.at-After-count g c).After-run in
-    c.count.ensures.landings
-    ∙ ap₂ (λ (parts : List Part) (landings : List ℕ).
+    let same : fold (noted c.args.cycle c.deref.result.now) c.deref_mut-2.result.now
+    c.run.new.channels.lanes
+    ≡ fold (noted c.args.cycle c.run.new.parts) c.self.inside.landings.items
+    c.run.new.channels.lanes =
+    ap₂ (λ (parts : List Part) (landings : List ℕ).
     fold (noted c.args.cycle parts) landings c.run.new.channels.lanes)
-    (c.deref.ensures.value ∙ run_parts g run) c.deref_mut-2.ensures.value
+    (c.deref.ensures.value ∙ run_parts g run) c.deref_mut-2.ensures.value in
+    c.count.ensures.landings ∙ same
 
 -- There is a wire for each link.
 pub tally-requires-clause-wires : goal.tally-requires-clause-wires
