@@ -133,23 +133,22 @@ IsComponents-switched events all before =
       few = before.few;
     }
 
--- A component in place of one with the same frame.
-pub frames-slice_set : (parts : List Part) (number : ℕ) (part : Part)
-    → slice_get (map frame_of parts) number ≡ Some (frame_of part)
-    → map frame_of (slice_set parts number part) ≡ map frame_of parts
-frames-slice_set [] number part at = absurd cc
-frames-slice_set (first ∷ parts) zero part at =
-    ap (λ (frame : Frame). frame ∷ map frame_of parts)
-    (sym (same_Some (frame_of first) (frame_of part) at))
-frames-slice_set (first ∷ parts) (suc number) part at =
-    ap (λ (frames : List Frame). frame_of first ∷ frames) (frames-slice_set parts number part at)
+-- A component in place of one of which the same is seen.
+pub views-slice_set : {X : Type 0} (view : Part → X) (parts : List Part) (number : ℕ) (part : Part)
+    → slice_get (map view parts) number ≡ Some (view part)
+    → map view (slice_set parts number part) ≡ map view parts
+views-slice_set view [] number part at = absurd cc
+views-slice_set {X = X} view (first ∷ parts) zero part at =
+    ap (λ (seen : X). seen ∷ map view parts) (sym (same_Some (view first) (view part) at))
+views-slice_set {X = X} view (first ∷ parts) (suc number) part at =
+    ap (λ (rest : List X). view first ∷ rest) (views-slice_set view parts number part at)
 
 pub IsComponents-replaced : (number : ℕ) (part : Part) (all : ComponentsState)
     → slice_get (frames_of all) number ≡ Some (frame_of part) → IsComponents all
     → IsComponents (record all { parts = slice_set all.parts number part })
 IsComponents-replaced number part all at before = record {
   wired = subst (λ (frames : List Frame). IsWired frames (length all.wires))
-      (sym (frames-slice_set all.parts number part at)) before.wired;
+      (sym (views-slice_set frame_of all.parts number part at)) before.wired;
   lanes = subst (λ n. All (IsLane (length all.words) n) all.lanes)
       (sym (length-set all.parts number part)) before.lanes;
   landings = before.landings;

@@ -1,5 +1,5 @@
 -- What rows that enter the tables of routers leave as it was, and what they change.
-use Rattle.std.proofs.Common.{ℕ, ◌≡◌, ◌∙◌, refl, sym, ap, subst, List, [], ◌∷◌, length, map}
+use Rattle.std.proofs.Common.{ℕ, ◌≡◌, ◌∙◌, refl, sym, ap, subst, List, length, map}
 use Rattle.std.proofs.Common.{Option, Some, None, slice_get}
 use Rattle.std.specs.List.{All}
 use Rattle.std.specs.Option.{option_map}
@@ -15,11 +15,12 @@ use Rattle.aeth_router.proofs.RowLemmas.{with_table-kept}
 use Rattle.aeth_components.specs.Components.{ComponentsState, IsComponents}
 use Rattle.aeth_components.specs.Entering.{entered, with_rows}
 use Rattle.aeth_components.specs.Frames.{Frame, IsWired, RouterFrame, frame_of}
+use Rattle.aeth_components.specs.Injecting.{entries_of}
 use Rattle.aeth_components.specs.Lanes.{IsLane}
 use Rattle.aeth_components.specs.Resting.{RouterHolds, holding_of}
 use Rattle.aeth_components.specs.Switching.{entry_in, entry_of}
 use Rattle.aeth_components.specs.View.{queue_in, queue_of}
-use Rattle.aeth_components.proofs.FrameLemmas.{frames-map, from-map}
+use Rattle.aeth_components.proofs.FrameLemmas.{from-map, views-map}
 
 -- Rows change no wire of a router, and nothing that it holds.
 frame-entered : (rows : List RouterRow) (part : Part) → frame_of (entered rows part) ≡ frame_of part
@@ -39,16 +40,25 @@ holding-entered rows (TableRouter router) =
     (with_table-kept rows router)
 holding-entered rows (Stage stage) = refl
 
--- So the frames stay, and what is held.
+entries-entered : (rows : List RouterRow) (part : Part)
+    → entries_of (entered rows part) ≡ entries_of part
+entries-entered rows (Interface ni) = refl
+entries-entered rows (Router router) = refl
+entries-entered rows (TableRouter router) = refl
+entries-entered rows (Stage stage) = refl
+
+-- So the frames stay, what is held, and the slot tables of the interfaces.
 pub frames-entered : (rows : List RouterRow) (parts : List Part)
     → map frame_of (with_rows rows parts) ≡ map frame_of parts
-frames-entered rows parts = frames-map (entered rows) (frame-entered rows) parts
+frames-entered rows = views-map frame_of (entered rows) (frame-entered rows)
 
 pub holdings-entered : (rows : List RouterRow) (parts : List Part)
     → map holding_of (with_rows rows parts) ≡ map holding_of parts
-holdings-entered rows [] = refl
-holdings-entered rows (part ∷ parts) =
-    rw (holding-entered rows part, holdings-entered rows parts) refl
+holdings-entered rows = views-map holding_of (entered rows) (holding-entered rows)
+
+pub tables-entered : (rows : List RouterRow) (parts : List Part)
+    → map entries_of (with_rows rows parts) ≡ map entries_of parts
+tables-entered rows = views-map entries_of (entered rows) (entries-entered rows)
 
 -- So do the queues of interfaces.
 queue-entered : (rows : List RouterRow) (part : Option Part) (queue : ℕ)

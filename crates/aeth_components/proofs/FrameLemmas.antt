@@ -143,18 +143,19 @@ frame_of-absorb (Router router) wires = refl
 frame_of-absorb (TableRouter router) wires = refl
 frame_of-absorb (Stage stage) wires = refl
 
--- A change of all components that keeps each frame keeps the frames.
-pub frames-map : (change : Part → Part) → ((part : Part) → frame_of (change part) ≡ frame_of part)
-    → (parts : List Part) → map frame_of (map change parts) ≡ map frame_of parts
-frames-map change kept [] = refl
-frames-map change kept (part ∷ parts) = rw (kept part, frames-map change kept parts) refl
+-- A change of all components keeps of them what it keeps of each.
+pub views-map : {X : Type 0} (view : Part → X) (change : Part → Part)
+    → ((part : Part) → view (change part) ≡ view part)
+    → (parts : List Part) → map view (map change parts) ≡ map view parts
+views-map view change kept [] = refl
+views-map view change kept (part ∷ parts) = rw (kept part, views-map view change kept parts) refl
 
 pub frames-after : (parts : List Part) (cycle : ℕ)
     → map frame_of (map (λ part. after_of part cycle) parts) ≡ map frame_of parts
 frames-after parts cycle =
-    frames-map (λ part. after_of part cycle) (λ part. frame_of-after part cycle) parts
+    views-map frame_of (λ part. after_of part cycle) (λ part. frame_of-after part cycle) parts
 
 pub frames-absorb : (parts : List Part) (wires : List (Option Flit))
     → map frame_of (map (λ part. absorb_of part wires) parts) ≡ map frame_of parts
 frames-absorb parts wires =
-    frames-map (λ part. absorb_of part wires) (λ part. frame_of-absorb part wires) parts
+    views-map frame_of (λ part. absorb_of part wires) (λ part. frame_of-absorb part wires) parts

@@ -8,6 +8,7 @@ use Rattle.aeth_components.specs.declared.making.RouterKind.{RouterKind}
 use Rattle.aeth_components.specs.declared.making.RouterKind.TheVariants.{ByHeader, ByTable}
 use Rattle.aeth_components.specs.Components.{part_count}
 use Rattle.aeth_components.specs.Frames.{frame_of}
+use Rattle.aeth_components.specs.Injecting.{entries_of}
 use Rattle.aeth_components.specs.Making.{made_interface, made_router, made_stages, new_parts}
 use Rattle.aeth_components.specs.Resting.{holding_of}
 use Rattle.aeth_components.proofs.MadeLemmas.{length-new_parts}
@@ -54,6 +55,11 @@ holding-kind : (chip : ChipData) (kind : RouterKind) (r : ℕ)
 holding-kind chip ByHeader r = refl
 holding-kind chip ByTable r = refl
 
+entries-kind : (chip : ChipData) (kind : RouterKind) (r : ℕ)
+    → entries_of (made_router chip kind r) ≡ entries_of (made_router chip ByHeader r)
+entries-kind chip ByHeader r = refl
+entries-kind chip ByTable r = refl
+
 module _ (chip : ChipData) (kind : RouterKind) (rooms : List ℕ) where
   -- The frames of the components of a chip don't depend on the kind of its routers.
   pub frames-kind : map frame_of (new_parts chip kind rooms)
@@ -64,6 +70,11 @@ module _ (chip : ChipData) (kind : RouterKind) (rooms : List ℕ) where
   pub holdings-kind : map holding_of (new_parts chip kind rooms)
       ≡ map holding_of (new_parts chip ByHeader rooms)
   holdings-kind = views-kind holding_of chip rooms kind (holding-kind chip kind)
+
+  -- Nor do their slot tables.
+  pub tables-kind : map entries_of (new_parts chip kind rooms)
+      ≡ map entries_of (new_parts chip ByHeader rooms)
+  tables-kind = views-kind entries_of chip rooms kind (entries-kind chip kind)
 
   -- Nor does their number.
   pub length-kind : length (new_parts chip kind rooms) ≡ part_count chip

@@ -8,6 +8,7 @@ pub mod FrameLemmas
 mod FirstLemmas
 mod HalvesLemmas
 mod HomeLemmas
+mod InjectingLemmas
 pub mod HoldingLemmas
 pub mod KeptLemmas
 pub mod KindLemmas
@@ -15,6 +16,7 @@ pub mod LaneLemmas
 mod ListedLemmas
 mod MarkLemmas
 mod MarkedLemmas
+mod NextLemmas
 pub mod MadeParts
 pub mod MadeLemmas
 pub mod NoteLemmas
@@ -27,6 +29,7 @@ mod SendingLemmas
 mod SkipLemmas
 mod SlotLemmas
 mod SwitchingLemmas
+mod TableLemmas
 pub mod TurnLemmas
 mod TurnsAlone
 mod UnlistedLemmas

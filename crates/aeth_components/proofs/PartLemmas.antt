@@ -102,6 +102,21 @@ pub frames-switched : (events : List Event) (parts : List Part)
     → map frame_of (switched events parts) ≡ map frame_of parts
 frames-switched = views-switched frame_of frame_of-event
 
+-- An event is done at its component.
+pub happened-set : (event : Event) (before now : List Part) (number : ℕ) (other new : Part)
+    → map frame_of now ≡ map frame_of before → number ≡ event_part event
+    → IsDoable (map frame_of before) event
+    → new ≡ on_interface (event_done event) (get_or now number other)
+    → set now number new ≡ happened now event
+happened-set event before now number other new framed is doable to =
+    let there = doable.part in
+    let frames = ap length framed in
+    let size = length-map now frame_of in
+    let bound : number < length now = omega arith in
+    ap (set now number) to
+    ∙ set-with_part now number (on_interface (event_done event)) other bound
+    ∙ ap (λ n. with_part n (on_interface (event_done event)) now) is
+
 -- One event more is done.
 pub switched-more : (events : List Event) (before now : List Part) (place : ℕ) (default : Event)
     (number : ℕ) (other new : Part) → place < length events
@@ -112,14 +127,8 @@ pub switched-more : (events : List Event) (before now : List Part) (place : ℕ)
     → set now number new ≡ switched (take (place + 1) events) before
 switched-more events before now place default number other new within so_far is doable to =
     let event = get_or events place default in
-    let there = doable.part in
-    let frames = ap (λ (parts : List Part). length (map frame_of parts)) so_far
-    ∙ ap length (frames-switched (take place events) before) in
-    let size = length-map now frame_of in
-    let bound : number < length now = omega arith in
-    ap (set now number) to
-    ∙ set-with_part now number (on_interface (event_done event)) other bound
-    ∙ ap (λ n. with_part n (on_interface (event_done event)) now) is
+    happened-set event before now number other new
+    (ap (map frame_of) so_far ∙ frames-switched (take place events) before) is doable to
     ∙ ap (λ (parts : List Part). happened parts event) so_far
     ∙ sym (fold_push happened before (take place events) event)
     ∙ ap (fold happened before) (sym (take_more events place default within))

@@ -17,8 +17,9 @@ use Rattle.aeth_components.specs.Resting.{HasPlaces, HoldNoMore, HoldUnlessMarke
 use Rattle.aeth_components.specs.Resting.{holding_of}
 use Rattle.aeth_components.specs.Turns.{AreListed, AreReady, AreUnmarked, HasRoom, HaveDriven}
 use Rattle.aeth_components.specs.declared.ends.Ends.{Ends}
+use Rattle.aeth_components.specs.declared.injecting.Injecting.{Injecting}
 use Rattle.aeth_components.specs.declared.turns.Turns.{Turns}
-use Rattle.aeth_components.proofs.CycleLemmas.{frames-slice_set}
+use Rattle.aeth_components.proofs.CycleLemmas.{views-slice_set}
 use Rattle.aeth_components.proofs.FrameLemmas.{from-map}
 use Rattle.aeth_components.proofs.UnlistedLemmas.{seen-at}
 
@@ -73,11 +74,11 @@ AreReady-from frames others held wires ends now framed is are room driving latch
   hold = hold;
 }
 
--- The component with which turns begin says nothing else.
+-- The component with which turns begin says nothing else, nor do the interfaces that may inject.
 pub AreReady-begun : (frames : List Frame) (holdings : List Holding) (wires : List (Option Flit))
-    (turns : Turns) (turn : ℕ) → AreReady frames holdings wires turns
-    → AreReady frames holdings wires (record turns { turn = turn })
-AreReady-begun frames holdings wires turns turn ready = record {
+    (turns : Turns) (turn : ℕ) (injecting : Injecting) → AreReady frames holdings wires turns
+    → AreReady frames holdings wires (record turns { turn = turn; injecting = injecting })
+AreReady-begun frames holdings wires turns turn injecting ready = record {
   ends = ready.ends;
   room = record {
     driving = ready.room.driving;
@@ -158,7 +159,7 @@ pub AreReady-replaced : (number : ℕ) (part : Part) (parts : List Part) (wires 
     (map holding_of (slice_set parts number part)) wires turns
 AreReady-replaced number part parts wires turns at places none ready = record {
   ends = subst (λ (list : List Frame). AreEnds list (length wires) turns.ends)
-      (sym (frames-slice_set parts number part at)) ready.ends;
+      (sym (views-slice_set frame_of parts number part at)) ready.ends;
   room = ready.room;
   driving = ready.driving;
   latching = ready.latching;

@@ -1,8 +1,9 @@
 -- Laws of the walk over the components that marks those that send something of their own.
-use Rattle.std.proofs.Common.{ℕ, ◌≡◌, ◌≢◌, ◌+◌, sym, ap, ◌∙◌, arith, false, true}
-use Rattle.std.proofs.Common.{inl, inr, List, slice_get, Some}
-use Rattle.std.proofs.lemmas.Bool.{cases_eq}
-use Rattle.std.proofs.lemmas.List.Sums.{count_by_more_no, count_by_more_yes}
+use Rattle.std.proofs.Common.{ℕ, ◌≡◌, ◌≢◌, ◌<◌, ◌≤◌, ◌+◌, sym, ap, ◌∙◌, arith, cond, false, true}
+use Rattle.std.proofs.Common.{count_by, inl, inr, List, slice_get, Some, take}
+use Rattle.std.proofs.lemmas.Bool.{cases_eq, cases_lt}
+use Rattle.std.proofs.lemmas.List.{take-take}
+use Rattle.std.proofs.lemmas.List.Sums.{count_by_more_no, count_by_more_yes, sum_by-take-le}
 use Rattle.std.proofs.lemmas.Option.{get_or_from_slice_get, same_Some, slice_get_within}
 use Rattle.aeth_router.specs.declared.part.Part.{Part}
 use Rattle.aeth_base.specs.Marks.{bit_of}
@@ -16,6 +17,25 @@ module _ (cycle : ℕ) (parts : List Part) (old : List ℕ) where
     at = λ number part below. absurd (omega arith);
     kept = λ number is. is;
     few = λ count. omega arith;
+  }
+
+  -- None of the components that are passed over sends.
+  pub MarkSending-until : (now : List ℕ) (from to : ℕ) → MarkSending cycle from parts old now
+      → from ≤ to
+      → ((number : ℕ) (part : Part) → from ≤ number → number < to → slice_get parts number ≡ Some part
+      → sends_own cycle part ≡ true → ⊥)
+      → MarkSending cycle to parts old now
+  MarkSending-until now from to marked within none = record {
+    at = λ number part below at is. elim (cases_lt number from) [
+      | inl less ↦ marked.at number part less at is
+      | inr over ↦ absurd (none number part over below at is)
+    ];
+    kept = marked.kept;
+    few = λ count.
+        let few = marked.few count in
+        let more = sum_by-take-le (λ part. cond (sends_own cycle part) 1 0) (take to parts) from in
+        let same = ap (count_by (sends_own cycle)) (take-take from to parts within) in
+        omega (arith, few, more, same);
   }
 
   -- One component more, which sends and is marked, or doesn't send.

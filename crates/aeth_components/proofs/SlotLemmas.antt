@@ -1,8 +1,9 @@
 -- What the events of a cycle do to one entry of a slot table.
 use Rattle.std.proofs.Common.{ℕ, zero, suc, ◌≡◌, ◌≢◌, refl, sym, ◌∙◌, ap, subst, inl, inr}
 use Rattle.std.proofs.Common.{arith, length, List, [], ◌∷◌, Some, None, map, set, slice_get}
-use Rattle.std.proofs.lemmas.Bool.{cases_eq}
-use Rattle.std.proofs.lemmas.List.{get_or-set_other, get_or-set_same}
+use Rattle.std.proofs.Common.{length-set}
+use Rattle.std.proofs.lemmas.Bool.{cases_eq, cases_lt}
+use Rattle.std.proofs.lemmas.List.{get_or-set_other, get_or-set_same, get_or_past}
 use Rattle.std.proofs.lemmas.Option.{same_Some}
 use Rattle.aeth_base.specs.declared.ids.LinkId.{LinkId}
 use Rattle.aeth_base.specs.declared.ids.NiId.{NiId}
@@ -106,7 +107,7 @@ written-other parts write event ni slot is none =
     entry_of-write_other parts write ni slot
     (λ at. none (record { write = write; is = is; at_ni = sym at.0; at_slot = sym at.1 }))
 
-entry_of-happened_other : (parts : List Part) (event : Event) (ni slot : ℕ)
+pub entry_of-happened_other : (parts : List Part) (event : Event) (ni slot : ℕ)
     → (Writes event ni slot → ⊥)
     → entry_of (happened parts event) ni slot ≡ entry_of parts ni slot
 entry_of-happened_other parts (Halt end) ni slot none =
@@ -147,6 +148,51 @@ entry_of-happened_same parts (Change (SetRoute to queue route remote credits)) w
     absurd cc
 entry_of-happened_same parts (Change (SetSlot to number queue)) write is has =
     written-same parts (record { ni = to; slot = number; entry = Some queue }) write is has
+
+-- Where there is an entry behind the write, it is the one that is written.
+entry_in-own : (part : Part) (write : SlotWrite) (queue : ℕ)
+    → entry_in write.slot (Some (on_interface (with_entry write) part)) ≡ Some queue
+    → write.entry ≡ Some queue
+entry_in-own (Interface ni) write queue is =
+    elim (cases_lt write.slot (length ni.entries)) [
+      | inl within ↦ sym (get_or-set_same ni.entries write.slot write.entry None within) ∙ is
+      | inr past ↦
+          let size = length-set ni.entries write.slot write.entry in
+          absurd (cc (sym (get_or_past (set ni.entries write.slot write.entry) write.slot None
+          (omega (arith, size, past))) ∙ is))
+    ]
+entry_in-own (Router router) write queue is = absurd (cc is)
+entry_in-own (TableRouter router) write queue is = absurd (cc is)
+entry_in-own (Stage stage) write queue is = absurd (cc is)
+
+entry_of-own : (parts : List Part) (number : ℕ) (write : SlotWrite) (queue : ℕ)
+    → entry_in write.slot (slice_get (with_part number (on_interface (with_entry write)) parts) number)
+    ≡ Some queue → write.entry ≡ Some queue
+entry_of-own [] number write queue is = absurd (cc is)
+entry_of-own (part ∷ parts) zero write queue is = entry_in-own part write queue is
+entry_of-own (part ∷ parts) (suc number) write queue is = entry_of-own parts number write queue is
+
+written-own : (parts : List Part) (some write : SlotWrite) (queue : ℕ) → Some some ≡ Some write
+    → entry_of (with_part some.ni.0 (on_interface (with_entry some)) parts) write.ni.0 write.slot
+    ≡ Some queue → write.entry ≡ Some queue
+written-own parts some write queue is has =
+    entry_of-own parts write.ni.0 write queue
+    (subst (λ (other : SlotWrite). entry_of (with_part other.ni.0 (on_interface (with_entry other))
+    parts) write.ni.0 write.slot ≡ Some queue) (same_Some some write is) has)
+
+pub entry_of-happened_own : (parts : List Part) (event : Event) (write : SlotWrite) (queue : ℕ)
+    → slot_write event ≡ Some write
+    → entry_of (happened parts event) write.ni.0 write.slot ≡ Some queue
+    → write.entry ≡ Some queue
+entry_of-happened_own parts (Halt end) write queue is has = absurd cc
+entry_of-happened_own parts (Finish end) write queue is has = absurd cc
+entry_of-happened_own parts (Change (ClearSlot to number)) write queue is has =
+    written-own parts (record { ni = to; slot = number; entry = None }) write queue is has
+entry_of-happened_own parts (Change (ClearRoute to other)) write queue is has = absurd cc
+entry_of-happened_own parts (Change (SetRoute to other route remote credits)) write queue is has =
+    absurd cc
+entry_of-happened_own parts (Change (SetSlot to number other)) write queue is has =
+    written-own parts (record { ni = to; slot = number; entry = Some other }) write queue is has
 
 -- What many do.
 entry_of-switched_other : (events : List Event) (parts : List Part) (ni slot : ℕ)

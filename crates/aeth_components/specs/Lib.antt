@@ -10,6 +10,7 @@ pub mod Events
 pub mod First
 pub mod Frames
 pub mod Homes
+pub mod Injecting
 pub mod Lanes
 pub mod Laws
 pub mod Making

@@ -3,7 +3,7 @@
 --   marks_below, flits_on      how many numbers are marked, and how many wires have a flit
 --   StayMarked, MarkEnd, MarkEnds      what a walk over the wires with a flit marks
 --   AreListed                  marked numbers, each listed once
---   sends_own, MarkSending     what a walk over the interfaces marks
+--   sends_own, AreSendersMarked, MarkSending     what a walk over the interfaces marks
 --   MarkDrive, ListDrive, ListLatch    the marks and the lists of a cycle
 --   AreReady, HaveDriven       what holds between cycles, and between the halves of one
 --
@@ -74,10 +74,15 @@ sends_own cycle (Router router) = false
 sends_own cycle (TableRouter router) = false
 sends_own cycle (Stage stage) = false
 
+-- Of the first so many components each is marked that sends something of its own in a cycle.
+abbrev pub AreSendersMarked : ℕ → ℕ → List Part → List ℕ → Type 0
+AreSendersMarked cycle to parts marks =
+    (number : ℕ) (part : Part) → number < to → slice_get parts number ≡ Some part
+    → sends_own cycle part ≡ true → bit_of marks number ≡ 1
+
 -- The first so many components that send something of their own are marked, and few others are.
 pub record MarkSending (cycle to : ℕ) (parts : List Part) (old new : List ℕ) : Type 0 where
-  pub at : (number : ℕ) (part : Part) → number < to → slice_get parts number ≡ Some part
-      → sends_own cycle part ≡ true → bit_of new number ≡ 1
+  pub at : AreSendersMarked cycle to parts new
   pub kept : StayMarked old new
   pub few : (count : ℕ) → marks_below new count
       ≤ marks_below old count + count_by (sends_own cycle) (take to parts)
@@ -92,8 +97,7 @@ pub record MarkDrive (cycle : ℕ) (parts : List Part) (wires : List (Option Fli
   pub passing : (wire number : ℕ) → IsSome (flit_on wires wire)
       → slice_get ends.receivers.items wire ≡ Some number → ends.interfaces ≤ number
       → bit_of driving number ≡ 1
-  pub sending : (number : ℕ) (part : Part) → number < ends.interfaces
-      → slice_get parts number ≡ Some part → sends_own cycle part ≡ true → bit_of driving number ≡ 1
+  pub sending : AreSendersMarked cycle ends.interfaces parts driving
   pub few : marks_below driving ends.parts + marks_below latching ends.parts
       ≤ flits_on wires + count_by (sends_own cycle) parts
 

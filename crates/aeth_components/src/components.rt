@@ -14,6 +14,7 @@ ghost use Rattle.aeth_components.specs.Entering.{TakesRows, with_rows};
 ghost use Rattle.aeth_components.specs.Events.{IsDoable};
 ghost use Rattle.aeth_components.specs.First.{HasSender, IsFirst};
 ghost use Rattle.aeth_components.specs.Frames.{IsWired, frame_of};
+ghost use Rattle.aeth_components.specs.Injecting.{AreInjecting, entries_of};
 ghost use Rattle.aeth_components.specs.Lanes.{IsLane, with_lane};
 ghost use Rattle.aeth_components.specs.Resting.{holding_of};
 ghost use Rattle.aeth_components.specs.Turns.{AreReady, flits_on};
@@ -25,8 +26,9 @@ use crate::ends::are_empty;
 use crate::event::Event;
 use crate::lane::Lane;
 use crate::making::{RouterKind, parts_of};
-use crate::parts::{enter_all, next_among};
+use crate::parts::enter_all;
 use crate::phases::switch;
+use crate::sending::next_among;
 use crate::turns::Turns;
 use aeth_base::{NoMemory, Steps};
 use aeth_chip::Chip;
@@ -57,6 +59,7 @@ impl Model for Components {
     ghost use Rattle.aeth_components.specs.Components.{ComponentsState, IsComponents};
     ghost use Rattle.aeth_components.specs.Components.{components_of};
     ghost use Rattle.aeth_components.specs.Frames.{frame_of};
+    ghost use Rattle.aeth_components.specs.Injecting.{AreInjecting, entries_of};
     ghost use Rattle.aeth_components.specs.Resting.{holding_of};
     ghost use Rattle.aeth_components.specs.Turns.{AreReady};
 
@@ -68,7 +71,8 @@ impl Model for Components {
     ghost invariant = { λ all. IsComponents (components_of all.parts.items all.wires
         all.channels.lanes all.channels.words all.landings.items all.flits.items)
         × AreReady (map frame_of all.parts.items) (map holding_of all.parts.items) all.wires
-        all.turns };
+        all.turns
+        × AreInjecting (map entries_of all.parts.items) all.turns.injecting.slots.items };
 }
 
 impl Components {
@@ -157,7 +161,13 @@ impl Components {
         requires { from ≤ to }
         ensures { IsFirst (HasSender self.now.parts) from to result }
     {
-        next_among(&self.parts, from, to)
+        next_among(
+            &self.parts,
+            &self.turns.injecting,
+            self.turns.ends.interfaces,
+            from,
+            to,
+        )
     }
 
     /// The first channel from `from` on whose receiver may take words as it stands: of those before it
@@ -221,7 +231,7 @@ impl Components {
         requires { All (IsDoable (frames_of self.old)) events.now }
         ensures { self.new ≡ record self.old { parts = switched events.now self.old.parts } }
     {
-        switch(&mut self.parts, events);
+        switch(&mut self.parts, &mut self.turns.injecting, events);
     }
 
     /// One cycle. It takes no memory and can't fail, and every order gives the same.
@@ -295,6 +305,7 @@ fn run<L: Ledger>(
     requires wired { IsWired (map frame_of parts.old) (length wires.old) }
     requires ready { AreReady (map frame_of parts.old) (map holding_of parts.old) wires.old
         turns.old }
+    requires injecting { AreInjecting (map entries_of parts.old) turns.old.injecting.slots.items }
     requires lanes { All (IsLane (length channels.old.words) (length parts.old)) channels.old.lanes }
     requires events { All (IsDoable (map frame_of parts.old)) events.now }
     ensures runs { Runs channels.old.words events.now cycle wires.old wires.new
@@ -304,9 +315,10 @@ fn run<L: Ledger>(
     ensures lanes { All (IsLane (length channels.new.words) (length parts.new)) channels.new.lanes }
     ensures ready { AreReady (map frame_of parts.new) (map holding_of parts.new) wires.new
         turns.new }
+    ensures injecting { AreInjecting (map entries_of parts.new) turns.new.injecting.slots.items }
     ensures steps { steps.new ≤ steps.old + 2 * flits_on wires.old + 2 * flits_on wires.new }
 {
-    switch(parts, events);
+    switch(parts, &mut turns.injecting, events);
     channels.refill(parts, cycle);
     drive(parts, turns, cycle, wires, steps);
     channels.take(parts, cycle);

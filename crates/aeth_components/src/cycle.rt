@@ -4,6 +4,7 @@ ghost use Rattle.std.specs.Prelude.{◌≡◌, ◌≤◌, ◌+◌, ◌*◌, leng
 ghost use Rattle.aeth_router.specs.Part.{absorb_of, after_of};
 ghost use Rattle.aeth_components.specs.Components.{wires_driven};
 ghost use Rattle.aeth_components.specs.Frames.{IsWired, frame_of};
+ghost use Rattle.aeth_components.specs.Injecting.{AreInjecting, entries_of};
 ghost use Rattle.aeth_components.specs.Resting.{holding_of};
 ghost use Rattle.aeth_components.specs.Turns.{AreReady, HaveDriven, flits_on, marked_of};
 
@@ -25,12 +26,14 @@ pub(crate) fn drive<L: Ledger>(
     requires wired { IsWired (map frame_of parts.old) (length wires.old) }
     requires ready { AreReady (map frame_of parts.old) (map holding_of parts.old) wires.old
         turns.old }
+    requires injecting { AreInjecting (map entries_of parts.old) turns.old.injecting.slots.items }
     ensures wires { wires.new ≡ wires_driven parts.old (length wires.old) cycle }
     ensures count { length wires.new ≡ length wires.old }
     ensures parts { parts.new ≡ map (λ part. after_of part cycle) parts.old }
     ensures frames { map frame_of parts.new ≡ map frame_of parts.old }
     ensures driven { HaveDriven (map frame_of parts.new) (map holding_of parts.new)
         (length wires.new) turns.new }
+    ensures injecting { turns.new.injecting ≡ turns.old.injecting }
     ensures steps { steps.new + marked_of turns.new
         ≤ steps.old + 2 * flits_on wires.old + flits_on wires.new }
 {
@@ -54,6 +57,7 @@ pub(crate) fn latch<L: Ledger>(
     ensures frames { map frame_of parts.new ≡ map frame_of parts.old }
     ensures ready { AreReady (map frame_of parts.new) (map holding_of parts.new) wires.now
         turns.new }
+    ensures injecting { turns.new.injecting ≡ turns.old.injecting }
     ensures steps { steps.new ≤ steps.old + marked_of turns.old + flits_on wires.now }
 {
     let count = turns.list_latch(wires);

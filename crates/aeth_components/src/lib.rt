@@ -8,12 +8,14 @@ mod cycle;
 mod ends;
 mod event;
 mod homes;
+mod injecting;
 mod lane;
 pub mod laws;
 mod making;
 mod parts;
 mod phases;
 mod queues;
+mod sending;
 mod turns;
 
 pub use components::Components;

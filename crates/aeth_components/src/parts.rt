@@ -7,7 +7,6 @@ ghost use Rattle.aeth_ni.specs.Limits.{queues_of_interface};
 ghost use Rattle.aeth_components.specs.Changes.{event_done, on_interface, told_by};
 ghost use Rattle.aeth_components.specs.Entering.{TakesRows, entered, with_rows};
 ghost use Rattle.aeth_components.specs.Events.{Suits};
-ghost use Rattle.aeth_components.specs.First.{HasSender, IsFirst};
 ghost use Rattle.aeth_components.specs.Frames.{frame_of};
 ghost use Rattle.aeth_components.specs.Queues.{brought_by, draws, drawn, filled, fits};
 ghost use Rattle.aeth_components.specs.Turns.{sends_own};
@@ -104,28 +103,4 @@ pub(crate) fn sends_own(part: &Part, cycle: u32) -> bool
         Part::Interface(ni) => !ni.is_mute(u64::from(cycle)),
         _ => false,
     }
-}
-
-// The first cycle from one on, and below another, in which a component sends something of its own as
-// it stands; the other where there is none.
-fn next_own(part: &Part, from: u32, to: u32) -> u32
-    requires { from ≤ to }
-    ensures { IsFirst (λ cycle. sends_own cycle part.now ≡ true) from to result }
-{
-    match part {
-        Part::Interface(ni) => ni.next_sending(u64::from(from), u64::from(to)) as u32,
-        _ => to,
-    }
-}
-
-// The same of some components: in which one of them does.
-pub(crate) fn next_among(parts: &[Part], from: u32, to: u32) -> u32
-    requires { from ≤ to }
-    ensures { IsFirst (HasSender parts.now) from to result }
-{
-    let mut next = to;
-    for number in 0..parts.len() {
-        next = next_own(&parts[number], from, next);
-    }
-    next
 }

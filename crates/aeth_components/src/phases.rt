@@ -5,24 +5,29 @@ ghost use Rattle.aeth_components.specs.Busy.{AreMarked, HandsNothing, IsIdle, Ta
 ghost use Rattle.aeth_components.specs.Changes.{switched};
 ghost use Rattle.aeth_components.specs.Events.{IsDoable};
 ghost use Rattle.aeth_components.specs.Frames.{frame_of};
+ghost use Rattle.aeth_components.specs.Injecting.{AreInjecting, entries_of};
 ghost use Rattle.aeth_components.specs.Lanes.{IsEnd, IsLane};
 ghost use Rattle.aeth_components.specs.Phases.{pulled, refilled};
 
 use crate::event::Event;
+use crate::injecting::Injecting;
 use crate::lane::Lane;
 use crate::parts::{draw, hand, meet};
 use aeth_base::Marks;
 use aeth_router::Part;
 
-// Does the events of a cycle, one after the other.
-pub(crate) fn switch(parts: &mut [Part], events: &[Event])
-    requires { All (IsDoable (map frame_of parts.old)) events.now }
+// Does the events of a cycle, one after the other, and notes who may inject from then on.
+pub(crate) fn switch(parts: &mut [Part], injecting: &mut Injecting, events: &[Event])
+    requires events { All (IsDoable (map frame_of parts.old)) events.now }
+    requires injecting { AreInjecting (map entries_of parts.old) injecting.old.slots.items }
     ensures parts { parts.new ≡ switched events.now parts.old }
     ensures frames { map frame_of parts.new ≡ map frame_of parts.old }
+    ensures injecting { AreInjecting (map entries_of parts.new) injecting.new.slots.items }
 {
     for event in events {
         let part = &mut parts[event.part() as usize];
         meet(part, event);
+        injecting.note(event);
     }
 }
 

@@ -1,19 +1,21 @@
 // The components that take a turn in a half of a cycle, read off the wires.
 
-ghost use Rattle.std.specs.Prelude.{◌≡◌, ◌≢◌, ◌<◌, ◌≤◌, ◌^◌, ℕ, All, IfOk, IsTrue, false};
-ghost use Rattle.std.specs.Prelude.{IsPermutation, List, None, length, map, replicate, take};
+ghost use Rattle.std.specs.Prelude.{◌≡◌, ◌<◌, ◌≤◌, ◌^◌, ℕ, All, IfOk, IsPermutation, List, None};
+ghost use Rattle.std.specs.Prelude.{length, map, replicate, take};
 ghost use Rattle.aeth_base.specs.Marks.{bit_of, room_of};
 ghost use Rattle.aeth_chip.specs.Wires.{wires_of};
 ghost use Rattle.aeth_components.specs.Ends.{FitsWires};
 ghost use Rattle.aeth_components.specs.Frames.{frame_of};
+ghost use Rattle.aeth_components.specs.Injecting.{AreInjecting, entries_of};
 ghost use Rattle.aeth_components.specs.Making.{new_parts};
 ghost use Rattle.aeth_components.specs.Resting.{holding_of};
-ghost use Rattle.aeth_components.specs.Turns.{AreListed, AreReady, AreUnmarked, HasRoom, ListDrive};
-ghost use Rattle.aeth_components.specs.Turns.{ListLatch, MarkDrive, MarkEnd, MarkEnds, MarkSending};
+ghost use Rattle.aeth_components.specs.Turns.{AreListed, AreReady, AreSendersMarked, AreUnmarked};
+ghost use Rattle.aeth_components.specs.Turns.{HasRoom, ListDrive, ListLatch, MarkDrive, MarkEnd};
+ghost use Rattle.aeth_components.specs.Turns.{MarkEnds};
 ghost use Rattle.aeth_components.specs.declared.making.RouterKind.TheVariants.{ByHeader};
 
 use crate::ends::Ends;
-use crate::parts::sends_own;
+use crate::injecting::{Injecting, mark_sending};
 use aeth_base::{Marks, NoMemory};
 use aeth_chip::Chip;
 use aeth_clocked::{Order, Wires};
@@ -25,6 +27,8 @@ use std::alloc::Global;
 #[derive(Drop)]
 pub(crate) struct Turns {
     pub ends: Ends,
+    // The interfaces that have an entry for a slot.
+    pub injecting: Injecting,
     // Marks of the components to drive, and of those to latch.
     pub driving: Marks,
     pub latching: Marks,
@@ -37,17 +41,21 @@ pub(crate) struct Turns {
 impl Turns {
     // Those of the components of a chip, before the first cycle. Later calls take no memory.
     pub(crate) fn new(alloc: Global, chip: &Chip) -> Result<Turns, NoMemory>
-        ensures { IfOk result (λ turns. (rooms : List ℕ) → AreReady
+        ensures ready { IfOk result (λ turns. (rooms : List ℕ) → AreReady
             (map frame_of (new_parts chip.now ByHeader rooms))
             (map holding_of (new_parts chip.now ByHeader rooms))
             (replicate (wires_of chip.now.links) None) turns) }
+        ensures injecting { IfOk result (λ turns. (rooms : List ℕ) → AreInjecting
+            (map entries_of (new_parts chip.now ByHeader rooms)) turns.injecting.slots.items) }
     {
-        let _ = chip.slots();
+        let slots = chip.slots();
         let ends = Ends::of(alloc, chip)?;
         let count = ends.parts as usize;
         let numbers = vec![in alloc; 0; count]?;
+        let injecting = Injecting::none(alloc, slots, ends.parts)?;
         Ok(Turns {
             ends,
+            injecting,
             driving: Marks::none(alloc, count)?,
             latching: Marks::none(alloc, count)?,
             numbers,
@@ -71,7 +79,10 @@ impl Turns {
         requires room { HasRoom self.old }
         requires driving { AreUnmarked self.old.ends.parts self.old.driving }
         requires latching { AreUnmarked self.old.ends.parts self.old.latching }
+        requires injecting { AreInjecting (map entries_of parts.now)
+            self.old.injecting.slots.items }
         ensures ends { self.new.ends ≡ self.old.ends }
+        ensures injecting { self.new.injecting ≡ self.old.injecting }
         ensures room { HasRoom self.new }
         ensures within { result ≤ length self.new.numbers.items }
         ensures unmarked { AreUnmarked self.old.ends.parts self.new.driving }
@@ -82,6 +93,7 @@ impl Turns {
             &mut self.driving,
             &mut self.latching,
             &self.ends,
+            self.injecting.at(cycle),
             parts,
             cycle,
             wires,
@@ -94,6 +106,7 @@ impl Turns {
         requires ends { FitsWires (length wires.now) self.old.ends }
         requires room { HasRoom self.old }
         ensures ends { self.new.ends ≡ self.old.ends }
+        ensures injecting { self.new.injecting ≡ self.old.injecting }
         ensures room { HasRoom self.new }
         ensures within { result ≤ length self.new.numbers.items }
         ensures driving { self.new.driving ≡ self.old.driving }
@@ -117,6 +130,7 @@ fn mark_drive(
     driving: &mut Marks,
     latching: &mut Marks,
     ends: &Ends,
+    injecting: &Marks,
     parts: &[Part],
     cycle: u32,
     wires: &Wires,
@@ -127,12 +141,14 @@ fn mark_drive(
     requires latching { ends.now.parts < room_of latching.old }
     requires driving_none { AreUnmarked ends.now.parts driving.old }
     requires latching_none { AreUnmarked ends.now.parts latching.old }
+    requires injecting { ends.now.parts < room_of injecting.now }
+    requires senders { AreSendersMarked cycle ends.now.interfaces parts.now injecting.now }
     ensures driving { room_of driving.new ≡ room_of driving.old }
     ensures latching { room_of latching.new ≡ room_of latching.old }
     ensures marks { MarkDrive cycle parts.now wires.now ends.now driving.new latching.new }
 {
     mark_ends(latching, driving, ends.interfaces, &ends.receivers, wires);
-    mark_sending(driving, parts, ends.interfaces, cycle);
+    mark_sending(driving, injecting, parts, ends.interfaces, cycle);
 }
 
 // Marks of each wire with a flit the component at its end, with the low ones where it is below the
@@ -204,30 +220,4 @@ fn list_marked(marks: &Marks, numbers: &mut [u32]) -> usize
         }
     }
     filled
-}
-
-// Marks each of the first so many components that sends something of its own in a cycle.
-fn mark_sending(marks: &mut Marks, parts: &[Part], interfaces: u32, cycle: u32)
-    requires within { interfaces ≤ length parts.now }
-    requires room { interfaces ≤ room_of marks.old }
-    ensures room { room_of marks.new ≡ room_of marks.old }
-    ensures marks { MarkSending cycle interfaces parts.now marks.old marks.new }
-{
-    for number in 0..interfaces as usize {
-        let sends = sends_own(&parts[number], cycle);
-        mark_where(marks, number, sends);
-    }
-}
-
-// Marks a number, or leaves all as they are.
-fn mark_where(marks: &mut Marks, number: usize, is: bool)
-    requires { number < room_of marks.old }
-    ensures room { room_of marks.new ≡ room_of marks.old }
-    ensures here { IsTrue is → bit_of marks.new number ≡ 1 }
-    ensures away { (other : ℕ) → other ≢ number → bit_of marks.new other ≡ bit_of marks.old other }
-    ensures same { is ≡ false → marks.new ≡ marks.old }
-{
-    if is {
-        marks.mark(number);
-    }
 }

@@ -1,13 +1,14 @@
-use Rattle.std.proofs.Common.{◌≡◌, ◌++◌, ◌∙◌, List, ap, drop, length, map, subst, sym, take}
+use Rattle.std.proofs.Common.{◌≡◌, ◌++◌, ◌∙◌, List, Option, ap, drop, length, map, subst, sym, take, ℕ}
 use Rattle.aeth_router.specs.declared.part.Part.{Part}
 use Rattle.aeth_components.proofs.components.Components.enter.Goals as goal
 use Rattle.aeth_components.proofs.EnteringLemmas.{IsComponents-entered, frames-entered}
-use Rattle.aeth_components.proofs.EnteringLemmas.{holdings-entered}
+use Rattle.aeth_components.proofs.EnteringLemmas.{holdings-entered, tables-entered}
 use Rattle.aeth_components.proofs.ReadyLemmas.{AreReady-same}
 use Rattle.aeth_base.proofs.Lists.{written_back}
 use Rattle.aeth_components.specs.Components.{IsComponents, components_of}
 use Rattle.aeth_components.specs.Entering.{with_rows}
 use Rattle.aeth_components.specs.Frames.{frame_of}
+use Rattle.aeth_components.specs.Injecting.{AreInjecting, entries_of}
 use Rattle.aeth_components.specs.Resting.{holding_of}
 use Rattle.aeth_components.specs.Turns.{AreReady}
 
@@ -32,4 +33,8 @@ invariant_of-self c =
           (map holding_of (with_rows rows all.parts.items)) all.wires all.turns
           (frames-entered rows all.parts.items) (holdings-entered rows all.parts.items)
           c.self.invariant.1),
+      subst (λ (tables : List (List (Option ℕ))). AreInjecting tables
+          all.turns.injecting.slots.items)
+          (sym (ap (map entries_of) parts ∙ tables-entered rows all.parts.items))
+          c.self.invariant.2,
     )

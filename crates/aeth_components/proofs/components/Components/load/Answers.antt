@@ -24,4 +24,5 @@ invariant_of-self c =
             few = state.few;
           }),
       c.self.invariant.1,
+      c.self.invariant.2,
     )

@@ -4,11 +4,12 @@ use Rattle.aeth_components.proofs.components.Components.prepare.Goals as goal
 use Rattle.aeth_components.proofs.CycleLemmas.{IsComponents-switched}
 use Rattle.aeth_components.proofs.HoldingLemmas.{holdings-switched}
 use Rattle.aeth_components.proofs.PartLemmas.{frames-switched}
-use Rattle.aeth_components.proofs.ReadyLemmas.{AreReady-same}
+use Rattle.aeth_components.proofs.ReadyLemmas.{AreReady-begun, AreReady-same}
 use Rattle.aeth_base.proofs.Lists.{written_back}
 use Rattle.aeth_components.specs.Changes.{switched}
 use Rattle.aeth_components.specs.Components.{IsComponents, components_of}
 use Rattle.aeth_components.specs.Frames.{frame_of}
+use Rattle.aeth_components.specs.Injecting.{AreInjecting, entries_of}
 use Rattle.aeth_components.specs.Resting.{holding_of}
 use Rattle.aeth_components.specs.Turns.{AreReady}
 
@@ -17,20 +18,28 @@ pub invariant_of-self : goal.invariant_of-self
 invariant_of-self c =
     let all = c.self.inside in
     let events = c.args.events.now in
+    let written : take all.parts.len (c.switch.new.parts
+    ++ drop (length c.switch.new.parts) all.parts.items) ≡ c.switch.new.parts =
+    written_back all.parts.items c.switch.new.parts all.parts.len all.parts.ok.0
+    (c.switch.auto.parts ∙ ap length c.deref_mut.ensures.value) in
     let parts : take all.parts.len (c.switch.new.parts
     ++ drop (length c.switch.new.parts) all.parts.items) ≡ switched events all.parts.items =
-    written_back all.parts.items c.switch.new.parts all.parts.len all.parts.ok.0
-    (c.switch.auto.parts ∙ ap length c.deref_mut.ensures.value)
-    ∙ c.switch.ensures.parts ∙ ap (switched events) c.deref_mut.ensures.value in (
+    written ∙ c.switch.ensures.parts ∙ ap (switched events) c.deref_mut.ensures.value in
+    let turns = record all.turns { injecting = c.switch.new.injecting } in (
       subst (λ (parts : List Part). IsComponents (components_of parts all.wires all.channels.lanes
           all.channels.words all.landings.items all.flits.items)) (sym parts)
           (IsComponents-switched events (components_of all.parts.items all.wires all.channels.lanes
           all.channels.words all.landings.items all.flits.items) c.self.invariant.0),
       subst (λ (parts : List Part). AreReady (map frame_of parts) (map holding_of parts) all.wires
-          all.turns) (sym parts)
+          turns) (sym parts)
           (AreReady-same (map frame_of all.parts.items)
           (map frame_of (switched events all.parts.items)) (map holding_of all.parts.items)
-          (map holding_of (switched events all.parts.items)) all.wires all.turns
+          (map holding_of (switched events all.parts.items)) all.wires turns
           (frames-switched events all.parts.items) (holdings-switched events all.parts.items)
-          c.self.invariant.1),
+          (AreReady-begun (map frame_of all.parts.items) (map holding_of all.parts.items) all.wires
+          all.turns all.turns.turn c.switch.new.injecting c.self.invariant.1)),
+      subst (λ (parts : List Part). AreInjecting (map entries_of parts)
+          c.switch.new.injecting.slots.items)
+          (sym written)
+          c.switch.ensures.injecting,
     )

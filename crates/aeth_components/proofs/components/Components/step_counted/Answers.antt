@@ -16,6 +16,7 @@ use Rattle.aeth_components.specs.Components.{ComponentsState, Cycle, IsComponent
 use Rattle.aeth_components.specs.Components.{components_of, ready_of}
 use Rattle.aeth_components.specs.Counting.{counted, flits_counted, noted}
 use Rattle.aeth_components.specs.Frames.{frame_of}
+use Rattle.aeth_components.specs.Injecting.{AreInjecting, entries_of}
 use Rattle.aeth_components.specs.Lanes.{IsLane}
 use Rattle.aeth_components.specs.Resting.{holding_of}
 use Rattle.aeth_components.specs.Turns.{AreReady, flits_on}
@@ -173,9 +174,18 @@ run-requires-clause-ready g c =
     subst (λ (turns : Turns). AreReady (map frame_of c.deref_mut.result.now)
     (map holding_of c.deref_mut.result.now) all.wires turns) (sym c.begin.ensures)
     (AreReady-begun (map frame_of c.deref_mut.result.now) (map holding_of c.deref_mut.result.now)
-    all.wires all.turns c.begin.new.self.turn
+    all.wires all.turns c.begin.new.self.turn all.turns.injecting
     (subst (λ (parts : List Part). AreReady (map frame_of parts) (map holding_of parts) all.wires
     all.turns) (sym c.deref_mut.ensures.value) c.self.invariant.1))
+
+-- So it is with who may inject.
+pub run-requires-clause-injecting : goal.run-requires-clause-injecting
+run-requires-clause-injecting g c =
+    let all = c.self.inside in
+    subst (λ (turns : Turns). AreInjecting (map entries_of c.deref_mut.result.now)
+    turns.injecting.slots.items) (sym c.begin.ensures)
+    (subst (λ (parts : List Part). AreInjecting (map entries_of parts)
+    all.turns.injecting.slots.items) (sym c.deref_mut.ensures.value) c.self.invariant.2)
 
 -- What holds of components still holds.
 pub invariant_of-self : goal.invariant_of-self
@@ -191,6 +201,8 @@ invariant_of-self g c =
           (counts g counting) (notes g counting) (tallies g tally) c.self.invariant.0 (sound g run)),
       subst (λ (parts : List Part). AreReady (map frame_of parts) (map holding_of parts)
           c.run.new.wires c.run.new.turns) (sym (run_parts g run)) c.run.ensures.ready,
+      subst (λ (parts : List Part). AreInjecting (map entries_of parts)
+          c.run.new.turns.injecting.slots.items) (sym (run_parts g run)) c.run.ensures.injecting,
     )
 
 -- A cycle.

@@ -1,5 +1,7 @@
 use Rattle.std.proofs.Common.{◌≡◌, ◌++◌, ◌∙◌, ap, arith, drop, length, List, ℕ, subst, sym, take}
 use Rattle.aeth_base.proofs.Lists.{written_back}
+use Rattle.aeth_base.specs.Marks.{bit_of}
+use Rattle.aeth_components.proofs.InjectingLemmas.{AreInjecting-sends}
 use Rattle.aeth_components.proofs.turns.Turns.list_drive.Goals as goal
 use Rattle.aeth_components.proofs.turns.Turns.list_drive.Goals.{After-list_from}
 use Rattle.aeth_components.specs.Turns.{AreListed}
@@ -11,6 +13,13 @@ written : (c : goal.After-list_from)
 written c =
     written_back c.args.self.now.numbers.items c.list_from.new.numbers c.args.self.now.numbers.len
     c.args.self.now.numbers.ok.0 (c.list_from.auto.numbers ∙ ap length c.deref_mut.ensures.value)
+
+-- An interface that sends has an entry for the slot of the cycle, so it is marked there.
+pub mark_drive-requires-clause-senders : goal.mark_drive-requires-clause-senders
+mark_drive-requires-clause-senders c = λ number part below at sends.
+    ap (λ (marks : List ℕ). bit_of marks number) c.at.ensures
+    ∙ AreInjecting-sends c.args.cycle c.args.parts.now c.args.self.now.injecting.slots.items
+    c.requires.injecting number part at sends
 
 -- The numbers fit 32 bits, and have their marks.
 pub list_from-requires-clause-few : goal.list_from-requires-clause-few
