@@ -15,14 +15,14 @@ use Rattle.aeth_router.specs.declared.part.Part.{Part}
 use Rattle.aeth_components.specs.declared.homes.Homes.{Homes}
 use Rattle.aeth_components.specs.declared.lane.ChannelEnd.{ChannelEnd}
 use Rattle.aeth_components.specs.declared.lane.Lane.{Lane}
-use Rattle.aeth_components.specs.Busy.{AreMarked, HandsNothing, IsIdle}
+use Rattle.aeth_components.specs.Busy.{AreMarked, IsIdle}
 use Rattle.aeth_components.specs.Counting.{brings, brought_at, counted}
 use Rattle.aeth_components.specs.Homes.{AreBrought, AreHomes, AreTold, home_at}
 use Rattle.aeth_components.specs.Lanes.{IsLane, is_open}
 use Rattle.aeth_components.specs.Phases.{pulled, refilled}
 use Rattle.aeth_components.specs.Queues.{brought_by}
-use Rattle.aeth_components.proofs.CountingLemmas.{brings-none, brings-silent, counted-closed}
-use Rattle.aeth_components.proofs.CountingLemmas.{counted-none, counted-open}
+use Rattle.aeth_components.proofs.CountingLemmas.{brings-none, brings-silent}
+use Rattle.aeth_components.proofs.CountingLemmas.{counted-none}
 use Rattle.aeth_components.proofs.FrameLemmas.{from-map}
 
 -- Whether a channel is noted at its place.
@@ -194,15 +194,8 @@ AreMarked-map IsStill masks lanes change kept marked = record {
       subst IsStill (sym found.2) (kept found.0 still);
 }
 
--- Counting leaves idle channels so, and those that hand nothing on.
+-- Counting leaves idle channels so.
 pub IsIdle-counted : (cycle : ℕ) (parts : List Part) (lane : Lane) → IsIdle lane
     → IsIdle (counted cycle parts lane)
 IsIdle-counted cycle parts lane idle =
     subst IsIdle (sym (counted-none cycle parts lane idle.landed)) idle
-
-pub HandsNothing-counted : (cycle : ℕ) (parts : List Part) (lane : Lane) → HandsNothing lane
-    → HandsNothing (counted cycle parts lane)
-HandsNothing-counted cycle parts lane none = elim (cases_Bool (is_open lane cycle)) [
-  | inl opened ↦ subst HandsNothing (sym (counted-open cycle parts lane opened)) none
-  | inr closed ↦ subst HandsNothing (sym (counted-closed cycle parts lane closed)) none
-]

@@ -4,26 +4,28 @@ pub mod CountingLemmas
 mod CycleLemmas
 mod EndLemmas
 pub mod EnteringLemmas
-pub mod FrameLemmas
 mod FirstLemmas
+pub mod FrameLemmas
+mod FullLemmas
 mod HalvesLemmas
+pub mod HoldingLemmas
 mod HomeLemmas
 mod InjectingLemmas
-pub mod HoldingLemmas
 pub mod KeptLemmas
 pub mod KindLemmas
 pub mod LaneLemmas
 mod ListedLemmas
+pub mod MadeLemmas
+pub mod MadeParts
 mod MarkLemmas
 mod MarkedLemmas
 mod NextLemmas
-pub mod MadeParts
-pub mod MadeLemmas
 pub mod NoteLemmas
 pub mod PartLemmas
 pub mod QueueLemmas
 mod ReadyLemmas
 mod ReceiverLemmas
+mod RoomLemmas
 mod SenderLemmas
 mod SendingLemmas
 mod SkipLemmas
@@ -33,3 +35,5 @@ mod TableLemmas
 pub mod TurnLemmas
 mod TurnsAlone
 mod UnlistedLemmas
+mod WaitingLemmas
+mod WakingLemmas

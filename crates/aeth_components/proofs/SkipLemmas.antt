@@ -94,47 +94,44 @@ module _ (turn : List Part → Lane → List Part × Lane) where
       let last : number ≡ length before.lanes = omega arith in
       so_far ∙ ap (λ n. fold (turned turn) before (range_with_len 0 n)) last
 
-  module _ {IsStill : Lane → Type 0}
-      (still : (parts : List Part) (lane : Lane) → IsStill lane → turn parts lane ≡ (parts, lane))
-    where
-      -- A channel with nothing to do is left alone.
-      turned-still : (moment : Moment) (number : ℕ) (found : Option Lane)
-          → slice_get moment.lanes number ≡ found
-          → ((lane : Lane) → found ≡ Some lane → IsStill lane) → turned turn moment number ≡ moment
-      turned-still moment number None at none = ap (turned_at turn moment number) at
-      turned-still moment number (Some lane) at none =
-          ap (turned_at turn moment number) at
-          ∙ ap (turned_by moment number) (still moment.parts lane (none lane refl))
-          ∙ ap (λ (lanes : List Lane). record { parts = moment.parts; lanes = lanes })
-          (set-there moment.lanes number lane at)
+  -- A channel with nothing to do is left alone.
+  turned-still : (moment : Moment) (number : ℕ) (found : Option Lane)
+      → slice_get moment.lanes number ≡ found
+      → ((lane : Lane) → found ≡ Some lane → turn moment.parts lane ≡ (moment.parts, lane))
+      → turned turn moment number ≡ moment
+  turned-still moment number None at none = ap (turned_at turn moment number) at
+  turned-still moment number (Some lane) at none =
+      ap (turned_at turn moment number) at ∙ ap (turned_by moment number) (none lane refl)
+      ∙ ap (λ (lanes : List Lane). record { parts = moment.parts; lanes = lanes })
+      (set-there moment.lanes number lane at)
 
-      turns-skipped : (before now : Moment) (number gap : ℕ)
-          → now ≡ fold (turned turn) before (range_with_len 0 number)
-          → AreStill IsStill now.lanes number (number + gap)
-          → now ≡ fold (turned turn) before (range_with_len 0 (number + gap))
-      turns-skipped before now number zero so_far none =
-          let same : number ≡ number + 0 = omega arith in
-          so_far ∙ ap (λ n. fold (turned turn) before (range_with_len 0 n)) same
-      turns-skipped before now number (suc gap) so_far none =
-          let place = number + gap in
-          let next : place + 1 ≡ number + suc gap = omega arith in
-          let less = turns-skipped before now number gap so_far
-          (λ other lane from below. none other lane from (omega arith)) in
-          turned-more before now now place less
-          (sym (turned-still now place (slice_get now.lanes place) refl
-          (λ lane. none place lane (omega arith) (omega arith))))
-          ∙ ap (λ n. fold (turned turn) before (range_with_len 0 n)) next
+  turns-skipped : (before now : Moment) (number gap : ℕ)
+      → now ≡ fold (turned turn) before (range_with_len 0 number)
+      → AreStill (λ lane. turn now.parts lane ≡ (now.parts, lane)) now.lanes number (number + gap)
+      → now ≡ fold (turned turn) before (range_with_len 0 (number + gap))
+  turns-skipped before now number zero so_far none =
+      let same : number ≡ number + 0 = omega arith in
+      so_far ∙ ap (λ n. fold (turned turn) before (range_with_len 0 n)) same
+  turns-skipped before now number (suc gap) so_far none =
+      let place = number + gap in
+      let next : place + 1 ≡ number + suc gap = omega arith in
+      let less = turns-skipped before now number gap so_far
+      (λ other lane from below. none other lane from (omega arith)) in
+      turned-more before now now place less
+      (sym (turned-still now place (slice_get now.lanes place) refl
+      (λ lane. none place lane (omega arith) (omega arith))))
+      ∙ ap (λ n. fold (turned turn) before (range_with_len 0 n)) next
 
-      -- So turns up to the next channel with something to do change nothing.
-      pub turns-until : (before now : Moment) (number next : ℕ) → number ≤ next
-          → now ≡ fold (turned turn) before (range_with_len 0 number)
-          → AreStill IsStill now.lanes number next
-          → now ≡ fold (turned turn) before (range_with_len 0 next)
-      turns-until before now number next order so_far none =
-          let there : number + (next - number) ≡ next = omega arith in
-          turns-skipped before now number (next - number) so_far
-          (λ other lane from below. none other lane from (omega arith))
-          ∙ ap (λ n. fold (turned turn) before (range_with_len 0 n)) there
+  -- So turns up to the next channel with something to do change nothing.
+  pub turns-until : (before now : Moment) (number next : ℕ) → number ≤ next
+      → now ≡ fold (turned turn) before (range_with_len 0 number)
+      → AreStill (λ lane. turn now.parts lane ≡ (now.parts, lane)) now.lanes number next
+      → now ≡ fold (turned turn) before (range_with_len 0 next)
+  turns-until before now number next order so_far none =
+      let there : number + (next - number) ≡ next = omega arith in
+      turns-skipped before now number (next - number) so_far
+      (λ other lane from below. none other lane from (omega arith))
+      ∙ ap (λ n. fold (turned turn) before (range_with_len 0 n)) there
 
 module _ (cycle : ℕ) (parts : List Part) (before : List Lane) (first : List ℕ) where
   -- The channels below a number are counted, and their landings noted.

@@ -6,19 +6,19 @@ use Rattle.std.proofs.lemmas.Bool.{cases_Bool}
 use Rattle.aeth_components.specs.declared.lane.ChannelEnd.{ChannelEnd}
 use Rattle.aeth_router.specs.declared.part.Part.TheVariants.{Interface, Router, Stage, TableRouter}
 use Rattle.std.proofs.Common.{List, [], ◌∷◌, ◌++◌, length, fold, Option, Some, None}
-use Rattle.std.proofs.Common.{slice_get}
+use Rattle.std.proofs.Common.{slice_get, take}
 use Rattle.std.specs.List.{All}
 use Rattle.std.proofs.lemmas.List.{length-take}
 use Rattle.std.proofs.lemmas.List.Elements.{All-set}
 use Rattle.std.proofs.lemmas.Option.{get_or_from_slice_get, slice_get_within}
 use Rattle.aeth_router.specs.declared.part.Part.{Part}
 use Rattle.aeth_components.specs.declared.lane.Lane.{Lane}
-use Rattle.std.proofs.lemmas.List.{append-nil, take_all}
+use Rattle.std.proofs.lemmas.List.{append-nil}
 use Rattle.std.proofs.Common.{ap₂}
 use Rattle.aeth_components.proofs.FrameLemmas.{frame_of-changed}
 use Rattle.aeth_components.proofs.PartLemmas.{views-with_part}
 use Rattle.aeth_components.proofs.QueueLemmas.{changed-same}
-use Rattle.aeth_components.specs.Busy.{HandsNothing, TakesNothing}
+use Rattle.aeth_components.specs.Busy.{TakesNothing}
 use Rattle.aeth_components.specs.Changes.{at_end, on_interface, told_at, told_by, with_part}
 use Rattle.aeth_components.specs.Frames.{frame_of}
 use Rattle.aeth_components.specs.Lanes.{IsLane, is_open}
@@ -92,31 +92,36 @@ pub pulled-closed : (cycle : ℕ) (parts : List Part) (lane : Lane)
     → is_open lane cycle ≡ false → pulled cycle parts lane ≡ (parts, lane)
 pulled-closed cycle parts lane closed = rw closed refl
 
--- A change that changes no queue changes no component.
-with_part-same : (number : ℕ) (change : Part → Part) → ((part : Part) → change part ≡ part)
-    → (parts : List Part) → with_part number change parts ≡ parts
-with_part-same number change same [] = refl
-with_part-same zero change same (part ∷ parts) =
-    ap (λ (part : Part). part ∷ parts) (same part)
-with_part-same (suc number) change same (part ∷ parts) =
-    ap (λ (rest : List Part). part ∷ rest) (with_part-same number change same parts)
+-- A change that changes nothing of the component at its place changes none.
+with_part-same : (number : ℕ) (change : Part → Part) (parts : List Part)
+    → ((part : Part) → slice_get parts number ≡ Some part → change part ≡ part)
+    → with_part number change parts ≡ parts
+with_part-same number change [] same = refl
+with_part-same zero change (part ∷ parts) same =
+    ap (λ (part : Part). part ∷ parts) (same part refl)
+with_part-same (suc number) change (part ∷ parts) same =
+    ap (λ (rest : List Part). part ∷ rest)
+    (with_part-same number change parts (λ other at. same other at))
 
-on_interface-same : (queue : ℕ) (change : QueueState → QueueState)
-    → ((state : QueueState) → change state ≡ state) → (part : Part)
+on_interface-same : (queue : ℕ) (change : QueueState → QueueState) (part : Part)
+    → ((ni : InterfaceState) → part ≡ Interface ni
+    → change (queue_at ni.queues queue) ≡ queue_at ni.queues queue)
     → on_interface (changed queue change) part ≡ part
-on_interface-same queue change same (Interface ni) =
-    ap (λ (ni : InterfaceState). Interface ni)
-    (changed-same queue change ni (same (queue_at ni.queues queue)))
-on_interface-same queue change same (Router router) = refl
-on_interface-same queue change same (TableRouter router) = refl
-on_interface-same queue change same (Stage stage) = refl
+on_interface-same queue change (Interface ni) same =
+    ap (λ (ni : InterfaceState). Interface ni) (changed-same queue change ni (same ni refl))
+on_interface-same queue change (Router router) same = refl
+on_interface-same queue change (TableRouter router) same = refl
+on_interface-same queue change (Stage stage) same = refl
 
-at_end-same : (end : ChannelEnd) (change : QueueState → QueueState)
-    → ((state : QueueState) → change state ≡ state) → (parts : List Part)
+-- So does one that changes nothing of the queue there.
+at_end-same : (end : ChannelEnd) (change : QueueState → QueueState) (parts : List Part)
+    → ((ni : InterfaceState) → slice_get parts end.ni.0 ≡ Some (Interface ni)
+    → change (queue_at ni.queues end.queue) ≡ queue_at ni.queues end.queue)
     → at_end end change parts ≡ parts
-at_end-same end change same parts =
-    with_part-same end.ni.0 (on_interface (changed end.queue change))
-    (on_interface-same end.queue change same) parts
+at_end-same end change parts same =
+    with_part-same end.ni.0 (on_interface (changed end.queue change)) parts
+    (λ part at. on_interface-same end.queue change part
+    (λ ni is. same ni (at ∙ ap (λ (part : Part). Some part) is)))
 
 -- What is told of a component is bounded where each queue tells so much at most.
 told_by-le : (queue most : ℕ) (tells : QueueState → ℕ)
@@ -143,19 +148,29 @@ pub fits-le : (words : List ℕ) (queue : QueueState) → fits words queue ≤ l
 fits-le words queue =
     let size = length-take (waiting_words - length queue.waiting) words in omega arith
 
--- Where no word is left, none is handed on.
-filled-none : (queue : QueueState) → filled [] queue ≡ queue
-filled-none queue =
-    let none = take_all (waiting_words - length queue.waiting) [] (omega arith) in
-    ap (λ (words : List ℕ). record queue { waiting = queue.waiting ++ words }) none
+-- Where no word fits, none is handed on.
+empty-none : {X : Type 0} (xs : List X) → length xs ≡ 0 → xs ≡ []
+empty-none [] none = refl
+empty-none (x ∷ xs) none = absurd (omega (arith, none))
+
+filled-none : (words : List ℕ) (queue : QueueState) → fits words queue ≡ 0
+    → filled words queue ≡ queue
+filled-none words queue none =
+    ap (λ (words : List ℕ). record queue { waiting = queue.waiting ++ words })
+    (empty-none (take (waiting_words - length queue.waiting) words) none)
     ∙ ap (λ (words : List ℕ). record queue { waiting = words }) (append-nil queue.waiting)
 
-handed_on-none : (parts : List Part) (lane : Lane) → handed_on [] parts lane ≡ (parts, lane)
-handed_on-none parts lane =
-    let told = told_at-le lane.sender 0 (fits []) (fits-le []) parts in
-    let same : lane.handed + told_at lane.sender (fits []) parts ≡ lane.handed = omega arith in
+pub handed_on-none : (left : List ℕ) (parts : List Part) (lane : Lane)
+    → told_at lane.sender (fits left) parts ≡ 0 → handed_on left parts lane ≡ (parts, lane)
+handed_on-none left parts lane none =
+    let same : lane.handed + told_at lane.sender (fits left) parts ≡ lane.handed =
+    omega (arith, none) in
     ap₂ (λ (parts : List Part) (n : ℕ). (parts, record lane { handed = n }))
-    (at_end-same lane.sender (filled []) filled-none parts) same
+    (at_end-same lane.sender (filled left) parts
+    (λ ni at. filled-none left (queue_at ni.queues lane.sender.queue)
+    (sym (ap (λ (found : Option Part). option_map_or (told_by lane.sender.queue (fits left)) found 0)
+    at) ∙ none)))
+    same
 
 pub refilled-none : (words : List ℕ) (cycle : ℕ) (parts : List Part) (lane : Lane)
     → lane.accepted ≤ lane.handed → refilled words cycle parts lane ≡ (parts, lane)
@@ -163,9 +178,12 @@ refilled-none words cycle parts lane none =
     elim (cases_Bool (is_open lane cycle)) [
       | inl opened ↦
           let nothing : lane.first + lane.accepted - (lane.first + lane.handed) ≡ 0 = omega arith in
-          let left : left_of words lane ≡ [] = rw nothing refl in
+          let left = left_of words lane in
+          let few = length-take (lane.first + lane.accepted - (lane.first + lane.handed))
+          (drop (lane.first + lane.handed) words) in
+          let told = told_at-le lane.sender (length left) (fits left) (fits-le left) parts in
           refilled-open words cycle parts lane opened
-          ∙ ap (λ (left : List ℕ). handed_on left parts lane) left ∙ handed_on-none parts lane
+          ∙ handed_on-none left parts lane (omega (arith, nothing, few, told))
       | inr closed ↦ refilled-closed words cycle parts lane closed
     ]
 
@@ -178,7 +196,7 @@ drawn_out-none parts lane none =
     let same : lane.taken + told_at lane.receiver (draws (asked_of lane)) parts ≡ lane.taken =
     omega arith in
     ap₂ (λ (parts : List Part) (n : ℕ). (parts, record lane { taken = n }))
-    (at_end-same lane.receiver (drawn (asked_of lane)) (λ state. rw none refl) parts) same
+    (at_end-same lane.receiver (drawn (asked_of lane)) parts (λ ni at. rw none refl)) same
 
 asked_of-none : (lane : Lane) → TakesNothing lane → asked_of lane ≡ 0
 asked_of-none lane none = elim none [
@@ -196,7 +214,7 @@ pulled-none cycle parts lane none =
       | inr closed ↦ pulled-closed cycle parts lane closed
     ]
 
--- Refilling keeps which receivers take nothing, and taking which channels hand nothing on.
+-- Refilling keeps which receivers take nothing.
 pub TakesNothing-refilled : (words : List ℕ) (cycle : ℕ) (parts : List Part) (lane : Lane)
     → TakesNothing lane → TakesNothing (refilled words cycle parts lane).1
 TakesNothing-refilled words cycle parts lane none =
@@ -207,18 +225,6 @@ TakesNothing-refilled words cycle parts lane none =
       | inr closed ↦
           subst (λ (done : List Part × Lane). TakesNothing done.1)
           (sym (refilled-closed words cycle parts lane closed)) none
-    ]
-
-pub HandsNothing-pulled : (cycle : ℕ) (parts : List Part) (lane : Lane)
-    → HandsNothing lane → HandsNothing (pulled cycle parts lane).1
-HandsNothing-pulled cycle parts lane none =
-    elim (cases_Bool (is_open lane cycle)) [
-      | inl opened ↦
-          subst (λ (done : List Part × Lane). HandsNothing done.1)
-          (sym (pulled-open cycle parts lane opened)) none
-      | inr closed ↦
-          subst (λ (done : List Part × Lane). HandsNothing done.1)
-          (sym (pulled-closed cycle parts lane closed)) none
     ]
 
 -- A turn keeps the frames.

@@ -9,6 +9,7 @@ pub mod Entering
 pub mod Events
 pub mod First
 pub mod Frames
+pub mod Handing
 pub mod Homes
 pub mod Injecting
 pub mod Lanes

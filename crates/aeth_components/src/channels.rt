@@ -1,19 +1,22 @@
 // The channels of a network, and which of them have something to do.
 
-ghost use Rattle.std.specs.Prelude.{◌≡◌, ◌<◌, ◌≤◌, ◌+◌, ◌^◌, All, IfOk, fold, length, map};
+ghost use Rattle.std.specs.Prelude.{◌≡◌, ◌<◌, ◌≤◌, ◌+◌, ◌^◌, ℕ, All, IfOk, fold, length, map};
 ghost use Rattle.std.specs.Prelude.{slice_set};
-ghost use Rattle.aeth_components.specs.Busy.{HandsNothing, IsIdle, TakesNothing};
+ghost use Rattle.aeth_base.specs.Marks.{bit_of, room_of};
+ghost use Rattle.aeth_components.specs.Busy.{IsIdle, TakesNothing};
 ghost use Rattle.aeth_components.specs.Channels.{AreStill, OfLane};
 ghost use Rattle.aeth_components.specs.Counting.{counted, noted};
 ghost use Rattle.aeth_components.specs.Frames.{frame_of};
 ghost use Rattle.aeth_components.specs.Homes.{AreBrought};
 ghost use Rattle.aeth_components.specs.Lanes.{IsLane, with_lane};
 ghost use Rattle.aeth_components.specs.Phases.{in_turn, pulled, refilled, turned};
+ghost use Rattle.aeth_components.specs.Handing.{AreHanding};
 
 use crate::counting::{count_one, count_told};
+use crate::handing::Handing;
 use crate::homes::{Homes, tell};
 use crate::lane::Lane;
-use crate::phases::{close, refill_one, rest, settle, take_one};
+use crate::phases::{refill_one, rest, settle, take_one};
 use aeth_base::{Marks, NoMemory};
 use aeth_clocked::Wires;
 use aeth_router::Part;
@@ -26,10 +29,8 @@ use std::marker::Model;
 pub(crate) struct Channels {
     lanes: Vec<Lane>,
     words: Vec<u32>,
-    // Marks of the channels that may not be idle, of those that may hand words on, and of those whose
-    // receivers may take words.
+    // Marks of the channels that may not be idle, and of those whose receivers may take words.
     busy: Marks,
-    handing: Marks,
     taking: Marks,
     // At which queues the words of channels land, and marks of those that may get words in a cycle.
     homes: Homes,
@@ -44,7 +45,7 @@ impl Model for Channels {
 
     ghost view = { λ all. record { lanes = all.lanes.items; words = all.words.items } };
 
-    ghost invariant = { λ all. AreNoted all.busy all.handing all.taking all.told all.homes
+    ghost invariant = { λ all. AreNoted all.busy all.taking all.told all.homes
         all.lanes.items };
 }
 
@@ -58,7 +59,6 @@ impl Channels {
         ensures { IfOk result (λ made. made ≡ record { lanes = lanes.items; words = words.items }) }
     {
         let busy = Marks::all(alloc, lanes.len())?;
-        let handing = Marks::all(alloc, lanes.len())?;
         let taking = Marks::all(alloc, lanes.len())?;
         let told = Marks::none(alloc, lanes.len())?;
         let homes = Homes::new(alloc, &lanes)?;
@@ -66,7 +66,6 @@ impl Channels {
             lanes,
             words,
             busy,
-            handing,
             taking,
             homes,
             told,
@@ -87,25 +86,26 @@ impl Channels {
     {
         self.lanes[number] = lane;
         self.busy.mark(number);
-        self.handing.mark(number);
         self.taking.mark(number);
         self.homes.note(number, &lane);
     }
 
     /// Each channel in its turn hands its accepted words to its source queue.
-    pub(crate) fn refill(&mut self, parts: &mut [Part], cycle: u32)
-        requires { All (IsLane (length self.old.words) (length parts.old)) self.old.lanes }
+    pub(crate) fn refill(&mut self, handing: &mut Handing, parts: &mut [Part], cycle: u32)
+        requires lanes { All (IsLane (length self.old.words) (length parts.old)) self.old.lanes }
+        requires handing { AreHanding parts.old self.old.lanes handing.old }
         ensures turns { record { parts = parts.new; lanes = self.new.lanes }
             ≡ in_turn (refilled self.old.words cycle)
             (record { parts = parts.old; lanes = self.old.lanes }) }
         ensures words { self.new.words ≡ self.old.words }
         ensures lanes { All (IsLane (length self.new.words) (length parts.new)) self.new.lanes }
         ensures frames { map frame_of parts.new ≡ map frame_of parts.old }
+        ensures handing { AreHanding parts.new self.new.lanes handing.new }
     {
-        let mut number = self.next_handing(0);
+        let mut number = self.next_handing(handing, 0);
         'turns: while number < self.len() {
-            self.refill_one(parts, number, cycle);
-            number = self.next_handing(number + 1);
+            self.refill_one(handing, parts, number, cycle);
+            number = self.next_handing(handing, number + 1);
         }
     }
 
@@ -183,14 +183,18 @@ impl Channels {
         self.lanes.len()
     }
 
-    // The first channel from a number on that may hand words on.
-    fn next_handing(&self, from: usize) -> usize
-        requires { from ≤ length self.now.lanes }
+    // The first channel from a number on that is marked to hand words on.
+    fn next_handing(&self, handing: &Handing, from: usize) -> usize
+        requires from { from ≤ length self.now.lanes }
+        requires room { length self.now.lanes < room_of handing.now.marks }
         ensures from { from ≤ result }
         ensures end { result ≤ length self.now.lanes }
-        ensures still { AreStill HandsNothing self.now.lanes from result }
+        ensures none { (number : ℕ) → from ≤ number → number < result
+            → bit_of handing.now.marks number ≡ 0 }
+        ensures found { result < length self.now.lanes
+            → bit_of handing.now.marks result ≡ 1 }
     {
-        self.handing.next(from, self.lanes.len())
+        handing.marks.next(from, self.lanes.len())
     }
 
     /// The first channel from a number on whose receiver may take words, as it stands.
@@ -214,16 +218,19 @@ impl Channels {
     }
 
     // One channel hands its accepted words on.
-    fn refill_one(&mut self, parts: &mut [Part], number: usize, cycle: u32)
+    fn refill_one(&mut self, handing: &mut Handing, parts: &mut [Part], number: usize, cycle: u32)
         requires number { number < length self.old.lanes }
         requires lanes { All (IsLane (length self.old.words) (length parts.old)) self.old.lanes }
+        requires handing { AreHanding parts.old self.old.lanes handing.old }
+        requires marked { bit_of handing.old.marks number ≡ 1 }
         ensures turn { record { parts = parts.new; lanes = self.new.lanes }
             ≡ turned (refilled self.old.words cycle)
             (record { parts = parts.old; lanes = self.old.lanes }) number }
         ensures words { self.new.words ≡ self.old.words }
+        ensures handing { AreHanding parts.new self.new.lanes handing.new }
     {
         refill_one(parts, &mut self.lanes[number], &self.words, cycle);
-        close(&mut self.handing, &self.lanes, number);
+        handing.settle(&self.lanes[number], number, cycle);
     }
 
     // One receiver takes.

@@ -17,6 +17,7 @@ ghost use Rattle.aeth_components.specs.Frames.{IsWired, frame_of};
 ghost use Rattle.aeth_components.specs.Injecting.{AreInjecting, entries_of};
 ghost use Rattle.aeth_components.specs.Lanes.{IsLane, with_lane};
 ghost use Rattle.aeth_components.specs.Resting.{holding_of};
+ghost use Rattle.aeth_components.specs.Handing.{AreHanding};
 ghost use Rattle.aeth_components.specs.Turns.{AreReady, flits_on};
 
 use crate::channels::Channels;
@@ -24,6 +25,7 @@ use crate::counting::tally;
 use crate::cycle::{drive, latch};
 use crate::ends::are_empty;
 use crate::event::Event;
+use crate::handing::Handing;
 use crate::lane::Lane;
 use crate::making::{RouterKind, parts_of};
 use crate::parts::enter_all;
@@ -50,6 +52,7 @@ pub struct Components {
     wires: Wires,
     turns: Turns,
     channels: Channels,
+    handing: Handing,
     landings: Vec<u32>,
     flits: Vec<u32>,
 }
@@ -61,6 +64,7 @@ impl Model for Components {
     ghost use Rattle.aeth_components.specs.Frames.{frame_of};
     ghost use Rattle.aeth_components.specs.Injecting.{AreInjecting, entries_of};
     ghost use Rattle.aeth_components.specs.Resting.{holding_of};
+    ghost use Rattle.aeth_components.specs.Handing.{AreHanding};
     ghost use Rattle.aeth_components.specs.Turns.{AreReady};
 
     ghost Value = { ComponentsState };
@@ -72,7 +76,8 @@ impl Model for Components {
         all.channels.lanes all.channels.words all.landings.items all.flits.items)
         × AreReady (map frame_of all.parts.items) (map holding_of all.parts.items) all.wires
         all.turns
-        × AreInjecting (map entries_of all.parts.items) all.turns.injecting.slots.items };
+        × AreInjecting (map entries_of all.parts.items) all.turns.injecting.slots.items
+        × AreHanding all.parts.items all.channels.lanes all.handing };
 }
 
 impl Components {
@@ -101,6 +106,7 @@ impl Components {
         let wires = Wires::new(alloc, chip.wires())?;
         let turns = Turns::new(alloc, chip)?;
         let landings = vec![in alloc; 0; words.len()]?;
+        let handing = Handing::new(alloc, lanes.len())?;
         let channels = Channels::new(alloc, lanes, words)?;
         let flits = vec![in alloc; 0; chip.links() as usize]?;
         Ok(Components {
@@ -108,6 +114,7 @@ impl Components {
             wires,
             turns,
             channels,
+            handing,
             landings,
             flits,
         })
@@ -189,6 +196,7 @@ impl Components {
         ensures { self.new ≡ record self.old { lanes = slice_set self.old.lanes channel lane } }
     {
         self.channels.load(channel, lane);
+        self.handing.marks.mark(channel);
     }
 
     /// So many words of a channel's session are accepted.
@@ -232,6 +240,7 @@ impl Components {
         ensures { self.new ≡ record self.old { parts = switched events.now self.old.parts } }
     {
         switch(&mut self.parts, &mut self.turns.injecting, events);
+        self.handing.wake_for(events);
     }
 
     /// One cycle. It takes no memory and can't fail, and every order gives the same.
@@ -266,6 +275,7 @@ impl Components {
             &mut self.parts,
             &mut self.wires,
             &mut self.channels,
+            &mut self.handing,
             &mut self.turns,
             cycle,
             events,
@@ -297,6 +307,7 @@ fn run<L: Ledger>(
     parts: &mut [Part],
     wires: &mut Wires,
     channels: &mut Channels,
+    handing: &mut Handing,
     turns: &mut Turns,
     cycle: u32,
     events: &[Event],
@@ -308,6 +319,7 @@ fn run<L: Ledger>(
     requires injecting { AreInjecting (map entries_of parts.old) turns.old.injecting.slots.items }
     requires lanes { All (IsLane (length channels.old.words) (length parts.old)) channels.old.lanes }
     requires events { All (IsDoable (map frame_of parts.old)) events.now }
+    requires handing { AreHanding parts.old channels.old.lanes handing.old }
     ensures runs { Runs channels.old.words events.now cycle wires.old wires.new
         (record { parts = parts.old; lanes = channels.old.lanes })
         (record { parts = parts.new; lanes = channels.new.lanes }) }
@@ -316,11 +328,14 @@ fn run<L: Ledger>(
     ensures ready { AreReady (map frame_of parts.new) (map holding_of parts.new) wires.new
         turns.new }
     ensures injecting { AreInjecting (map entries_of parts.new) turns.new.injecting.slots.items }
+    ensures handing { AreHanding parts.new channels.new.lanes handing.new }
     ensures steps { steps.new ≤ steps.old + 2 * flits_on wires.old + 2 * flits_on wires.new }
 {
     switch(parts, &mut turns.injecting, events);
-    channels.refill(parts, cycle);
-    drive(parts, turns, cycle, wires, steps);
+    handing.wake_for(events);
+    channels.refill(handing, parts, cycle);
+    let count = drive(parts, turns, cycle, wires, steps);
+    handing.wake_among(&turns.numbers[..count], turns.ends.interfaces);
     channels.take(parts, cycle);
     latch(parts, turns, wires, steps);
 }

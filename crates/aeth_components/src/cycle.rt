@@ -1,11 +1,12 @@
 // The two halves of a cycle, for components whose frames are those of a network.
 
-ghost use Rattle.std.specs.Prelude.{◌≡◌, ◌≤◌, ◌+◌, ◌*◌, length, map};
+ghost use Rattle.std.specs.Prelude.{◌≡◌, ◌≤◌, ◌+◌, ◌*◌, length, map, take};
 ghost use Rattle.aeth_router.specs.Part.{absorb_of, after_of};
 ghost use Rattle.aeth_components.specs.Components.{wires_driven};
 ghost use Rattle.aeth_components.specs.Frames.{IsWired, frame_of};
 ghost use Rattle.aeth_components.specs.Injecting.{AreInjecting, entries_of};
 ghost use Rattle.aeth_components.specs.Resting.{holding_of};
+ghost use Rattle.aeth_components.specs.Handing.{AreAmong};
 ghost use Rattle.aeth_components.specs.Turns.{AreReady, HaveDriven, flits_on, marked_of};
 
 use crate::turns::Turns;
@@ -15,14 +16,14 @@ use aeth_router::Part;
 use std::sync::ledger::Ledger;
 
 // Drives every component: those that have nothing to drive rest. All wires are emptied before, so
-// that no component takes a turn only to empty its own.
+// that no component takes a turn only to empty its own. It gives how many are listed that drive.
 pub(crate) fn drive<L: Ledger>(
     parts: &mut [Part],
     turns: &mut Turns,
     cycle: u32,
     wires: &mut Wires,
     steps: &mut Steps<L>,
-)
+) -> usize
     requires wired { IsWired (map frame_of parts.old) (length wires.old) }
     requires ready { AreReady (map frame_of parts.old) (map holding_of parts.old) wires.old
         turns.old }
@@ -36,11 +37,15 @@ pub(crate) fn drive<L: Ledger>(
     ensures injecting { turns.new.injecting ≡ turns.old.injecting }
     ensures steps { steps.new + marked_of turns.new
         ≤ steps.old + 2 * flits_on wires.old + flits_on wires.new }
+    ensures within { result ≤ length turns.new.numbers.items }
+    ensures sending { AreAmong cycle parts.old turns.new.ends.interfaces
+        (take result turns.new.numbers.items) }
 {
     let count = turns.list_drive(parts, cycle, wires);
     wires.clear();
     let numbers = &turns.numbers[..count];
     drive_some(parts, numbers, u64::from(cycle), wires, steps);
+    count
 }
 
 // Has every component latch: those that have nothing to latch rest.

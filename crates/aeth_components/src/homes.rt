@@ -14,9 +14,9 @@ use aeth_router::Part;
 use std::alloc::Global;
 
 // The interfaces, and the queues of each, that have places of their own.
-const INTERFACES: usize = 64;
+pub(crate) const INTERFACES: usize = 64;
 
-const QUEUES: usize = 32;
+pub(crate) const QUEUES: usize = 32;
 
 // What stands at the place of no channel.
 const NOBODY: usize = usize::MAX;
@@ -69,7 +69,7 @@ fn await_none(lanes: &[Lane]) -> bool
 }
 
 // The place of a queue.
-fn place_of(interface: u32, queue: u8) -> usize
+pub(crate) fn place_of(interface: u32, queue: u8) -> usize
     ensures place { result ≡ home_at interface queue }
     ensures below { result < home_count }
 {

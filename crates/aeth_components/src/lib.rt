@@ -7,6 +7,7 @@ mod counting;
 mod cycle;
 mod ends;
 mod event;
+mod handing;
 mod homes;
 mod injecting;
 mod lane;

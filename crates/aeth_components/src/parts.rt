@@ -9,6 +9,7 @@ ghost use Rattle.aeth_components.specs.Entering.{TakesRows, entered, with_rows};
 ghost use Rattle.aeth_components.specs.Events.{Suits};
 ghost use Rattle.aeth_components.specs.Frames.{frame_of};
 ghost use Rattle.aeth_components.specs.Queues.{brought_by, draws, drawn, filled, fits};
+ghost use Rattle.aeth_components.specs.Handing.{room_left};
 ghost use Rattle.aeth_components.specs.Turns.{sends_own};
 
 use crate::event::Event;
@@ -54,6 +55,7 @@ pub(crate) fn hand(part: &mut Part, queue: u8, words: &[u32]) -> u32
     ensures count { result ≡ told_by queue (fits words.now) part.old }
     ensures within { result ≤ length words.now }
     ensures part { part.new ≡ on_interface (changed queue (filled words.now)) part.old }
+    ensures full { result < length words.now → told_by queue room_left part.new ≡ 0 }
 {
     match part {
         Part::Interface(ni) => queues::hand(ni, queue, words),

@@ -1,13 +1,14 @@
 // What is done in a cycle to single components and channels: switching, refilling, and taking.
 
-ghost use Rattle.std.specs.Prelude.{◌≡◌, ◌<◌, ◌^◌, All, length, map};
-ghost use Rattle.aeth_components.specs.Busy.{AreMarked, HandsNothing, IsIdle, TakesNothing};
+ghost use Rattle.std.specs.Prelude.{◌≡◌, ◌<◌, ◌^◌, All, length, map, true};
+ghost use Rattle.aeth_components.specs.Busy.{AreMarked, IsIdle, TakesNothing};
 ghost use Rattle.aeth_components.specs.Changes.{switched};
 ghost use Rattle.aeth_components.specs.Events.{IsDoable};
 ghost use Rattle.aeth_components.specs.Frames.{frame_of};
 ghost use Rattle.aeth_components.specs.Injecting.{AreInjecting, entries_of};
-ghost use Rattle.aeth_components.specs.Lanes.{IsEnd, IsLane};
+ghost use Rattle.aeth_components.specs.Lanes.{IsEnd, IsLane, is_open};
 ghost use Rattle.aeth_components.specs.Phases.{pulled, refilled};
+ghost use Rattle.aeth_components.specs.Handing.{IsFull};
 
 use crate::event::Event;
 use crate::injecting::Injecting;
@@ -34,7 +35,9 @@ pub(crate) fn switch(parts: &mut [Part], injecting: &mut Injecting, events: &[Ev
 // One channel hands its accepted words on.
 pub(crate) fn refill_one(parts: &mut [Part], lane: &mut Lane, words: &[u32], cycle: u32)
     requires { IsLane (length words.now) (length parts.old) lane.old }
-    ensures { (parts.new, lane.new) ≡ refilled words.now cycle parts.old lane.old }
+    ensures turn { (parts.new, lane.new) ≡ refilled words.now cycle parts.old lane.old }
+    ensures full { is_open lane.new cycle ≡ true → lane.new.handed < lane.new.accepted
+        → IsFull parts.new lane.new.sender }
 {
     if lane.handed < lane.accepted && lane.is_open(cycle) {
         let first = lane.first as usize;
@@ -66,18 +69,6 @@ pub(crate) fn settle(busy: &mut Marks, lanes: &[Lane], number: usize)
     let lane = &lanes[number];
     if lane.handed <= lane.landed && lane.landed <= lane.taken && lane.accepted <= lane.handed {
         busy.unmark(number);
-    }
-}
-
-// Marks a channel no more where it hands nothing on.
-pub(crate) fn close(handing: &mut Marks, lanes: &[Lane], number: usize)
-    requires number { number < length lanes.now }
-    requires marked { AreMarked HandsNothing handing.old lanes.now }
-    ensures { AreMarked HandsNothing handing.new lanes.now }
-{
-    let lane = &lanes[number];
-    if lane.accepted <= lane.handed {
-        handing.unmark(number);
     }
 }
 

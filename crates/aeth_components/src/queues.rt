@@ -7,6 +7,7 @@ ghost use Rattle.aeth_components.specs.Changes.{event_done};
 ghost use Rattle.aeth_components.specs.Events.{Suits};
 ghost use Rattle.aeth_components.specs.Frames.{InterfaceFrame};
 ghost use Rattle.aeth_components.specs.Queues.{draws, drawn, filled, fits, words_for};
+ghost use Rattle.aeth_components.specs.Handing.{room_left};
 
 use crate::event::Event;
 use aeth_ni::Ni;
@@ -31,6 +32,7 @@ pub(crate) fn hand(ni: &mut Ni, queue: u8, words: &[u32]) -> u32
     ensures count { result ≡ fits words.now (queue_at ni.old.queues queue) }
     ensures within { result ≤ length words.now }
     ensures ni { ni.new ≡ changed queue (filled words.now) ni.old }
+    ensures full { result < length words.now → room_left (queue_at ni.new.queues queue) ≡ 0 }
 {
     let mut count = 0;
     for word in words {

@@ -201,8 +201,10 @@ fn list_from(marks: &mut Marks, numbers: &mut [u32], turn: u32) -> usize
 fn go_round(numbers: &mut [u32], turn: u32)
     ensures { IsPermutation numbers.old numbers.new }
 {
-    let before = numbers.partition_point(|number| *number < turn);
-    numbers.rotate_left(before);
+    if turn > 0 {
+        let before = numbers.partition_point(|number| *number < turn);
+        numbers.rotate_left(before);
+    }
 }
 
 // Lists upwards the marked numbers for as many as there are places, and gives how many.

@@ -1,4 +1,4 @@
-use Rattle.std.proofs.Common.{◌≡◌, ◌∙◌, ap, arith, length, List, map, subst, sym, take, ℕ}
+use Rattle.std.proofs.Common.{◌≡◌, ◌<◌, ◌∙◌, ap, arith, length, List, map, subst, sym, take, ℕ}
 use Rattle.std.proofs.Common.{None, Option, replicate}
 use Rattle.std.specs.List.{All}
 use Rattle.std.proofs.lemmas.List.{length-map, length-replicate}
@@ -122,3 +122,15 @@ returns-clause-steps g c =
     ap (λ (ends : Ends). marks_below c.list_drive-count.new.self.latching ends.parts)
     c.list_drive-count.ensures.ends in
     omega (arith, few, sending, wires, list, marked, c.drive_some.ensures.steps)
+
+-- Those that send something of their own are listed.
+pub returns-clause-sending : goal.returns-clause-sending
+returns-clause-sending g c = λ number part below at sends.
+    let lists = c.list_drive-count.ensures.listed in
+    let same = ap (λ (ends : Ends). ends.interfaces) c.list_drive-count.ensures.ends in
+    let few = c.requires.ready.ends.fits.interfaces in
+    let within : number < c.args.turns.now.ends.interfaces = omega (arith, below, same) in (
+      below,
+      lists.listed.all number (omega (arith, within, few))
+          (lists.marks.sending number part within at sends),
+    )

@@ -1,4 +1,7 @@
-use Rattle.std.proofs.Common.{ℕ, ◌+◌, ◌∙◌, List, ap, ap₂, set, sym}
+use Rattle.std.proofs.Common.{ℕ, ◌+◌, ◌-◌, ◌∙◌, List, Option, ap, ap₂, arith, drop, length-drop, set, sym}
+use Rattle.std.specs.Option.{option_map_or}
+use Rattle.std.proofs.lemmas.List.{length-take}
+use Rattle.aeth_base.proofs.Lists.{slice_get-slice_set_same}
 use Rattle.aeth_router.specs.declared.part.Part.{Part}
 use Rattle.aeth_components.proofs.phases.refill_one.Goals as goal
 use Rattle.aeth_components.proofs.phases.refill_one.Goals.{else-lane-via-then-lane+else-is_open}
@@ -8,11 +11,12 @@ use Rattle.aeth_components.proofs.TurnLemmas.{refilled-closed, refilled-none, re
 use Rattle.aeth_components.specs.Changes.{on_interface, told_by}
 use Rattle.aeth_components.specs.Phases.{left_of}
 use Rattle.aeth_components.specs.Queues.{filled, fits}
+use Rattle.aeth_components.specs.Handing.{room_left}
 use Rattle.aeth_ni.specs.Interface.{changed}
 
 -- The words are handed on, and counted.
-pub returns-then-is_open : goal.returns-then-is_open
-returns-then-is_open c =
+pub returns-then-is_open-clause-turn : goal.returns-then-is_open-clause-turn
+returns-then-is_open-clause-turn c =
     let lane = c.args.lane.now in
     let parts = c.args.parts.now in
     let number = lane.sender.ni.0 in
@@ -29,8 +33,8 @@ returns-then-is_open c =
     (sym c.is_open.ensures ∙ c.if-is_open.true))
 
 -- Where all that is accepted was handed on, nothing is.
-pub returns-else-lane : goal.returns-else-lane
-returns-else-lane c =
+pub returns-else-lane-clause-turn : goal.returns-else-lane-clause-turn
+returns-else-lane-clause-turn c =
     let parts = c.args.parts.now in
     let lane = c.args.lane.now in
     elim c.else-lane.branch [
@@ -39,4 +43,26 @@ returns-else-lane c =
           (sym w.is_open.ensures ∙ w.if-is_open.false))
       | else-lane-via-else-lane w ↦
           sym (refilled-none c.args.words.now c.args.cycle parts lane w.if-lane.false)
+    ]
+
+-- Where words are left, the source queue is full.
+pub returns-then-is_open-clause-full : goal.returns-then-is_open-clause-full
+returns-then-is_open-clause-full c = λ opened left.
+    let lane = c.args.lane.now in
+    let number = lane.sender.ni.0 in
+    let from = lane.first + lane.handed in
+    let count = length-take (lane.first + lane.accepted - from) (drop from c.args.words.now) in
+    let rest = length-drop from c.args.words.now in
+    let within = c.requires.within in
+    ap (λ (found : Option Part). option_map_or (told_by lane.sender.queue room_left) found 0)
+    (slice_get-slice_set_same c.args.parts.now number c.hand.new.part c.requires.sender.part)
+    ∙ c.hand.ensures.full (omega (arith, left, count, rest, within))
+
+pub returns-else-lane-clause-full : goal.returns-else-lane-clause-full
+returns-else-lane-clause-full c = λ opened left.
+    elim c.else-lane.branch [
+      | else-lane-via-then-lane+else-is_open w ↦
+          absurd (cc (sym opened ∙ sym w.is_open.ensures ∙ w.if-is_open.false))
+      | else-lane-via-else-lane w ↦
+          absurd (let none = w.if-lane.false in omega (arith, none, left))
     ]

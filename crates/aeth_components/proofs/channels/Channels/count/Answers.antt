@@ -5,9 +5,9 @@ use Rattle.aeth_base.proofs.Lists.{written_back}
 use Rattle.aeth_components.proofs.channels.Channels.count.Goals as goal
 use Rattle.aeth_components.proofs.channels.Channels.count.Goals.{After-count_told}
 use Rattle.aeth_components.proofs.HomeLemmas.{AreHomes-map, AreMarked-map, AreMarked-told}
-use Rattle.aeth_components.proofs.HomeLemmas.{HandsNothing-counted, IsIdle-counted}
+use Rattle.aeth_components.proofs.HomeLemmas.{IsIdle-counted}
 use Rattle.aeth_components.proofs.HomeLemmas.{StaysAtHome-counted}
-use Rattle.aeth_components.specs.Busy.{AreMarked, HandsNothing, IsIdle, TakesNothing}
+use Rattle.aeth_components.specs.Busy.{AreMarked, IsIdle, TakesNothing}
 use Rattle.aeth_components.specs.Channels.{ChannelsState}
 use Rattle.aeth_components.specs.Counting.{brings, counted}
 use Rattle.aeth_components.specs.Homes.{AreHomes, AreTold}
@@ -67,9 +67,6 @@ invariant_of-self c =
       idle = subst (AreMarked IsIdle all.busy) (sym are)
           (AreMarked-map IsIdle all.busy lanes count
           (IsIdle-counted c.args.cycle c.args.parts.now) c.self.invariant.idle);
-      hands = subst (AreMarked HandsNothing all.handing) (sym are)
-          (AreMarked-map HandsNothing all.handing lanes count
-          (HandsNothing-counted c.args.cycle c.args.parts.now) c.self.invariant.hands);
       takes = subst (AreMarked TakesNothing c.count_told.new.taking) (sym (written done))
           c.count_told.ensures.taking;
       places = subst (AreHomes all.homes) (sym are)

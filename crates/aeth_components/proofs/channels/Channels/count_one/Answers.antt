@@ -1,12 +1,12 @@
 use Rattle.std.proofs.Common.{◌∙◌, ap, arith, length, length-set, set, slice_get, subst, sym}
-use Rattle.aeth_components.proofs.HomeLemmas.{HandsNothing-counted, IsIdle-counted}
+use Rattle.aeth_components.proofs.HomeLemmas.{IsIdle-counted}
 use Rattle.aeth_components.proofs.HomeLemmas.{AreHomes-kept, StaysAtHome, StaysAtHome-counted}
 use Rattle.std.proofs.lemmas.Option.{same_Some}
 use Rattle.aeth_components.proofs.channels.Channels.count_one.Goals as goal
 use Rattle.aeth_components.proofs.LaneLemmas.{set-with_lane}
 use Rattle.aeth_components.proofs.MarkLemmas.{AreMarked-marked, AreMarked-set}
 use Rattle.aeth_components.proofs.SkipLemmas.{lane-there}
-use Rattle.aeth_components.specs.Busy.{HandsNothing, IsIdle}
+use Rattle.aeth_components.specs.Busy.{IsIdle}
 use Rattle.aeth_components.specs.Channels.{ChannelsState}
 use Rattle.aeth_components.specs.Counting.{counted, noted}
 use Rattle.aeth_components.specs.Lanes.{with_lane}
@@ -27,9 +27,6 @@ invariant_of-self c =
       idle = AreMarked-set all.busy lanes c.args.number lane new at
           (λ idle. subst IsIdle (sym c.count_one.ensures.lane)
           (IsIdle-counted c.args.cycle c.args.parts.now lane idle)) c.self.invariant.idle;
-      hands = AreMarked-set all.handing lanes c.args.number lane new at
-          (λ none. subst HandsNothing (sym c.count_one.ensures.lane)
-          (HandsNothing-counted c.args.cycle c.args.parts.now lane none)) c.self.invariant.hands;
       takes = AreMarked-marked all.taking c.mark.new.self lanes c.args.number new
           c.mark.ensures.room c.mark.ensures.here c.mark.ensures.away c.self.invariant.takes;
       places = AreHomes-kept all.homes lanes c.args.number lane new at

@@ -15,11 +15,8 @@ invariant_of-self c =
     record {
       idle = AreMarked-marked all.busy c.mark.new.self lanes c.args.number c.args.lane
           c.mark.ensures.room c.mark.ensures.here c.mark.ensures.away c.self.invariant.idle;
-      hands = AreMarked-marked all.handing c.mark-2.new.self lanes c.args.number c.args.lane
+      takes = AreMarked-marked all.taking c.mark-2.new.self lanes c.args.number c.args.lane
           c.mark-2.ensures.room c.mark-2.ensures.here c.mark-2.ensures.away
-          c.self.invariant.hands;
-      takes = AreMarked-marked all.taking c.mark-3.new.self lanes c.args.number c.args.lane
-          c.mark-3.ensures.room c.mark-3.ensures.here c.mark-3.ensures.away
           c.self.invariant.takes;
       places = c.note.ensures lanes c.self.invariant.places (omega (arith, size, number));
       room = omega (arith, set, room);

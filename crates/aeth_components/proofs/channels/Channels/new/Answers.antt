@@ -12,12 +12,9 @@ invariant_of-result c =
       idle = AreMarked-all c.in_ok-busy.busy lanes
           (let count = c.len.ensures in let room = c.in_ok-busy.ensures.room in omega arith)
           c.in_ok-busy.ensures.marked;
-      hands = AreMarked-all c.in_ok-handing.handing lanes
-          (let count = c.len-2.ensures in let room = c.in_ok-handing.ensures.room in omega arith)
-          c.in_ok-handing.ensures.marked;
       takes = AreMarked-all c.in_ok-taking.taking lanes
-          (let count = c.len-3.ensures in let room = c.in_ok-taking.ensures.room in omega arith)
+          (let count = c.len-2.ensures in let room = c.in_ok-taking.ensures.room in omega arith)
           c.in_ok-taking.ensures.marked;
       places = subst (AreHomes c.in_ok-homes.homes) c.deref.ensures.value c.in_ok-homes.ensures;
-      room = (let count = c.len-4.ensures in let room = c.in_ok-told.ensures.room in omega arith);
+      room = (let count = c.len-3.ensures in let room = c.in_ok-told.ensures.room in omega arith);
     }

@@ -1,7 +1,9 @@
-use Rattle.std.proofs.Common.{◌≡◌, ◌≤◌, ◌-◌, fold, length}
+use Rattle.std.proofs.Common.{◌≡◌, ◌≤◌, ◌<◌, ◌-◌, fold, length}
 use Rattle.std.specs.List.{range_with_len}
+use Rattle.aeth_base.specs.Marks.{bit_of}
 use Rattle.aeth_components.proofs.channels.Channels.refill.Given as goal
 use Rattle.aeth_components.specs.Phases.{refilled, turned}
+use Rattle.aeth_components.specs.Handing.{AreHanding}
 
 -- The channels so far have had their turns.
 abbrev pub invariant-turns : goal.invariant-turns
@@ -11,6 +13,8 @@ invariant-turns l = record {
       (record { parts = l.fn.parts; lanes = l.fn.self.lanes }) (range_with_len 0 l.number);
   words : l.self.words ≡ l.fn.self.words;
   within : l.number ≤ length l.self.lanes;
+  handing : AreHanding l.parts l.self.lanes l.handing;
+  marked : l.number < length l.self.lanes → bit_of l.handing.marks l.number ≡ 1;
 }
 
 abbrev pub decreases-turns : goal.decreases-turns

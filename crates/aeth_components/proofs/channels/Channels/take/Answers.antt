@@ -1,20 +1,20 @@
 use Rattle.std.proofs.Common.{◌≡◌, ◌+◌, ◌∙◌, ℕ, List, ap, arith, length, map, refl, subst, sym}
 use Rattle.std.specs.List.{All, range_with_len}
-use Rattle.aeth_router.specs.declared.part.Part.{Part}
-use Rattle.aeth_components.specs.declared.lane.Lane.{Lane}
 use Rattle.aeth_components.proofs.channels.Channels.take.Goals as goal
 use Rattle.aeth_components.proofs.SkipLemmas.{turned-more, turns-all, turns-sound, turns-until}
 use Rattle.aeth_components.proofs.TurnLemmas.{IsLane-pulled, frames-pulled, frames-turns}
 use Rattle.aeth_components.proofs.TurnLemmas.{pulled-none}
 use Rattle.aeth_components.specs.Busy.{TakesNothing}
+use Rattle.aeth_components.specs.Channels.{AreStill}
 use Rattle.aeth_components.specs.Frames.{frame_of}
 use Rattle.aeth_components.specs.Lanes.{IsLane}
 use Rattle.aeth_components.specs.Phases.{Moment, pulled}
 
--- A channel whose receiver takes nothing is left alone.
-still : (cycle : ℕ) (parts : List Part) (lane : Lane) → TakesNothing lane
-    → pulled cycle parts lane ≡ (parts, lane)
-still cycle parts lane none = pulled-none cycle parts lane none
+-- Channels whose receivers take nothing are left alone.
+still : (cycle : ℕ) (now : Moment) (from to : ℕ) → AreStill TakesNothing now.lanes from to
+    → AreStill (λ lane. pulled cycle now.parts lane ≡ (now.parts, lane)) now.lanes from to
+still cycle now from to none =
+    λ number lane since below at. pulled-none cycle now.parts lane (none number lane since below at)
 
 -- The receivers of the channels before the first one that is marked take nothing.
 pub turns-init : goal.turns-init
@@ -23,8 +23,8 @@ turns-init c =
     let next = c.next_taking-number.ensures in
     record {
       turns = turns-until (pulled c.args.cycle)
-          (still c.args.cycle) before before 0
-          c.next_taking-number.result next.from refl next.still;
+          before before 0 c.next_taking-number.result next.from refl
+          (still c.args.cycle before 0 c.next_taking-number.result next.still);
       words = refl;
       within = next.end;
     }
@@ -54,11 +54,10 @@ turns-preserved c =
     let next = c.next_taking-number-in-turns.ensures in
     record {
       turns = turns-until turn
-          (still c.args.cycle) before new
-          (c.turns.number + 1) c.next_taking-number-in-turns.result next.from
+          before new (c.turns.number + 1) c.next_taking-number-in-turns.result next.from
           (turned-more turn before now new c.turns.number c.turns.invariant.turns
           c.take_one.ensures.turn)
-          next.still;
+          (still c.args.cycle new (c.turns.number + 1) c.next_taking-number-in-turns.result next.still);
       words = c.take_one.ensures.words ∙ c.turns.invariant.words;
       within = next.end;
     }

@@ -5,7 +5,7 @@ use Rattle.aeth_components.proofs.HomeLemmas.{AreHomes-kept, StaysAtHome, StaysA
 use Rattle.aeth_components.proofs.channels.Channels.take_one.Goals as goal
 use Rattle.aeth_components.proofs.MarkLemmas.{AreMarked-turned, kept-alone}
 use Rattle.aeth_components.proofs.SkipLemmas.{lane-there, turned-there}
-use Rattle.aeth_components.proofs.TurnLemmas.{HandsNothing-pulled, pulled-none}
+use Rattle.aeth_components.proofs.TurnLemmas.{pulled-none}
 use Rattle.aeth_components.specs.Busy.{AreMarked, IsIdle, TakesNothing}
 use Rattle.aeth_components.specs.Channels.{ChannelsState}
 use Rattle.aeth_components.specs.Phases.{Moment, pulled, turned}
@@ -68,9 +68,6 @@ invariant_of-self c =
     let room = c.self.invariant.room in
     record {
       idle = subst (AreMarked IsIdle c.settle.new.busy) c.deref.ensures.value c.settle.ensures;
-      hands = AreMarked-turned (pulled c.args.cycle) (HandsNothing-pulled c.args.cycle) all.handing
-          (record { parts = c.args.parts.now; lanes = all.lanes.items }) c.args.number lane
-          (c.take_one.new.parts, c.take_one.new.lane) at c.take_one.ensures c.self.invariant.hands;
       takes = subst (AreMarked TakesNothing c.rest.new.taking) c.deref-2.ensures.value c.rest.ensures;
       places = AreHomes-kept all.homes all.lanes.items c.args.number lane c.take_one.new.lane at
           (subst (StaysAtHome lane)

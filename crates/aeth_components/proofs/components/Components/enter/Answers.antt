@@ -4,12 +4,15 @@ use Rattle.aeth_components.proofs.components.Components.enter.Goals as goal
 use Rattle.aeth_components.proofs.EnteringLemmas.{IsComponents-entered, frames-entered}
 use Rattle.aeth_components.proofs.EnteringLemmas.{holdings-entered, tables-entered}
 use Rattle.aeth_components.proofs.ReadyLemmas.{AreReady-same}
+use Rattle.aeth_components.proofs.RoomLemmas.{IsFull-entered}
+use Rattle.aeth_components.proofs.WaitingLemmas.{AreHanding-kept}
 use Rattle.aeth_base.proofs.Lists.{written_back}
 use Rattle.aeth_components.specs.Components.{IsComponents, components_of}
 use Rattle.aeth_components.specs.Entering.{with_rows}
 use Rattle.aeth_components.specs.Frames.{frame_of}
 use Rattle.aeth_components.specs.Injecting.{AreInjecting, entries_of}
 use Rattle.aeth_components.specs.Resting.{holding_of}
+use Rattle.aeth_components.specs.Handing.{AreHanding}
 use Rattle.aeth_components.specs.Turns.{AreReady}
 
 -- What holds of components still holds.
@@ -37,4 +40,7 @@ invariant_of-self c =
           all.turns.injecting.slots.items)
           (sym (ap (map entries_of) parts ∙ tables-entered rows all.parts.items))
           c.self.invariant.2,
+      subst (λ (parts : List Part). AreHanding parts all.channels.lanes all.handing) (sym parts)
+          (AreHanding-kept all.parts.items (with_rows rows all.parts.items) all.channels.lanes
+          all.handing (IsFull-entered rows all.parts.items) c.self.invariant.3),
     )

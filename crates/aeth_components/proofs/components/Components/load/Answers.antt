@@ -1,9 +1,19 @@
-use Rattle.std.proofs.Common.{length, subst, sym}
+use Rattle.std.proofs.Common.{ap, arith, length, subst, sym}
 use Rattle.std.proofs.lemmas.List.Elements.{All-set}
 use Rattle.aeth_components.proofs.components.Components.load.Goals as goal
+use Rattle.aeth_components.proofs.WaitingLemmas.{AreHanding-marked}
 use Rattle.aeth_components.specs.Channels.{ChannelsState}
 use Rattle.aeth_components.specs.Components.{ComponentsState, IsComponents, components_of}
 use Rattle.aeth_components.specs.Lanes.{IsLane}
+use Rattle.aeth_components.specs.Handing.{AreHanding}
+
+-- The channel has a mark.
+pub mark-requires : goal.mark-requires
+mark-requires c =
+    let channel = c.requires.channel in
+    let size = ap (λ (all : ComponentsState). length all.lanes) c.self.view_is in
+    let room = c.self.invariant.2.room in
+    omega (arith, channel, size, room)
 
 -- What holds of components still holds.
 pub invariant_of-self : goal.invariant_of-self
@@ -25,4 +35,9 @@ invariant_of-self c =
           }),
       c.self.invariant.1,
       c.self.invariant.2,
+      subst (λ (channels : ChannelsState). AreHanding all.parts.items channels.lanes
+          (record all.handing { marks = c.mark.new.self })) (sym c.load.ensures)
+          (AreHanding-marked all.parts.items all.channels.lanes c.args.channel c.args.lane all.handing
+          c.mark.new.self c.mark.ensures.room c.mark.ensures.here c.mark.ensures.away
+          c.self.invariant.3),
     )

@@ -17,6 +17,7 @@ use Rattle.aeth_components.specs.Injecting.{AreInjecting, entries_of}
 use Rattle.aeth_components.specs.Lanes.{IsLane}
 use Rattle.aeth_components.specs.Making.{new_parts}
 use Rattle.aeth_components.specs.Resting.{holding_of}
+use Rattle.aeth_components.specs.Handing.{AreHanding}
 use Rattle.aeth_components.specs.Turns.{AreReady}
 use Rattle.aeth_components.specs.declared.making.RouterKind.TheVariants.{ByHeader}
 
@@ -75,4 +76,10 @@ invariant_of-result c =
           c.in_ok-turns.turns.injecting.slots.items)
           (sym (ap (map entries_of) made ∙ tables-kind chip kind rooms))
           (c.in_ok-turns.ensures.injecting rooms),
+      subst (λ (channels : ChannelsState). AreHanding c.in_ok-parts.parts.items channels.lanes
+          c.in_ok-handing.handing) (sym c.in_ok-channels.ensures)
+          (c.in_ok-handing.ensures c.in_ok-parts.parts.items c.args.lanes.items (
+          let count = c.len-2.ensures in
+          let given = c.args.lanes.ok.0 in
+          omega (arith, count, given))),
     )

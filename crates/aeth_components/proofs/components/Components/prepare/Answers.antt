@@ -5,12 +5,15 @@ use Rattle.aeth_components.proofs.CycleLemmas.{IsComponents-switched}
 use Rattle.aeth_components.proofs.HoldingLemmas.{holdings-switched}
 use Rattle.aeth_components.proofs.PartLemmas.{frames-switched}
 use Rattle.aeth_components.proofs.ReadyLemmas.{AreReady-begun, AreReady-same}
+use Rattle.aeth_components.proofs.RoomLemmas.{IsFull-switched}
+use Rattle.aeth_components.proofs.WaitingLemmas.{AreHanding-woken}
 use Rattle.aeth_base.proofs.Lists.{written_back}
 use Rattle.aeth_components.specs.Changes.{switched}
 use Rattle.aeth_components.specs.Components.{IsComponents, components_of}
 use Rattle.aeth_components.specs.Frames.{frame_of}
 use Rattle.aeth_components.specs.Injecting.{AreInjecting, entries_of}
 use Rattle.aeth_components.specs.Resting.{holding_of}
+use Rattle.aeth_components.specs.Handing.{AreHanding, HasEvent}
 use Rattle.aeth_components.specs.Turns.{AreReady}
 
 -- What holds of components still holds.
@@ -42,4 +45,9 @@ invariant_of-self c =
           c.switch.new.injecting.slots.items)
           (sym written)
           c.switch.ensures.injecting,
+      subst (λ (parts : List Part). AreHanding parts all.channels.lanes c.wake_for.new.self)
+          (sym parts)
+          (AreHanding-woken (HasEvent events) all.parts.items (switched events all.parts.items)
+          all.channels.lanes all.handing c.wake_for.new.self c.wake_for.ensures
+          (IsFull-switched events all.parts.items) c.self.invariant.3),
     )

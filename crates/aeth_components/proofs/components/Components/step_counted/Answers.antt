@@ -19,7 +19,10 @@ use Rattle.aeth_components.specs.Frames.{frame_of}
 use Rattle.aeth_components.specs.Injecting.{AreInjecting, entries_of}
 use Rattle.aeth_components.specs.Lanes.{IsLane}
 use Rattle.aeth_components.specs.Resting.{holding_of}
+use Rattle.aeth_components.specs.Handing.{AreHanding}
 use Rattle.aeth_components.specs.Turns.{AreReady, flits_on}
+use Rattle.aeth_components.specs.declared.lane.Lane.{Lane}
+use Rattle.aeth_components.proofs.WaitingLemmas.{AreHanding-counted}
 use Rattle.aeth_components.specs.declared.turns.Turns.{Turns}
 use Rattle.aeth_components.proofs.ReadyLemmas.{AreReady-begun}
 
@@ -187,6 +190,13 @@ run-requires-clause-injecting g c =
     (subst (λ (parts : List Part). AreInjecting (map entries_of parts)
     all.turns.injecting.slots.items) (sym c.deref_mut.ensures.value) c.self.invariant.2)
 
+-- What is known of the channels that wait.
+pub run-requires-clause-handing : goal.run-requires-clause-handing
+run-requires-clause-handing g c =
+    let all = c.self.inside in
+    subst (λ (parts : List Part). AreHanding parts all.channels.lanes all.handing)
+    (sym c.deref_mut.ensures.value) c.self.invariant.3
+
 -- What holds of components still holds.
 pub invariant_of-self : goal.invariant_of-self
 unfolding old_of new_of written_of
@@ -203,6 +213,12 @@ invariant_of-self g c =
           c.run.new.wires c.run.new.turns) (sym (run_parts g run)) c.run.ensures.ready,
       subst (λ (parts : List Part). AreInjecting (map entries_of parts)
           c.run.new.turns.injecting.slots.items) (sym (run_parts g run)) c.run.ensures.injecting,
+      subst (λ (parts : List Part). AreHanding parts c.count.new.self.lanes c.run.new.handing)
+          (sym (run_parts g run))
+          (subst (λ (lanes : List Lane). AreHanding c.run.new.parts lanes c.run.new.handing)
+          (sym (counts g counting))
+          (AreHanding-counted c.args.cycle c.run.new.parts c.run.new.channels.lanes c.run.new.handing
+          c.run.ensures.handing)),
     )
 
 -- A cycle.

@@ -1,10 +1,13 @@
-use Rattle.std.proofs.Common.{◌∙◌, ap, length, List, Option, refl, replicate, slice_get, subst, sym, None, ℕ}
+use Rattle.std.proofs.Common.{◌∙◌, ap, length, List, Option, refl, replicate, slice_get, subst}
+use Rattle.std.proofs.Common.{sym, None, ℕ, set}
 use Rattle.std.proofs.lemmas.List.{length-replicate}
 use Rattle.aeth_router.specs.declared.part.Part.TheVariants.{TableRouter}
 use Rattle.aeth_components.proofs.components.tests.put_table_router.Goals as goal
 use Rattle.aeth_components.proofs.CycleLemmas.{IsComponents-replaced}
 use Rattle.aeth_components.proofs.ReadyLemmas.{AreReady-replaced}
 use Rattle.aeth_components.proofs.TableLemmas.{tables-replaced}
+use Rattle.aeth_components.proofs.RoomLemmas.{IsFull-replaced}
+use Rattle.aeth_components.proofs.WaitingLemmas.{AreHanding-kept}
 use Rattle.aeth_components.specs.Components.{ComponentsState, components_of, frames_of}
 use Rattle.aeth_components.specs.Injecting.{AreInjecting}
 
@@ -27,4 +30,7 @@ invariant_of-pair c =
           (sym (tables-replaced all.parts.items 2 (TableRouter router) router.incoming
           router.outgoing refl framed))
           c.pair.invariant.2,
+      AreHanding-kept all.parts.items (set all.parts.items 2 (TableRouter router)) all.channels.lanes
+          all.handing (λ end. IsFull-replaced 2 (TableRouter router) (λ queue. refl) all.parts.items
+          end.ni.0 end.queue) c.pair.invariant.3,
     )

@@ -1,0 +1,101 @@
+-- Laws of source queues that words are put into: a full one stays full, and its channel is left alone.
+use Rattle.std.proofs.Common.{ℕ, zero, suc, ◌≡◌, ◌≤◌, ◌-◌, ◌∙◌, arith, inl, inr}
+use Rattle.std.proofs.Common.{List, [], ◌∷◌, Option, Some, None, get_or, length, set, slice_get, take}
+use Rattle.std.specs.Option.{option_map_or}
+use Rattle.std.proofs.lemmas.Bool.{cases_Bool}
+use Rattle.std.proofs.lemmas.List.{length-append, length-take}
+use Rattle.aeth_ni.specs.Interface.{changed, queue_at}
+use Rattle.aeth_ni.specs.Limits.{waiting_words}
+use Rattle.aeth_ni.specs.Queue.{QueueState, empty_queue}
+use Rattle.aeth_router.specs.declared.part.Part.{Part}
+use Rattle.aeth_router.specs.declared.part.Part.TheVariants.{Interface, Router, Stage, TableRouter}
+use Rattle.aeth_components.specs.declared.lane.ChannelEnd.{ChannelEnd}
+use Rattle.aeth_components.specs.declared.lane.Lane.{Lane}
+use Rattle.aeth_components.specs.declared.handing.Handing.{Handing}
+use Rattle.aeth_components.proofs.TurnLemmas.{handed_on-none, refilled-closed, refilled-none}
+use Rattle.aeth_components.proofs.TurnLemmas.{refilled-open}
+use Rattle.aeth_components.specs.Changes.{on_interface, told_by, with_part}
+use Rattle.aeth_components.specs.Lanes.{is_open}
+use Rattle.aeth_components.specs.Phases.{left_of, refilled}
+use Rattle.aeth_components.specs.Queues.{filled, fits}
+use Rattle.aeth_components.specs.Handing.{IsFull, IsResting, room_left}
+
+-- Where words are put into one queue, there is no more room in any.
+room-filled : (words : List ℕ) (queue : QueueState) → room_left (filled words queue) ≤ room_left queue
+room-filled words queue =
+    let size = length-append queue.waiting (take (waiting_words - length queue.waiting) words) in
+    omega (arith, size)
+
+room-set : (words : List ℕ) (queues : List QueueState) (number other : ℕ) (d : QueueState)
+    → room_left (get_or (set queues number (filled words (get_or queues number d))) other d)
+    ≤ room_left (get_or queues other d)
+room-set words [] number other d = omega arith
+room-set words (queue ∷ queues) zero zero d = room-filled words queue
+room-set words (queue ∷ queues) zero (suc other) d = omega arith
+room-set words (queue ∷ queues) (suc number) zero d = omega arith
+room-set words (queue ∷ queues) (suc number) (suc other) d = room-set words queues number other d
+
+room-part : (words : List ℕ) (number other : ℕ) (part : Part)
+    → told_by other room_left (on_interface (changed number (filled words)) part)
+    ≤ told_by other room_left part
+room-part words number other (Interface ni) = room-set words ni.queues number other (empty_queue 0)
+room-part words number other (Router router) = omega arith
+room-part words number other (TableRouter router) = omega arith
+room-part words number other (Stage stage) = omega arith
+
+room-parts : (words : List ℕ) (parts : List Part) (number other queue too : ℕ)
+    → option_map_or (told_by too room_left)
+    (slice_get (with_part number (on_interface (changed queue (filled words))) parts) other) 0
+    ≤ option_map_or (told_by too room_left) (slice_get parts other) 0
+room-parts words [] number other queue too = omega arith
+room-parts words (part ∷ parts) zero zero queue too = room-part words queue too part
+room-parts words (part ∷ parts) zero (suc other) queue too = omega arith
+room-parts words (part ∷ parts) (suc number) zero queue too = omega arith
+room-parts words (part ∷ parts) (suc number) (suc other) queue too =
+    room-parts words parts number other queue too
+
+pub IsFull-refilled : (words : List ℕ) (cycle : ℕ) (parts : List Part) (lane : Lane) (end : ChannelEnd)
+    → IsFull parts end → IsFull (refilled words cycle parts lane).0 end
+IsFull-refilled words cycle parts lane end full = elim (cases_Bool (is_open lane cycle)) [
+  | inl opened ↦
+      rw opened (
+      let less = room-parts (left_of words lane) parts lane.sender.ni.0 end.ni.0 lane.sender.queue
+      end.queue in
+      omega (arith, less, full))
+  | inr closed ↦ rw closed full
+]
+
+-- No more words fit than there is room for.
+fits-room : (words : List ℕ) (queue : QueueState) → fits words queue ≤ room_left queue
+fits-room words queue =
+    let size = length-take (waiting_words - length queue.waiting) words in omega arith
+
+told-room : (words : List ℕ) (queue : ℕ) (part : Part)
+    → told_by queue (fits words) part ≤ told_by queue room_left part
+told-room words queue (Interface ni) = fits-room words (queue_at ni.queues queue)
+told-room words queue (Router router) = omega arith
+told-room words queue (TableRouter router) = omega arith
+told-room words queue (Stage stage) = omega arith
+
+found-room : (words : List ℕ) (queue : ℕ) (found : Option Part)
+    → option_map_or (told_by queue (fits words)) found 0
+    ≤ option_map_or (told_by queue room_left) found 0
+found-room words queue None = omega arith
+found-room words queue (Some part) = told-room words queue part
+
+-- A channel whose source queue is full is left alone.
+pub refilled-rests : (words : List ℕ) (cycle : ℕ) (parts : List Part) (handing : Handing)
+    (number : ℕ) (lane : Lane) → IsResting parts handing number lane
+    → refilled words cycle parts lane ≡ (parts, lane)
+refilled-rests words cycle parts handing number lane rests = elim rests [
+  | inl none ↦ refilled-none words cycle parts lane none
+  | inr (full, waits) ↦ elim (cases_Bool (is_open lane cycle)) [
+    | inl opened ↦
+        refilled-open words cycle parts lane opened
+        ∙ handed_on-none (left_of words lane) parts lane (
+        let told = found-room (left_of words lane) lane.sender.queue
+        (slice_get parts lane.sender.ni.0) in
+        omega (arith, told, full))
+    | inr closed ↦ refilled-closed words cycle parts lane closed
+  ]
+]

@@ -1,0 +1,239 @@
+-- Laws of the room in source queues: which phases of a cycle leave a full queue full.
+use Rattle.std.proofs.Common.{ℕ, zero, suc, ◌≡◌, ◌∙◌, ◌||◌, refl, sym, ap}
+use Rattle.std.proofs.Common.{inl, inr, true, false, map, List, [], ◌∷◌, length}
+use Rattle.std.proofs.Common.{Option, Some, None, slice_get, get_or, is_some, set}
+use Rattle.std.specs.Prelude.{◌==◌}
+use Rattle.std.specs.List.{list_any, range_with_len}
+use Rattle.std.specs.Option.{option_map, option_map_or}
+use Rattle.std.proofs.Math.Bool.{or-true}
+use Rattle.std.proofs.Math.ListN.{get_or-map}
+use Rattle.std.proofs.Math.Seq.{map-set_same}
+use Rattle.std.proofs.lemmas.Bool.{cases_Bool, cases_eq, cases_lt, eq-eqb}
+use Rattle.std.proofs.lemmas.Option.{slice_get-map}
+use Rattle.aeth_clocked.specs.Wires.{flit_on}
+use Rattle.aeth_clocked.specs.declared.flit.Flit.{Flit}
+use Rattle.aeth_ni.specs.Component.{Arrival, arrival_of, emitted_by, landed_at, queue_at_cycle}
+use Rattle.aeth_ni.specs.Interface.{changed, queue_at}
+use Rattle.aeth_ni.specs.Limits.{waiting_words}
+use Rattle.aeth_ni.specs.Queue.{QueueState, empty_queue, word_taken}
+use Rattle.aeth_router.specs.Part.{absorb_of, after_of}
+use Rattle.aeth_router.specs.declared.part.Part.{Part}
+use Rattle.aeth_router.specs.declared.part.Part.TheVariants.{Interface, Router, Stage, TableRouter}
+use Rattle.aeth_router.specs.declared.router_row.RouterRow.{RouterRow}
+use Rattle.aeth_components.specs.declared.ends.Ends.{Ends}
+use Rattle.aeth_components.specs.declared.event.Event.{Event}
+use Rattle.aeth_components.specs.declared.lane.ChannelEnd.{ChannelEnd}
+use Rattle.aeth_components.specs.declared.lane.Lane.{Lane}
+use Rattle.aeth_components.proofs.AloneLemmas.{slice_get-with_part_other}
+use Rattle.aeth_components.proofs.HoldingLemmas.{RestsDrive-part}
+use Rattle.aeth_components.proofs.PartLemmas.{views-with_part}
+use Rattle.aeth_components.proofs.QueueLemmas.{taken-none, taken-some}
+use Rattle.aeth_components.proofs.TurnLemmas.{views-turns}
+use Rattle.aeth_components.specs.Changes.{event_done, happened, on_interface, switched}
+use Rattle.aeth_components.specs.Changes.{told_at, told_by}
+use Rattle.aeth_components.specs.Ends.{AreEnds, is_interface}
+use Rattle.aeth_components.specs.Entering.{entered, with_rows}
+use Rattle.aeth_components.specs.Events.{event_part}
+use Rattle.aeth_components.specs.Frames.{frame_of}
+use Rattle.aeth_components.specs.Lanes.{is_open}
+use Rattle.aeth_components.specs.Phases.{Moment, asked_of, in_turn, pulled}
+use Rattle.aeth_components.specs.Queues.{drawn}
+use Rattle.aeth_components.specs.Handing.{AreAmong, HasEvent, IsFull, IsListed, room_left}
+use Rattle.aeth_components.specs.Turns.{sends_own}
+
+-- The room in the source queues of an interface.
+abbrev rooms_of : Part → Option (List ℕ)
+rooms_of (Interface ni) = Some (map room_left ni.queues)
+rooms_of (Router router) = None
+rooms_of (TableRouter router) = None
+rooms_of (Stage stage) = None
+
+-- The room in one of them.
+abbrev room_in : ℕ → Option (Option (List ℕ)) → ℕ
+room_in queue None = 0
+room_in queue (Some None) = 0
+room_in queue (Some (Some rooms)) = get_or rooms queue waiting_words
+
+told-rooms : (queue : ℕ) (found : Option Part) → option_map_or (told_by queue room_left) found 0
+    ≡ room_in queue (option_map rooms_of found)
+told-rooms queue None = refl
+told-rooms queue (Some (Interface ni)) = sym (get_or-map room_left ni.queues queue (empty_queue 0))
+told-rooms queue (Some (Router router)) = refl
+told-rooms queue (Some (TableRouter router)) = refl
+told-rooms queue (Some (Stage stage)) = refl
+
+told_at-rooms : (end : ChannelEnd) (parts : List Part) → told_at end room_left parts
+    ≡ room_in end.queue (slice_get (map rooms_of parts) end.ni.0)
+told_at-rooms end parts =
+    told-rooms end.queue (slice_get parts end.ni.0)
+    ∙ ap (room_in end.queue) (sym (slice_get-map rooms_of parts end.ni.0))
+
+-- Where no room has changed, a full queue is full.
+IsFull-same : (parts now : List Part) → map rooms_of now ≡ map rooms_of parts
+    → (end : ChannelEnd) → IsFull parts end → IsFull now end
+IsFull-same parts now same end full =
+    told_at-rooms end now
+    ∙ ap (λ (rooms : List (Option (List ℕ))). room_in end.queue (slice_get rooms end.ni.0)) same
+    ∙ sym (told_at-rooms end parts) ∙ full
+
+rooms-map : (change : Part → Part) → ((part : Part) → rooms_of (change part) ≡ rooms_of part)
+    → (parts : List Part) → map rooms_of (map change parts) ≡ map rooms_of parts
+rooms-map change kept [] = refl
+rooms-map change kept (part ∷ parts) = rw (kept part, rooms-map change kept parts) refl
+
+-- Words that are taken change no room.
+room-taken : (queue : QueueState) → room_left (word_taken queue) ≡ room_left queue
+room-taken queue = elim (cases_eq (length queue.received) 0) [
+  | inl none ↦ ap room_left (taken-none queue none)
+  | inr some ↦ ap room_left (taken-some queue some)
+]
+
+room-drawn : (times : ℕ) (queue : QueueState) → room_left (drawn times queue) ≡ room_left queue
+room-drawn zero queue = refl
+room-drawn (suc times) queue = room-taken (drawn times queue) ∙ room-drawn times queue
+
+rooms-drawn : (queue times : ℕ) (part : Part)
+    → rooms_of (on_interface (changed queue (drawn times)) part) ≡ rooms_of part
+rooms-drawn queue times (Interface ni) =
+    ap (λ (rooms : List ℕ). Some rooms) (map-set_same room_left ni.queues queue
+    (drawn times (queue_at ni.queues queue)) (empty_queue 0)
+    (room-drawn times (queue_at ni.queues queue)))
+rooms-drawn queue times (Router router) = refl
+rooms-drawn queue times (TableRouter router) = refl
+rooms-drawn queue times (Stage stage) = refl
+
+rooms-pulled : (cycle : ℕ) (parts : List Part) (lane : Lane)
+    → map rooms_of (pulled cycle parts lane).0 ≡ map rooms_of parts
+rooms-pulled cycle parts lane = elim (cases_Bool (is_open lane cycle)) [
+  | inl opened ↦
+      rw opened (views-with_part rooms_of lane.receiver.ni.0
+      (on_interface (changed lane.receiver.queue (drawn (asked_of lane))))
+      (rooms-drawn lane.receiver.queue (asked_of lane)) parts)
+  | inr closed ↦ rw closed refl
+]
+
+-- Nor do flits that land.
+rooms-landed : (arrival : Option Arrival) (queues : List QueueState)
+    → map room_left (landed_at arrival queues) ≡ map room_left queues
+rooms-landed None queues = refl
+rooms-landed (Some arrival) queues =
+    map-set_same room_left queues arrival.header.queue _ (empty_queue 0) refl
+
+rooms-absorbed : (wires : List (Option Flit)) (part : Part)
+    → rooms_of (absorb_of part wires) ≡ rooms_of part
+rooms-absorbed wires (Interface ni) =
+    ap (λ (rooms : List ℕ). Some rooms)
+    (rooms-landed (arrival_of (flit_on wires ni.entering.0)) ni.queues)
+rooms-absorbed wires (Router router) = refl
+rooms-absorbed wires (TableRouter router) = refl
+rooms-absorbed wires (Stage stage) = refl
+
+-- So behind taking and latching full queues are full.
+pub IsFull-latched : (cycle : ℕ) (wires : List (Option Flit)) (moment : Moment) (end : ChannelEnd)
+    → IsFull moment.parts end
+    → IsFull (map (λ part. absorb_of part wires) (in_turn (pulled cycle) moment).parts) end
+IsFull-latched cycle wires moment =
+    let taken = in_turn (pulled cycle) moment in
+    IsFull-same moment.parts (map (λ part. absorb_of part wires) taken.parts)
+    (rooms-map (λ part. absorb_of part wires) (rooms-absorbed wires) taken.parts
+    ∙ views-turns (pulled cycle) rooms_of (rooms-pulled cycle)
+    (range_with_len 0 (length moment.lanes)) moment)
+
+-- And where rows enter the tables of routers.
+rooms-entered : (rows : List RouterRow) (part : Part) → rooms_of (entered rows part) ≡ rooms_of part
+rooms-entered rows (Interface ni) = refl
+rooms-entered rows (Router router) = refl
+rooms-entered rows (TableRouter router) = refl
+rooms-entered rows (Stage stage) = refl
+
+pub IsFull-entered : (rows : List RouterRow) (parts : List Part) (end : ChannelEnd)
+    → IsFull parts end → IsFull (with_rows rows parts) end
+IsFull-entered rows parts =
+    IsFull-same parts (with_rows rows parts) (rooms-map (entered rows) (rooms-entered rows) parts)
+
+none-is : {X : Type 0} (found : Option X) → is_some found ≡ false → found ≡ None
+none-is None none = refl
+none-is (Some x) none = absurd (cc none)
+
+-- A component that sends nothing of its own keeps its rooms when it drives.
+rooms-driven : (cycle : ℕ) (part : Part) → sends_own cycle part ≡ false
+    → rooms_of (after_of part cycle) ≡ rooms_of part
+rooms-driven cycle (Interface ni) mute =
+    ap rooms_of (RestsDrive-part cycle [] (Interface ni)
+    (none-is (emitted_by (queue_at_cycle ni.entries cycle) ni.queues) mute) (λ wire is. refl)).still
+rooms-driven cycle (Router router) mute = refl
+rooms-driven cycle (TableRouter router) mute = refl
+rooms-driven cycle (Stage stage) mute = refl
+
+found-driven : (cycle queue : ℕ) (found : Option Part)
+    → ((part : Part) → found ≡ Some part → sends_own cycle part ≡ true → ⊥)
+    → option_map_or (told_by queue room_left) (option_map (λ part. after_of part cycle) found) 0
+    ≡ option_map_or (told_by queue room_left) found 0
+found-driven cycle queue None mute = refl
+found-driven cycle queue (Some part) mute = elim (cases_Bool (sends_own cycle part)) [
+  | inl sends ↦ absurd (mute part refl sends)
+  | inr silent ↦
+      told-rooms queue (Some (after_of part cycle))
+      ∙ ap (λ (rooms : Option (List ℕ)). room_in queue (Some rooms)) (rooms-driven cycle part silent)
+      ∙ sym (told-rooms queue (Some part))
+]
+
+IsFull-driven : (cycle : ℕ) (parts : List Part) (end : ChannelEnd)
+    → ((part : Part) → slice_get parts end.ni.0 ≡ Some part → sends_own cycle part ≡ true → ⊥)
+    → IsFull parts end → IsFull (map (λ part. after_of part cycle) parts) end
+IsFull-driven cycle parts end mute full =
+    ap (λ (found : Option Part). option_map_or (told_by end.queue room_left) found 0)
+    (slice_get-map (λ part. after_of part cycle) parts end.ni.0)
+    ∙ found-driven cycle end.queue (slice_get parts end.ni.0) mute ∙ full
+
+-- Only an interface does, and interfaces are the first components: where all of those that do are
+-- listed, a full queue of any other component stays full.
+is_interface-sends : (cycle : ℕ) (part : Part) → sends_own cycle part ≡ true
+    → is_interface (frame_of part) ≡ true
+is_interface-sends cycle (Interface ni) sends = refl
+is_interface-sends cycle (Router router) sends = absurd (cc sends)
+is_interface-sends cycle (TableRouter router) sends = absurd (cc sends)
+is_interface-sends cycle (Stage stage) sends = absurd (cc sends)
+
+pub IsFull-sent : (cycle wires : ℕ) (parts : List Part) (ends : Ends) (numbers : List ℕ)
+    → AreEnds (map frame_of parts) wires ends → AreAmong cycle parts ends.interfaces numbers
+    → (end : ChannelEnd) → (IsListed ends.interfaces numbers end.ni.0 → ⊥)
+    → IsFull parts end → IsFull (map (λ part. after_of part cycle) parts) end
+IsFull-sent cycle wires parts ends numbers are among end none =
+    IsFull-driven cycle parts end (λ part at sends. elim (cases_lt end.ni.0 ends.interfaces) [
+      | inl below ↦ none (among end.ni.0 part below at sends)
+      | inr over ↦
+          absurd (cc (sym (are.others end.ni.0 (frame_of part)
+          (slice_get-map frame_of parts end.ni.0 ∙ ap (option_map frame_of) at) over)
+          ∙ is_interface-sends cycle part sends))
+    ])
+
+-- What happens at other interfaces changes no room.
+slice_get-switched : (events : List Event) (parts : List Part) (number : ℕ)
+    → (HasEvent events number → ⊥) → slice_get (switched events parts) number ≡ slice_get parts number
+slice_get-switched [] parts number none = refl
+slice_get-switched (event ∷ events) parts number none =
+    let rest = list_any (λ event. event_part event == number) events in
+    slice_get-switched events (happened parts event) number
+    (λ is. none (ap (λ b. (event_part event == number) || b) is ∙ or-true (event_part event == number)))
+    ∙ slice_get-with_part_other parts (event_part event) number (on_interface (event_done event))
+    (λ same. none (ap (λ b. b || rest) (eq-eqb (event_part event) number (sym same))))
+
+pub IsFull-switched : (events : List Event) (parts : List Part) (end : ChannelEnd)
+    → (HasEvent events end.ni.0 → ⊥) → IsFull parts end → IsFull (switched events parts) end
+IsFull-switched events parts end none full =
+    ap (λ (found : Option Part). option_map_or (told_by end.queue room_left) found 0)
+    (slice_get-switched events parts end.ni.0 none)
+    ∙ full
+
+-- A router or a stage that comes into the place of a component has no room.
+pub IsFull-replaced : (number : ℕ) (part : Part) → ((queue : ℕ) → told_by queue room_left part ≡ 0)
+    → (parts : List Part) (other queue : ℕ)
+    → option_map_or (told_by queue room_left) (slice_get parts other) 0 ≡ 0
+    → option_map_or (told_by queue room_left) (slice_get (set parts number part) other) 0 ≡ 0
+IsFull-replaced number part none [] other queue full = full
+IsFull-replaced zero part none (first ∷ parts) zero queue full = none queue
+IsFull-replaced zero part none (first ∷ parts) (suc other) queue full = full
+IsFull-replaced (suc number) part none (first ∷ parts) zero queue full = full
+IsFull-replaced (suc number) part none (first ∷ parts) (suc other) queue full =
+    IsFull-replaced number part none parts other queue full

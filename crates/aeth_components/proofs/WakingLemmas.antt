@@ -1,0 +1,249 @@
+-- Laws of marks by which channels that wait are woken.
+use Rattle.std.proofs.Common.{ℕ, ◌≡◌, ◌≢◌, ◌≤◌, ◌<◌, ◌+◌, ◌∙◌, ◌||◌, refl, sym, ap, subst}
+use Rattle.std.proofs.Common.{arith, inl, inr, Bool, true, false, List, [], ◌∷◌, length, get_or, take}
+use Rattle.std.proofs.Common.{Some, slice_get, set}
+use Rattle.std.specs.Prelude.{◌==◌, ◌⊎◌}
+use Rattle.std.specs.List.{All, list_any}
+use Rattle.std.proofs.lemmas.Bool.{cases_Bool, cases_eq, cases_lt, ne_eqb}
+use Rattle.std.proofs.lemmas.List.{length-set, take_more}
+use Rattle.std.proofs.lemmas.List.Elements.{All-set}
+use Rattle.std.proofs.lemmas.List.Folds.{list_any-append}
+use Rattle.std.proofs.lemmas.Option.{same_Some}
+use Rattle.aeth_base.proofs.Lists.{slice_get-slice_set_other, slice_get-slice_set_same}
+use Rattle.aeth_base.specs.Marks.{bit_of, room_of}
+use Rattle.aeth_components.specs.declared.lane.ChannelEnd.{ChannelEnd}
+use Rattle.aeth_components.specs.declared.lane.Lane.{Lane}
+use Rattle.aeth_components.specs.declared.handing.Handing.{Handing}
+use Rattle.aeth_components.specs.Homes.{home_at, home_count}
+use Rattle.aeth_components.specs.Lanes.{is_open}
+use Rattle.aeth_components.specs.Handing.{HasPlaces, Settles, Wakes}
+
+-- From a first place on, up to another, who waited is marked. All else is as it was.
+pub record AreWoken (first to : ℕ) (old new : Handing) : Type 0 where
+  pub room : room_of new.marks ≡ room_of old.marks
+  pub size : room_of new.waiting ≡ room_of old.waiting
+  pub numbers : new.numbers ≡ old.numbers
+  pub marked : (number : ℕ) → bit_of new.marks number ≡ 0 → bit_of old.marks number ≡ 0
+  pub at : (place number : ℕ) → first ≤ place → place < to → bit_of old.waiting place ≡ 1
+      → slice_get old.numbers.items place ≡ Some number → bit_of new.marks number ≡ 1
+  pub away : (place : ℕ) → (place < first) ⊎ (to ≤ place)
+      → bit_of new.waiting place ≡ bit_of old.waiting place
+
+-- Nobody waits at the first places.
+pub AreWoken-first : (first to : ℕ) (old : Handing)
+    → ((place : ℕ) → first ≤ place → place < to → bit_of old.waiting place ≡ 0)
+    → AreWoken first to old old
+AreWoken-first first to old none = record {
+  room = refl;
+  size = refl;
+  numbers = refl;
+  marked = λ number unmarked. unmarked;
+  at = λ place number from below waits at.
+      absurd (let no = none place from below in omega (arith, no, waits));
+  away = λ place out. refl;
+}
+
+-- One more is woken, and at the places up to the next nobody waits.
+pub AreWoken-more : (first place next : ℕ) (old now new : Handing) (number : ℕ)
+    → AreWoken first place old now → first ≤ place → place < next
+    → slice_get now.numbers.items place ≡ Some number
+    → room_of new.marks ≡ room_of now.marks → room_of new.waiting ≡ room_of now.waiting
+    → new.numbers ≡ now.numbers
+    → bit_of new.marks number ≡ 1
+    → ((other : ℕ) → other ≢ number → bit_of new.marks other ≡ bit_of now.marks other)
+    → ((other : ℕ) → other ≢ place → bit_of new.waiting other ≡ bit_of now.waiting other)
+    → ((other : ℕ) → place + 1 ≤ other → other < next → bit_of new.waiting other ≡ 0)
+    → AreWoken first next old new
+AreWoken-more first place next old now new number woken from before at room size same here away
+    apart none =
+    let still : (other : ℕ) → bit_of now.marks other ≡ 1 → bit_of new.marks other ≡ 1 =
+    λ other is. elim (cases_eq other number) [
+      | inl own ↦ ap (bit_of new.marks) own ∙ here
+      | inr otherwise ↦ away other otherwise ∙ is
+    ] in
+    record {
+      room = room ∙ woken.room;
+      size = size ∙ woken.size;
+      numbers = same ∙ woken.numbers;
+      marked = λ other unmarked. elim (cases_eq other number) [
+        | inl own ↦
+            absurd (let no = sym (ap (bit_of new.marks) own) ∙ unmarked in omega (arith, no, here))
+        | inr otherwise ↦ woken.marked other (sym (away other otherwise) ∙ unmarked)
+      ];
+      at = λ other who since below waits there. elim (cases_eq other place) [
+        | inl own ↦
+            let is : number ≡ who =
+            same_Some number who (sym at ∙ ap (λ numbers. slice_get numbers.items place) woken.numbers
+            ∙ ap (slice_get old.numbers.items) (sym own) ∙ there) in
+            ap (bit_of new.marks) (sym is) ∙ here
+        | inr otherwise ↦ elim (cases_lt other place) [
+          | inl early ↦ still who (woken.at other who since early waits there)
+          | inr late ↦
+              absurd (let no = none other (omega (arith, late, otherwise)) below in
+              let kept = apart other otherwise ∙ woken.away other (inr (omega (arith, late))) in
+              omega (arith, no, kept, waits))
+        ]
+      ];
+      away = λ other out.
+          apart other (λ own. elim out [
+            | inl low ↦ absurd (omega (arith, low, own, from))
+            | inr high ↦ absurd (omega (arith, high, own, before))
+          ])
+          ∙ woken.away other (elim out [ inl low ↦ inl low | inr high ↦ inr (omega (arith, high, before)) ]);
+    }
+
+-- Once all places of an interface are passed, nobody waits there any more.
+pub Wakes-all : (interface first to : ℕ) (old new : Handing)
+    → ((end : ChannelEnd) → end.ni.0 ≡ interface
+    → (first ≤ home_at end.ni.0 end.queue) × (home_at end.ni.0 end.queue < to))
+    → HasPlaces old → AreWoken first to old new → Wakes (λ other. other ≡ interface) old new
+Wakes-all interface first to old new there places woken = record {
+  room = woken.room;
+  places = record {
+    waiting = (let room = places.waiting in let size = woken.size in omega (arith, room, size));
+    size = ap (λ numbers. length numbers.items) woken.numbers ∙ places.size;
+    within = subst (λ n. All (λ number. number < n) new.numbers.items) (sym woken.room)
+        (subst (λ numbers. All (λ number. number < room_of old.marks) numbers.items)
+        (sym woken.numbers) places.within);
+  };
+  marked = woken.marked;
+  kept = λ number end unmarked waits.
+      let place = home_at end.ni.0 end.queue in
+      let out : (place < first) ⊎ (to ≤ place) = elim (cases_lt place first) [
+        | inl low ↦ inl low
+        | inr since ↦ elim (cases_lt place to) [
+          | inl below ↦
+              absurd (let no = woken.at place number (omega (arith, since)) below waits.marked waits.at in
+              omega (arith, no, unmarked))
+          | inr high ↦ inr (omega (arith, high))
+        ]
+      ] in
+      record {
+        marked = woken.away place out ∙ waits.marked;
+        at = ap (λ numbers. slice_get numbers.items place) woken.numbers ∙ waits.at;
+      };
+  others = λ number end unmarked waits is.
+      let among = there end is in
+      let no = woken.at (home_at end.ni.0 end.queue) number among.0 among.1 waits.marked waits.at in
+      absurd (omega (arith, no, unmarked));
+}
+
+-- Nobody is woken yet.
+pub Wakes-none : (Is : ℕ → Type 0) (old : Handing) → HasPlaces old → ((n : ℕ) → Is n → ⊥)
+    → Wakes Is old old
+Wakes-none Is old places none = record {
+  room = refl;
+  places = places;
+  marked = λ number unmarked. unmarked;
+  kept = λ number end unmarked waits. waits;
+  others = λ number end unmarked waits is. none end.ni.0 is;
+}
+
+-- One interface more.
+pub Wakes-more : (Is Was : ℕ → Type 0) (interface : ℕ) (old now new : Handing) → Wakes Was old now
+    → Wakes (λ other. other ≡ interface) now new
+    → ((n : ℕ) → Is n → (Was n) ⊎ (n ≡ interface)) → Wakes Is old new
+Wakes-more Is Was interface old now new before step cases = record {
+  room = step.room ∙ before.room;
+  places = step.places;
+  marked = λ number unmarked. before.marked number (step.marked number unmarked);
+  kept = λ number end unmarked waits.
+      step.kept number end unmarked (before.kept number end (step.marked number unmarked) waits);
+  others = λ number end unmarked waits is. elim (cases end.ni.0 is) [
+    | inl was ↦ before.others number end (step.marked number unmarked) waits was
+    | inr same ↦
+        step.others number end unmarked (before.kept number end (step.marked number unmarked) waits)
+        same
+  ];
+}
+
+-- The same interfaces, otherwise said.
+pub Wakes-same : (Is Was : ℕ → Type 0) (old new : Handing) → ((n : ℕ) → Is n → Was n)
+    → Wakes Was old new → Wakes Is old new
+Wakes-same Is Was old new also wakes = record {
+  room = wakes.room;
+  places = wakes.places;
+  marked = wakes.marked;
+  kept = wakes.kept;
+  others = λ number end unmarked waits is.
+      wakes.others number end unmarked waits (also end.ni.0 is);
+}
+
+-- Who is among one more of some is among those before, or is that one.
+pub among-more : {X : Type 0} (f : X → ℕ) (xs : List X) (i : ℕ) (d : X) (n : ℕ) → i < length xs
+    → list_any (λ x. f x == n) (take (i + 1) xs) ≡ true
+    → (list_any (λ x. f x == n) (take i xs) ≡ true) ⊎ (n ≡ f (get_or xs i d))
+among-more {X} f xs i d n within is =
+    let test : X → Bool = λ x. f x == n in
+    let last = get_or xs i d in
+    let whole : (list_any test (take i xs) || (test last || false)) ≡ true =
+    sym (ap (list_any test) (take_more xs i d within) ∙ list_any-append test (take i xs) (last ∷ []))
+    ∙ is in
+    elim (cases_Bool (list_any test (take i xs))) [
+      | inl before ↦ inl before
+      | inr none ↦ elim (cases_eq (f last) n) [
+        | inl same ↦ inr (sym same)
+        | inr apart ↦
+            absurd (cc (sym (ap (λ b. b || (test last || false)) none
+            ∙ ap (λ b. false || (b || false)) (ne_eqb (f last) n apart)) ∙ whole))
+      ]
+    ]
+
+-- A channel that is unmarked where it waits, at a place where nobody did, or it did itself.
+pub Settles-waits : (cycle number place : ℕ) (lane : Lane) (old new : Handing) → HasPlaces old
+    → place ≡ home_at lane.sender.ni.0 lane.sender.queue → place < home_count
+    → is_open lane cycle ≡ true → number < room_of old.marks
+    → room_of new.marks ≡ room_of old.marks → room_of new.waiting ≡ room_of old.waiting
+    → ((other : ℕ) → other ≢ number → bit_of new.marks other ≡ bit_of old.marks other)
+    → bit_of new.waiting place ≡ 1
+    → ((other : ℕ) → other ≢ place → bit_of new.waiting other ≡ bit_of old.waiting other)
+    → new.numbers.items ≡ set old.numbers.items place number
+    → (bit_of old.waiting place ≡ 0) ⊎ (slice_get old.numbers.items place ≡ Some number)
+    → Settles cycle lane number old new
+Settles-waits cycle number place lane old new places home below opened few room size away here apart
+    written free =
+    let there : slice_get new.numbers.items place ≡ Some number =
+    ap (λ (list : List ℕ). slice_get list place) written
+    ∙ slice_get-slice_set_same old.numbers.items place number
+    (let count = places.size in omega (arith, below, count)) in
+    record {
+      room = room;
+      places = record {
+        waiting = (let before = places.waiting in omega (arith, before, size));
+        size = ap length written ∙ length-set old.numbers.items place number ∙ places.size;
+        within = subst (λ n. All (λ number. number < n) new.numbers.items) (sym room)
+            (subst (λ (list : List ℕ). All (λ number. number < room_of old.marks) list) (sym written)
+            (All-set (λ number. number < room_of old.marks) old.numbers.items place number few
+            places.within));
+      };
+      own = λ unmarked. inr (
+        opened,
+        record {
+          marked = ap (bit_of new.waiting) (sym home) ∙ here;
+          at = ap (slice_get new.numbers.items) (sym home) ∙ there;
+        },
+      );
+      away = away;
+      kept = λ other end waits.
+          let at = home_at end.ni.0 end.queue in
+          elim (cases_eq at place) [
+            | inl same ↦
+                let who : other ≡ number = elim free [
+                  | inl none ↦
+                      absurd (let is = sym (ap (bit_of old.waiting) same) ∙ waits.marked in
+                      omega (arith, is, none))
+                  | inr found ↦
+                      same_Some other number
+                      (sym waits.at ∙ ap (slice_get old.numbers.items) same ∙ found)
+                ] in
+                record {
+                  marked = ap (bit_of new.waiting) same ∙ here;
+                  at = ap (slice_get new.numbers.items) same ∙ there ∙ ap (λ n. Some n) (sym who);
+                }
+            | inr otherwise ↦ record {
+              marked = apart at otherwise ∙ waits.marked;
+              at = ap (λ (list : List ℕ). slice_get list at) written
+                  ∙ slice_get-slice_set_other old.numbers.items place at number otherwise ∙ waits.at;
+            }
+          ];
+    }

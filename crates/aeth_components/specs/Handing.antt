@@ -1,0 +1,93 @@
+-- Which channels hand words on, and which of them wait for room in their source queues.
+--
+--   room_left, IsFull            the room in a source queue
+--   HasPlaces, IsWaiting         that there are marks, and the channel that waits at a place
+--   AreHanding                   what is marked of the channels of a network
+--   Settles, Wakes               what a turn makes of it, and what interfaces with room do
+--   HasEvent, IsListed, AreAmong     which interfaces those are
+--
+-- This project's own.
+use Rattle.std.specs.Prelude.{◌≡◌, ◌≢◌, ◌<◌, ◌-◌, ◌==◌, ◌⊎◌, ℕ, All, List, Some, length, slice_get, true}
+use Rattle.std.specs.List.{list_any}
+use Rattle.aeth_base.specs.Marks.{bit_of, room_of}
+use Rattle.aeth_clocked.specs.Resting.{is_chosen}
+use Rattle.aeth_ni.specs.Limits.{waiting_words}
+use Rattle.aeth_ni.specs.Queue.{QueueState}
+use Rattle.aeth_router.specs.declared.part.Part.{Part}
+use Rattle.aeth_components.specs.Busy.{HandsNothing}
+use Rattle.aeth_components.specs.Changes.{told_at}
+use Rattle.aeth_components.specs.Events.{event_part}
+use Rattle.aeth_components.specs.Homes.{home_at, home_count}
+use Rattle.aeth_components.specs.Lanes.{is_open}
+use Rattle.aeth_components.specs.Turns.{sends_own}
+use Rattle.aeth_components.specs.declared.event.Event.{Event}
+use Rattle.aeth_components.specs.declared.lane.ChannelEnd.{ChannelEnd}
+use Rattle.aeth_components.specs.declared.lane.Lane.{Lane}
+use Rattle.aeth_components.specs.declared.handing.Handing.{Handing}
+
+-- How many words more may wait in a source queue.
+abbrev pub room_left : QueueState → ℕ
+room_left queue = waiting_words - length queue.waiting
+
+-- No word more may wait in the source queue of an end.
+abbrev pub IsFull : List Part → ChannelEnd → Type 0
+IsFull parts end = told_at end room_left parts ≡ 0
+
+-- There is a mark for each place, and for each channel that is noted at one.
+pub record HasPlaces (handing : Handing) : Type 0 where
+  pub waiting : home_count < room_of handing.waiting
+  pub size : length handing.numbers.items ≡ home_count
+  pub within : All (λ number. number < room_of handing.marks) handing.numbers.items
+
+-- A channel waits at the place of its source queue.
+pub record IsWaiting (handing : Handing) (number : ℕ) (end : ChannelEnd) : Type 0 where
+  pub marked : bit_of handing.waiting (home_at end.ni.0 end.queue) ≡ 1
+  pub at : slice_get handing.numbers.items (home_at end.ni.0 end.queue) ≡ Some number
+
+-- A channel hands nothing on: all that is accepted was handed on, or its source queue is full and it
+-- waits there.
+abbrev pub IsResting : List Part → Handing → ℕ → Lane → Type 0
+IsResting parts handing number lane =
+    (HandsNothing lane) ⊎ ((IsFull parts lane.sender) × (IsWaiting handing number lane.sender))
+
+-- Each channel that isn't marked hands nothing on.
+pub record AreHanding (parts : List Part) (lanes : List Lane) (handing : Handing) : Type 0 where
+  pub room : length lanes < room_of handing.marks
+  pub places : HasPlaces handing
+  pub rests : (number : ℕ) (lane : Lane) → slice_get lanes number ≡ Some lane
+      → bit_of handing.marks number ≡ 0 → IsResting parts handing number lane
+
+-- A channel has had its turn: where it is marked no more it hands nothing on, or waits while it is
+-- open. Who waited still does.
+pub record Settles (cycle : ℕ) (lane : Lane) (number : ℕ) (old new : Handing) : Type 0 where
+  pub room : room_of new.marks ≡ room_of old.marks
+  pub places : HasPlaces new
+  pub own : bit_of new.marks number ≡ 0 → (HandsNothing lane)
+      ⊎ ((is_open lane cycle ≡ true) × (IsWaiting new number lane.sender))
+  pub away : (other : ℕ) → other ≢ number → bit_of new.marks other ≡ bit_of old.marks other
+  pub kept : (other : ℕ) (end : ChannelEnd) → IsWaiting old other end → IsWaiting new other end
+
+-- The channels that wait at some interfaces are marked. Who isn't marked wasn't before, and waits as
+-- before, at none of those.
+pub record Wakes (Is : ℕ → Type 0) (old new : Handing) : Type 0 where
+  pub room : room_of new.marks ≡ room_of old.marks
+  pub places : HasPlaces new
+  pub marked : (number : ℕ) → bit_of new.marks number ≡ 0 → bit_of old.marks number ≡ 0
+  pub kept : (number : ℕ) (end : ChannelEnd) → bit_of new.marks number ≡ 0
+      → IsWaiting old number end → IsWaiting new number end
+  pub others : (number : ℕ) (end : ChannelEnd) → bit_of new.marks number ≡ 0
+      → IsWaiting old number end → Is end.ni.0 → ⊥
+
+-- One of these events is for a component.
+abbrev pub HasEvent : List Event → ℕ → Type 0
+HasEvent events number = list_any (λ event. event_part event == number) events ≡ true
+
+-- A component is listed, and is one of the first so many.
+abbrev pub IsListed : ℕ → List ℕ → ℕ → Type 0
+IsListed interfaces numbers number = (number < interfaces) × (is_chosen numbers number ≡ true)
+
+-- Of the first so many components each that sends something of its own is listed.
+abbrev pub AreAmong : ℕ → List Part → ℕ → List ℕ → Type 0
+AreAmong cycle parts interfaces numbers =
+    (number : ℕ) (part : Part) → number < interfaces → slice_get parts number ≡ Some part
+    → sends_own cycle part ≡ true → IsListed interfaces numbers number
