@@ -1,13 +1,12 @@
 -- The flow of a session is what the tables of its use case say.
 use Rattle.std.proofs.Common.{◌≡◌, ◌∙◌, ◌<◌, ◌+◌, ◌*◌, ℕ, List, Option, Some, None, Contains}
 use Rattle.std.proofs.Common.{slice_get, length, drop, refl, sym, ap, subst, arith, eqb, [], ◌∷◌}
-use Rattle.std.proofs.Common.{All, filter, inl, inr}
+use Rattle.std.proofs.Common.{All, filter}
 use Rattle.std.specs.Prelude.{flat_map, map, option_and_then, position, unwrap_or}
 use Rattle.std.specs.List.{filter_map, range_with_len}
 use Rattle.std.proofs.lemmas.List.{map-id}
 use Rattle.std.proofs.lemmas.List.Concat.{flat_map-cons}
 use Rattle.std.proofs.lemmas.List.Elements.{All-head, All-tail}
-use Rattle.std.proofs.lemmas.Option.{none-some, same_Some}
 use Rattle.aeth_base.specs.Limits.{words_per_flit}
 use Rattle.aeth_base.specs.declared.ids.Channel.{Channel}
 use Rattle.aeth_base.specs.declared.ids.ConnId.{ConnId}
@@ -17,8 +16,7 @@ use Rattle.aeth_base.specs.declared.ids.RouterId.{RouterId}
 use Rattle.aeth_base.specs.declared.ids.Side.{Side}
 use Rattle.aeth_base.specs.declared.ids.Side.TheVariants.{Back, Fwd}
 use Rattle.aeth_base.specs.declared.ids.UseId.{UseId}
-use Rattle.aeth_base.proofs.Members.{Contains-cases, Contains-here, Contains-nil, Contains-there}
-use Rattle.aeth_base.proofs.Members.{filter-Contains}
+use Rattle.aeth_base.proofs.Members.{Contains-filter_map, filter-Contains}
 use Rattle.aeth_slots.specs.SlotSet.{Ascends}
 use Rattle.aeth_server.specs.ChannelShape.{shape_of}
 use Rattle.aeth_server.specs.Shape.{IsGranted, Shape, buffer_of}
@@ -248,29 +246,6 @@ module _ (inputs : Inputs) (accepted : AreAccepted inputs) (u : UseId)
 
 -- ---- Tables
 
--- What is given for a number of a list is in the list of all that is given.
-given-in : {Y : Type 0} (give : ℕ → Option Y) (xs : List ℕ) (x : ℕ) (y : Y) → Contains xs x
-    → give x ≡ Some y → Contains (filter_map give xs) y
-given-in give [] x y has gives = Contains-nil has
-given-in {Y} give (first ∷ xs) x y has gives =
-    let cases : (o : Option Y) → give first ≡ o
-    → Contains (filter_map give (first ∷ xs)) y =
-    elim [
-      | None ↦ λ is. elim (Contains-cases first xs x has) [
-        | inl same ↦ absurd (none-some y (sym is ∙ ap give same ∙ gives))
-        | inr later ↦ rw is (given-in give xs x y later gives)
-      ]
-      | Some z ↦ λ is. elim (Contains-cases first xs x has) [
-        | inl same ↦
-            let here : z ≡ y = same_Some z y (sym is ∙ ap give same ∙ gives) in
-            rw is (subst (λ (v : Y). Contains (z ∷ filter_map give xs) v) here
-            (Contains-here z (filter_map give xs)))
-        | inr later ↦ rw is (Contains-there z (filter_map give xs) y
-            (given-in give xs x y later gives))
-      ]
-    ]
-    in cases (give first) refl
-
 -- A connection has all its seats and grants in a group, and what its sides give its channels have.
 abbrev GivesSides : {Y : Type 0} → Inputs → ℕ → (Granted → Side → Y) → (Channel → Y) → ℕ → Type 0
 GivesSides inputs g gives has c = (granted : Granted)
@@ -317,7 +292,7 @@ use-given inputs accepted u known give has same =
     let of_use = (filter-Contains (has_at groups u.0) numbers c inside).1 in
     let (granted, gives) = there inputs.chip inputs.app inputs.plan accepted.design u.0 known c
     (connection-known inputs u.0 c of_use) of_use in
-    let listed = given-in (granted_of inputs.app inputs.plan g) conns c granted inside gives in
+    let listed = Contains-filter_map (granted_of inputs.app inputs.plan g) conns c granted inside gives in
     let conn = (made_of inputs.app inputs.plan g c granted gives).conn_is in (
       granted,
       gives,

@@ -1,9 +1,10 @@
--- What is in a list, as `Contains` has it: at a head and a rest, at a place, under `map`, `filter` and
--- `flat_map`, and by a test.
+-- What is in a list, as `Contains` has it: at a head and a rest, at a place, under `map`, `filter`,
+-- `filter_map` and `flat_map`, and by a test.
 use Rattle.std.proofs.Common.{◌≡◌, ◌≢◌, ◌<◌, ◌⊎◌, ◌∙◌, ℕ, zero, suc, Bool, true, false, cond, eqb}
-use Rattle.std.proofs.Common.{List, [], ◌∷◌, length, map, filter, All, Contains, Some, slice_get}
+use Rattle.std.proofs.Common.{List, [], ◌∷◌, length, map, filter, All, Contains, slice_get}
+use Rattle.std.proofs.Common.{Option, Some, None}
 use Rattle.std.proofs.Common.{arith, refl, sym, ap, subst, inl, inr}
-use Rattle.std.specs.List.{flat_map, list_any}
+use Rattle.std.specs.List.{cons_option, filter_map, flat_map, list_any}
 use Rattle.std.proofs.lemmas.Bool.{both_ways, eq-eqb, eqb-true, or_cases, or_left, or_right}
 use Rattle.std.proofs.lemmas.List.Concat.{flat_map-cons}
 use Rattle.std.proofs.lemmas.List.Elements.{Contains-append_cases, Contains-append_left}
@@ -122,6 +123,21 @@ Contains-flat_map f (first ∷ xs) x y has inside =
       | inr later ↦ Contains-append_right (f first) (flat_map f xs) y
           (Contains-flat_map f xs x y later inside)
     ])
+
+-- What is given for one of a list is among what is given.
+pub Contains-filter_map : {X Y : Type 0} (give : X → Option Y) (xs : List X) (x : X) (y : Y)
+    → Contains xs x → give x ≡ Some y → Contains (filter_map give xs) y
+Contains-filter_map give [] x y has gives = Contains-nil has
+Contains-filter_map {X} {Y} give (first ∷ xs) x y has gives = elim (Contains-cases first xs x has) [
+  | inl here ↦
+      let is : give first ≡ Some y = ap give here ∙ gives in
+      rw is (Contains-here y (filter_map give xs))
+  | inr later ↦
+      let rest = Contains-filter_map give xs x y later gives in
+      let cases : (o : Option Y) → Contains (cons_option o (filter_map give xs)) y =
+      elim [ None ↦ rest | Some other ↦ Contains-there other (filter_map give xs) y rest ]
+      in cases (give first)
+]
 
 -- What is in the lists from all elements is in the one from some element.
 pub flat_map-Contains : {X Y : Type 0} (f : X → List Y) (xs : List X) (y : Y)

@@ -1,7 +1,6 @@
 // Which of some numbers are marked, as masks of 64 numbers each.
 
-ghost use Rattle.std.specs.Int.{bit_at};
-ghost use Rattle.std.specs.Prelude.{◌≡◌, ◌≢◌, ◌<◌, ◌≤◌, ◌+◌, ◌-◌, ◌*◌, ◌^◌, ◌⊎◌, ℕ, IfOk, length};
+ghost use Rattle.std.specs.Prelude.{◌≡◌, ◌≢◌, ◌<◌, ◌≤◌, ◌*◌, ◌^◌, ◌⊎◌, ℕ, IfOk, length};
 ghost use Rattle.aeth_base.specs.Marks.{bit_of, marked_from, numbers_of_mask, room_of};
 
 use crate::marked::Marked;
@@ -98,18 +97,6 @@ impl Marks {
         Marked::of(&self.masks)
     }
 
-    /// Marks the numbers among so many from `from` on no more.
-    pub fn unmark_among(&mut self, from: usize, count: usize)
-        requires { from + count < room_of self.old }
-        ensures room { room_of self.new ≡ room_of self.old }
-        ensures among { (number : ℕ) → from ≤ number → number < from + count
-            → bit_of self.new number ≡ 0 }
-        ensures away { (number : ℕ) → (number < from) ⊎ (from + count ≤ number)
-            → bit_of self.new number ≡ bit_of self.old number }
-    {
-        unmark_among(&mut self.masks, from, from + count);
-    }
-
     /// Marks no number any more.
     pub fn clear(&mut self)
         ensures room { room_of self.new ≡ room_of self.old }
@@ -176,43 +163,4 @@ fn first_in(masks: &[u64], from: usize, end: usize) -> usize
         }
     }
     end
-}
-
-// Clears the bits of the numbers from one on and below an end.
-fn unmark_among(masks: &mut [u64], from: usize, end: usize)
-    requires from { from ≤ end }
-    requires end { end < room_of masks.old }
-    ensures size { length masks.new ≡ length masks.old }
-    ensures among { (number : ℕ) → from ≤ number → number < end → bit_of masks.new number ≡ 0 }
-    ensures away { (number : ℕ) → (number < from) ⊎ (end ≤ number)
-        → bit_of masks.new number ≡ bit_of masks.old number }
-{
-    for place in from / NUMBERS_OF_MASK..end / NUMBERS_OF_MASK + 1 {
-        let first = place * NUMBERS_OF_MASK;
-        let low = from.max(first) - first;
-        let high = (end - first).min(NUMBERS_OF_MASK);
-        masks[place] = outside(masks[place], low as u32, high as u32);
-    }
-}
-
-// The bits of a mask that aren't from a place on and below another.
-fn outside(mask: u64, low: u32, high: u32) -> u64
-    requires low { low ≤ high }
-    requires high { high ≤ numbers_of_mask }
-    ensures among { (bit : ℕ) → low ≤ bit → bit < high → bit_at result bit ≡ 0 }
-    ensures away { (bit : ℕ) → bit < numbers_of_mask → (bit < low) ⊎ (high ≤ bit)
-        → bit_at result bit ≡ bit_at mask bit }
-{
-    mask & !(ones(high) - ones(low))
-}
-
-// So many ones, as the lowest bits.
-fn ones(count: u32) -> u64
-    requires { count ≤ numbers_of_mask }
-    ensures { result ≡ 2 ^ count - 1 }
-{
-    if count == u64::BITS {
-        return u64::MAX;
-    }
-    (1 << count) - 1
 }

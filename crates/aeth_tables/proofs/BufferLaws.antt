@@ -1,11 +1,11 @@
 -- What the channels of all groups need is what those of all use cases need.
-use Rattle.std.proofs.Common.{◌≡◌, ◌∙◌, ◌<◌, ◌&&◌, ◌==◌, ℕ, true, List, [], ◌∷◌, Option, Some, None, Contains}
+use Rattle.std.proofs.Common.{◌≡◌, ◌∙◌, ◌<◌, ◌&&◌, ◌==◌, ℕ, true, Option, Some, None, Contains}
 use Rattle.std.proofs.Common.{ap, arith, filter, inl, inr, length, refl, slice_get, sym}
-use Rattle.std.specs.List.{cons_option, filter_map, range_with_len}
+use Rattle.std.specs.List.{range_with_len}
 use Rattle.std.proofs.lemmas.Bool.{and_parts, cases_Bool, eqb-true}
 use Rattle.std.proofs.lemmas.Option.{slice_get_within}
-use Rattle.aeth_base.proofs.Members.{Contains-cases, Contains-filter, Contains-flat_map, Contains-here}
-use Rattle.aeth_base.proofs.Members.{Contains-nil, Contains-there, filter-Contains, flat_map-Contains}
+use Rattle.aeth_base.proofs.Members.{Contains-filter, Contains-filter_map, Contains-flat_map}
+use Rattle.aeth_base.proofs.Members.{Contains-nil, filter-Contains, flat_map-Contains}
 use Rattle.aeth_base.proofs.Members.{slice_get-Contains}
 use Rattle.aeth_base.proofs.Ranges.{Contains-range, range-Contains}
 use Rattle.aeth_chip.specs.Chip.{ChipData}
@@ -23,21 +23,6 @@ use Rattle.aeth_tables.specs.declared.buffering.Buffer.{Buffer}
 use Rattle.aeth_tables.specs.declared.granted.GrantedConnection.{GrantedConnection}
 use Rattle.aeth_tables.proofs.PlaceLaws.{given_by}
 use Rattle.aeth_tables.proofs.UseLaws.{group_below, member_of_use}
-
--- What is given for one of a list is among what is given.
-Contains-given : {X Y : Type 0} (give : X → Option Y) (xs : List X) (x : X) (y : Y) → Contains xs x
-    → give x ≡ Some y → Contains (filter_map give xs) y
-Contains-given give [] x y has gives = Contains-nil has
-Contains-given {X} {Y} give (first ∷ xs) x y has gives = elim (Contains-cases first xs x has) [
-  | inl here ↦
-      let is : give first ≡ Some y = ap give here ∙ gives in
-      rw is (Contains-here y (filter_map give xs))
-  | inr later ↦
-      let rest = Contains-given give xs x y later gives in
-      let cases : (o : Option Y) → Contains (cons_option o (filter_map give xs)) y =
-      elim [ None ↦ rest | Some other ↦ Contains-there other (filter_map give xs) y rest ]
-      in cases (give first)
-]
 
 module _ (chip : ChipData) (app : AppData) (plan : PlanData) (design : IsDesign chip app plan) where
   -- What a connection of a use case needs is among what all need.
@@ -112,7 +97,7 @@ module _ (chip : ChipData) (app : AppData) (plan : PlanData) (design : IsDesign 
                     u,
                     within,
                     granted,
-                    Contains-given (granted_of app plan (group_at groups u))
+                    Contains-filter_map (granted_of app plan (group_at groups u))
                         (filter (has_at groups u) all) conn granted
                         (Contains-filter (has_at groups u) all conn
                         (Contains-range 0 groups.connections conn (omega arith)

@@ -22,8 +22,11 @@ use std::alloc::Global;
 /// this must have room.
 #[derive(Clone, Copy)]
 pub struct Buffer {
+    /// The receiving interface.
     pub ni: NiId,
+    /// The queue there: below 32.
     pub queue: u8,
+    /// The words that wait there at most.
     pub words: u32,
 }
 
