@@ -16,7 +16,7 @@ use Rattle.aeth_components.specs.declared.lane.Lane.{Lane}
 use Rattle.aeth_components.specs.declared.handing.Handing.{Handing}
 use Rattle.aeth_components.specs.Homes.{home_at, home_count}
 use Rattle.aeth_components.specs.Lanes.{is_open}
-use Rattle.aeth_components.specs.Handing.{HasPlaces, Settles, Wakes}
+use Rattle.aeth_components.specs.Handing.{HasWaitingPlaces, Settles, Wakes}
 
 -- From a first place on, up to another, who waited is marked. All else is as it was.
 pub record AreWoken (first to : ℕ) (old new : Handing) : Type 0 where
@@ -96,7 +96,7 @@ AreWoken-more first place next old now new number woken from before at room size
 pub Wakes-all : (interface first to : ℕ) (old new : Handing)
     → ((end : ChannelEnd) → end.ni.0 ≡ interface
     → (first ≤ home_at end.ni.0 end.queue) × (home_at end.ni.0 end.queue < to))
-    → HasPlaces old → AreWoken first to old new → Wakes (λ other. other ≡ interface) old new
+    → HasWaitingPlaces old → AreWoken first to old new → Wakes (λ other. other ≡ interface) old new
 Wakes-all interface first to old new there places woken = record {
   room = woken.room;
   places = record {
@@ -129,7 +129,7 @@ Wakes-all interface first to old new there places woken = record {
 }
 
 -- Nobody is woken yet.
-pub Wakes-none : (Is : ℕ → Type 0) (old : Handing) → HasPlaces old → ((n : ℕ) → Is n → ⊥)
+pub Wakes-none : (Is : ℕ → Type 0) (old : Handing) → HasWaitingPlaces old → ((n : ℕ) → Is n → ⊥)
     → Wakes Is old old
 Wakes-none Is old places none = record {
   room = refl;
@@ -190,7 +190,7 @@ among-more {X} f xs i d n within is =
     ]
 
 -- A channel that is unmarked where it waits, at a place where nobody did, or it did itself.
-pub Settles-waits : (cycle number place : ℕ) (lane : Lane) (old new : Handing) → HasPlaces old
+pub Settles-waits : (cycle number place : ℕ) (lane : Lane) (old new : Handing) → HasWaitingPlaces old
     → place ≡ home_at lane.sender.ni.0 lane.sender.queue → place < home_count
     → is_open lane cycle ≡ true → number < room_of old.marks
     → room_of new.marks ≡ room_of old.marks → room_of new.waiting ≡ room_of old.waiting

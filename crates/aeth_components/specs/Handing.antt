@@ -1,9 +1,9 @@
 -- Which channels hand words on, and which of them wait for room in their source queues.
 --
---   room_left, IsFull            the room in a source queue
---   HasPlaces, IsWaiting         that there are marks, and the channel that waits at a place
---   AreHanding                   what is marked of the channels of a network
---   Settles, Wakes               what a turn makes of it, and what interfaces with room do
+--   room_left, IsFull                the room in a source queue
+--   HasWaitingPlaces, IsWaiting      that there are marks, and the channel that waits at a place
+--   IsResting, AreHanding            what is marked of the channels of a network
+--   Settles, Wakes                   what a turn makes of it, and what interfaces with room do
 --   HasEvent, IsListed, AreAmong     which interfaces those are
 --
 -- This project's own.
@@ -34,7 +34,7 @@ abbrev pub IsFull : List Part → ChannelEnd → Type 0
 IsFull parts end = told_at end room_left parts ≡ 0
 
 -- There is a mark for each place, and for each channel that is noted at one.
-pub record HasPlaces (handing : Handing) : Type 0 where
+pub record HasWaitingPlaces (handing : Handing) : Type 0 where
   pub waiting : home_count < room_of handing.waiting
   pub size : length handing.numbers.items ≡ home_count
   pub within : All (λ number. number < room_of handing.marks) handing.numbers.items
@@ -53,7 +53,7 @@ IsResting parts handing number lane =
 -- Each channel that isn't marked hands nothing on.
 pub record AreHanding (parts : List Part) (lanes : List Lane) (handing : Handing) : Type 0 where
   pub room : length lanes < room_of handing.marks
-  pub places : HasPlaces handing
+  pub places : HasWaitingPlaces handing
   pub rests : (number : ℕ) (lane : Lane) → slice_get lanes number ≡ Some lane
       → bit_of handing.marks number ≡ 0 → IsResting parts handing number lane
 
@@ -61,7 +61,7 @@ pub record AreHanding (parts : List Part) (lanes : List Lane) (handing : Handing
 -- open. Who waited still does.
 pub record Settles (cycle : ℕ) (lane : Lane) (number : ℕ) (old new : Handing) : Type 0 where
   pub room : room_of new.marks ≡ room_of old.marks
-  pub places : HasPlaces new
+  pub places : HasWaitingPlaces new
   pub own : bit_of new.marks number ≡ 0 → (HandsNothing lane)
       ⊎ ((is_open lane cycle ≡ true) × (IsWaiting new number lane.sender))
   pub away : (other : ℕ) → other ≢ number → bit_of new.marks other ≡ bit_of old.marks other
@@ -71,7 +71,7 @@ pub record Settles (cycle : ℕ) (lane : Lane) (number : ℕ) (old new : Handing
 -- before, at none of those.
 pub record Wakes (Is : ℕ → Type 0) (old new : Handing) : Type 0 where
   pub room : room_of new.marks ≡ room_of old.marks
-  pub places : HasPlaces new
+  pub places : HasWaitingPlaces new
   pub marked : (number : ℕ) → bit_of new.marks number ≡ 0 → bit_of old.marks number ≡ 0
   pub kept : (number : ℕ) (end : ChannelEnd) → bit_of new.marks number ≡ 0
       → IsWaiting old number end → IsWaiting new number end

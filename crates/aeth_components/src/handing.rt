@@ -2,7 +2,8 @@
 
 ghost use Rattle.std.specs.Prelude.{◌≡◌, ◌<◌, ℕ, IfOk, List, length};
 ghost use Rattle.aeth_base.specs.Marks.{bit_of, room_of};
-ghost use Rattle.aeth_components.specs.Handing.{AreHanding, HasEvent, HasPlaces, IsListed, Settles, Wakes};
+ghost use Rattle.aeth_components.specs.Handing.{AreHanding, HasEvent, HasWaitingPlaces, IsListed};
+ghost use Rattle.aeth_components.specs.Handing.{Settles, Wakes};
 ghost use Rattle.aeth_router.specs.declared.part.Part.{Part as PartState};
 
 use crate::event::Event;
@@ -38,7 +39,7 @@ impl Handing {
     // on, nor where it waits: once it is open and words are left, its source queue is full.
     pub(crate) fn settle(&mut self, lane: &Lane, number: usize, cycle: u32)
         requires number { number < room_of self.old.marks }
-        requires places { HasPlaces self.old }
+        requires places { HasWaitingPlaces self.old }
         requires marked { bit_of self.old.marks number ≡ 1 }
         ensures { Settles cycle lane.now number self.old self.new }
     {
@@ -57,7 +58,7 @@ impl Handing {
 
     // The channels that wait for room at an interface may hand words on.
     fn wake(&mut self, interface: u32)
-        requires { HasPlaces self.old }
+        requires { HasWaitingPlaces self.old }
         ensures { Wakes (λ other. other ≡ interface) self.old self.new }
     {
         let first = place_of(interface, 0);
@@ -73,7 +74,7 @@ impl Handing {
 
     // So of all interfaces that events are for.
     pub(crate) fn wake_for(&mut self, events: &[Event])
-        requires { HasPlaces self.old }
+        requires { HasWaitingPlaces self.old }
         ensures { Wakes (HasEvent events.now) self.old self.new }
     {
         for event in events {
@@ -83,7 +84,7 @@ impl Handing {
 
     // So of all interfaces, which are the first so many components, that are listed.
     pub(crate) fn wake_among(&mut self, numbers: &[u32], interfaces: u32)
-        requires { HasPlaces self.old }
+        requires { HasWaitingPlaces self.old }
         ensures { Wakes (IsListed interfaces numbers.now) self.old self.new }
     {
         for number in numbers {

@@ -7,12 +7,6 @@ ghost use Rattle.aeth_components.specs.Events.{event_part};
 ghost use Rattle.aeth_components.specs.Injecting.{NotesWrite, marks_at};
 ghost use Rattle.aeth_components.specs.Turns.{AreSendersMarked, MarkSending};
 ghost use Rattle.aeth_components.specs.declared.event.Event.TheVariants.{Change};
-ghost use Rattle.std.specs.Prelude.{◌≡◌, ◌<◌, ◌%◌, ℕ, All, IfOk, length};
-ghost use Rattle.aeth_base.specs.Marks.{bit_of, room_of};
-ghost use Rattle.aeth_ni.specs.Writes.{addressee};
-ghost use Rattle.aeth_components.specs.Events.{event_part};
-ghost use Rattle.aeth_components.specs.Injecting.{NotesWrite, marks_at};
-ghost use Rattle.aeth_components.specs.declared.event.Event.TheVariants.{Change};
 
 use crate::event::Event;
 use crate::parts::sends_own;
