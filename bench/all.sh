@@ -97,7 +97,7 @@ run short simulate_tables_short - 111213202 \
 run long simulate_idle 110 50196354 simulate chip app_hops plan words_none receivers_none switches_one 1000000
 run long simulate_sparse - 2319847085 simulate chip app_hops plan words_sparse receivers switches_1024 1000000
 run long simulate_dense - 2019582625 simulate chip app_hops plan words_dense receivers_none switches_one 1000000
-run long simulate_tables_dense - 2006081720 \
+run long simulate_tables_dense 160 2006081720 \
     simulate-tables chip app_hops plan words_dense receivers_none switches_one 1000000
 run long simulate_delays - 2193411327 simulate chip128 app_hops plan128 words_sparse receivers switches_one 1000000
 run short chain 61 802708730 chain chip app_hops plan u0 \
