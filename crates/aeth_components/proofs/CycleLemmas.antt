@@ -1,7 +1,7 @@
 -- What holds of components and channels in each phase of a cycle.
 use Rattle.std.proofs.Common.{ℕ, ◌≡◌, refl, sym, ◌∙◌, ap, subst, length, map, List, Option}
 use Rattle.std.proofs.Common.{arith, fold}
-use Rattle.std.proofs.Common.{zero, suc, [], ◌∷◌, Some, slice_get, length-set}
+use Rattle.std.proofs.Common.{zero, suc, [], ◌∷◌, Some, slice_get}
 use Rattle.std.specs.Prelude.{slice_set}
 use Rattle.std.proofs.lemmas.Option.{same_Some}
 use Rattle.std.specs.List.{All, range_with_len}
@@ -115,23 +115,29 @@ module _ (events : List Event) (cycle : ℕ) (old : ComponentsState) (wires : Li
         few = omega arith;
       }
 
--- Events keep it too.
-pub IsComponents-switched : (events : List Event) (all : ComponentsState) → IsComponents all
-    → IsComponents (record all { parts = switched events all.parts })
-IsComponents-switched events all before =
-    let frames = frames-switched events all.parts in
+-- So it does of others with the same frames.
+pub IsComponents-framed : (others : List Part) (all : ComponentsState)
+    → map frame_of others ≡ map frame_of all.parts → IsComponents all
+    → IsComponents (record all { parts = others })
+IsComponents-framed others all framed before =
     let size = length-map all.parts frame_of in
-    let size_now = length-map (switched events all.parts) frame_of in
-    let same = ap length frames in
-    let count : length all.parts ≡ length (switched events all.parts) = omega arith in
+    let size_now = length-map others frame_of in
+    let same = ap length framed in
+    let count : length all.parts ≡ length others = omega arith in
     record {
-      wired = subst (λ (list : List Frame). IsWired list (length all.wires)) (sym frames)
+      wired = subst (λ (list : List Frame). IsWired list (length all.wires)) (sym framed)
           before.wired;
       lanes = subst (λ n. All (IsLane (length all.words) n) all.lanes) count before.lanes;
       landings = before.landings;
       flits = before.flits;
       few = before.few;
     }
+
+-- Events keep it too.
+pub IsComponents-switched : (events : List Event) (all : ComponentsState) → IsComponents all
+    → IsComponents (record all { parts = switched events all.parts })
+IsComponents-switched events all =
+    IsComponents-framed (switched events all.parts) all (frames-switched events all.parts)
 
 -- A component in place of one of which the same is seen.
 pub views-slice_set : {X : Type 0} (view : Part → X) (parts : List Part) (number : ℕ) (part : Part)
@@ -146,15 +152,9 @@ views-slice_set {X = X} view (first ∷ parts) (suc number) part at =
 pub IsComponents-replaced : (number : ℕ) (part : Part) (all : ComponentsState)
     → slice_get (frames_of all) number ≡ Some (frame_of part) → IsComponents all
     → IsComponents (record all { parts = slice_set all.parts number part })
-IsComponents-replaced number part all at before = record {
-  wired = subst (λ (frames : List Frame). IsWired frames (length all.wires))
-      (sym (views-slice_set frame_of all.parts number part at)) before.wired;
-  lanes = subst (λ n. All (IsLane (length all.words) n) all.lanes)
-      (sym (length-set all.parts number part)) before.lanes;
-  landings = before.landings;
-  flits = before.flits;
-  few = before.few;
-}
+IsComponents-replaced number part all at =
+    IsComponents-framed (slice_set all.parts number part) all
+    (views-slice_set frame_of all.parts number part at)
 
 -- Components whose lists are the same.
 pub components-same : (wires : List (Option Flit)) (lanes : List Lane) (parts parts_too : List Part)

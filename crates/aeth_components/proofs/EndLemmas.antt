@@ -27,24 +27,24 @@ use Rattle.aeth_components.proofs.MadeLemmas.{Made, IsInterface, IsRouter, IsSta
 use Rattle.aeth_components.proofs.MadeLemmas.{frame-sends, length-new_parts, made-at}
 
 -- A wire of a link, and the component that receives on it.
-record ReceivesAt (chip : ChipData) (i wire : ℕ) : Type 0 where
-  number : ℕ
-  place : ℕ
-  link : Link
-  at : slice_get chip.links number ≡ Some link
-  short : place < link.delay
-  is : wire ≡ wire_at chip.links number place
-  number_is : receiver_for chip number place link ≡ i
+pub record ReceivesAt (chip : ChipData) (i wire : ℕ) : Type 0 where
+  pub number : ℕ
+  pub place : ℕ
+  pub link : Link
+  pub at : slice_get chip.links number ≡ Some link
+  pub short : place < link.delay
+  pub is : wire ≡ wire_at chip.links number place
+  pub number_is : receiver_for chip number place link ≡ i
 
 -- The component at the end of a link receives on its last wire.
-last-receiver : (chip : ChipData) (number : ℕ) (link : Link) → 0 < link.delay
+pub last-receiver : (chip : ChipData) (number : ℕ) (link : Link) → 0 < link.delay
     → receiver_for chip number (link.delay - 1) link ≡ part_number (length chip.nis) link.to
 last-receiver chip number link some =
     let last = eq-eqb (link.delay - 1 + 1) link.delay (omega arith) in
     rw last refl
 
 -- A stage receives on each other one.
-stage-receiver : (chip : ChipData) (number place : ℕ) (link : Link) → place + 1 ≢ link.delay
+pub stage-receiver : (chip : ChipData) (number place : ℕ) (link : Link) → place + 1 ≢ link.delay
     → receiver_for chip number place link
     ≡ stage_number chip (wire_at chip.links number (place + 1))
 stage-receiver chip number place link before =

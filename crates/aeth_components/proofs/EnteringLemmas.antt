@@ -1,9 +1,7 @@
 -- What rows that enter the tables of routers leave as it was, and what they change.
-use Rattle.std.proofs.Common.{ℕ, ◌≡◌, ◌∙◌, refl, sym, ap, subst, List, length, map}
+use Rattle.std.proofs.Common.{ℕ, ◌≡◌, ◌∙◌, refl, sym, ap, List, map}
 use Rattle.std.proofs.Common.{Option, Some, None, slice_get}
-use Rattle.std.specs.List.{All}
 use Rattle.std.specs.Option.{option_map}
-use Rattle.std.proofs.lemmas.List.{length-map}
 use Rattle.std.proofs.lemmas.Option.{slice_get-map}
 use Rattle.aeth_ni.specs.Interface.{InterfaceState}
 use Rattle.aeth_router.specs.Rows.{with_table}
@@ -14,15 +12,15 @@ use Rattle.aeth_router.specs.declared.router_row.RouterRow.{RouterRow}
 use Rattle.aeth_router.proofs.RowLemmas.{with_table-kept}
 use Rattle.aeth_components.specs.Components.{ComponentsState, IsComponents}
 use Rattle.aeth_components.specs.Entering.{entered, with_rows}
-use Rattle.aeth_components.specs.Frames.{Frame, IsWired, RouterFrame, frame_of}
+use Rattle.aeth_components.specs.Frames.{RouterFrame, frame_of}
 use Rattle.aeth_components.specs.Injecting.{entries_of}
-use Rattle.aeth_components.specs.Lanes.{IsLane}
-use Rattle.aeth_components.specs.Resting.{RouterHolds, holding_of}
 use Rattle.aeth_components.specs.Switching.{entry_in, entry_of}
+use Rattle.aeth_components.specs.Telling.{last_of}
 use Rattle.aeth_components.specs.View.{queue_in, queue_of}
+use Rattle.aeth_components.proofs.CycleLemmas.{IsComponents-framed}
 use Rattle.aeth_components.proofs.FrameLemmas.{from-map, views-map}
 
--- Rows change no wire of a router, and nothing that it holds.
+-- Rows change no wire of a router.
 frame-entered : (rows : List RouterRow) (part : Part) → frame_of (entered rows part) ≡ frame_of part
 frame-entered rows (Interface ni) = refl
 frame-entered rows (Router router) = refl
@@ -31,14 +29,11 @@ frame-entered rows (TableRouter router) =
     (with_table-kept rows router)
 frame-entered rows (Stage stage) = refl
 
-holding-entered : (rows : List RouterRow) (part : Part)
-    → holding_of (entered rows part) ≡ holding_of part
-holding-entered rows (Interface ni) = refl
-holding-entered rows (Router router) = refl
-holding-entered rows (TableRouter router) =
-    ap (λ (router : TableRouterState). RouterHolds router.incoming router.held)
-    (with_table-kept rows router)
-holding-entered rows (Stage stage) = refl
+last-entered : (rows : List RouterRow) (part : Part) → last_of (entered rows part) ≡ last_of part
+last-entered rows (Interface ni) = refl
+last-entered rows (Router router) = refl
+last-entered rows (TableRouter router) = refl
+last-entered rows (Stage stage) = refl
 
 entries-entered : (rows : List RouterRow) (part : Part)
     → entries_of (entered rows part) ≡ entries_of part
@@ -47,14 +42,14 @@ entries-entered rows (Router router) = refl
 entries-entered rows (TableRouter router) = refl
 entries-entered rows (Stage stage) = refl
 
--- So the frames stay, what is held, and the slot tables of the interfaces.
+-- So the frames stay, what is told of flits, and the slot tables of the interfaces.
 pub frames-entered : (rows : List RouterRow) (parts : List Part)
     → map frame_of (with_rows rows parts) ≡ map frame_of parts
 frames-entered rows = views-map frame_of (entered rows) (frame-entered rows)
 
-pub holdings-entered : (rows : List RouterRow) (parts : List Part)
-    → map holding_of (with_rows rows parts) ≡ map holding_of parts
-holdings-entered rows = views-map holding_of (entered rows) (holding-entered rows)
+pub lasts-entered : (rows : List RouterRow) (parts : List Part)
+    → map last_of (with_rows rows parts) ≡ map last_of parts
+lasts-entered rows = views-map last_of (entered rows) (last-entered rows)
 
 pub tables-entered : (rows : List RouterRow) (parts : List Part)
     → map entries_of (with_rows rows parts) ≡ map entries_of parts
@@ -93,15 +88,8 @@ entry_of-entered rows parts ni slot =
 -- What holds of components still holds once rows have entered.
 pub IsComponents-entered : (rows : List RouterRow) (all : ComponentsState) → IsComponents all
     → IsComponents (record all { parts = with_rows rows all.parts })
-IsComponents-entered rows all before = record {
-  wired = subst (λ (list : List Frame). IsWired list (length all.wires))
-      (sym (frames-entered rows all.parts)) before.wired;
-  lanes = subst (λ n. All (IsLane (length all.words) n) all.lanes)
-      (sym (length-map all.parts (entered rows))) before.lanes;
-  landings = before.landings;
-  flits = before.flits;
-  few = before.few;
-}
+IsComponents-entered rows all =
+    IsComponents-framed (with_rows rows all.parts) all (frames-entered rows all.parts)
 
 -- Each component that is none of these routers is as it was, and each of them has just these rows.
 entered-interface : (rows : List RouterRow) (part : Part) (ni : InterfaceState)

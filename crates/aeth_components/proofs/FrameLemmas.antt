@@ -8,6 +8,7 @@ use Rattle.std.proofs.lemmas.Option.{same_Some}
 use Rattle.aeth_clocked.specs.Driven.{driven, is_output}
 use Rattle.aeth_clocked.proofs.DrivenLemmas.{is_output-at}
 use Rattle.aeth_router.specs.Part.{emit_of}
+use Rattle.std.specs.Prelude.{IsSome}
 use Rattle.std.specs.Option.{option_map}
 use Rattle.std.proofs.lemmas.List.{length-map, get_or-map}
 use Rattle.std.proofs.lemmas.Option.{slice_get-map}
@@ -90,6 +91,17 @@ pub from-map : {X Y : Type 0} (f : X → Y) (xs : List X) (i : ℕ) (y : Y)
 from-map f [] i y at = absurd cc
 from-map f (x ∷ xs) zero y at = (x, refl, sym (same_Some (f x) y at))
 from-map f (x ∷ xs) (suc i) y at = from-map f xs i y at
+
+-- What is at a place, seen otherwise.
+pub seen-at : {X : Type 0} (view : Part → X) (parts : List Part) (number : ℕ) (part : Part)
+    → slice_get parts number ≡ Some part → slice_get (map view parts) number ≡ Some (view part)
+seen-at view parts number part at =
+    slice_get-map view parts number ∙ ap (option_map view) at
+
+-- A flit is none that can't be one.
+pub none-unless : (flit : Option Flit) → (IsSome flit → ⊥) → flit ≡ None
+none-unless None never = refl
+none-unless (Some flit) never = absurd (never refl)
 
 -- On each wire some component sends.
 pub is_output-parts : (parts : List Part) (count : ℕ) → IsWired (map frame_of parts) count

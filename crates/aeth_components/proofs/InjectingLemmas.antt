@@ -26,7 +26,7 @@ use Rattle.aeth_components.specs.Switching.{SlotWrite, Writes, entry_of, slot_wr
 use Rattle.aeth_components.specs.Turns.{sends_own}
 use Rattle.aeth_components.proofs.PartLemmas.{length-with_part}
 use Rattle.aeth_components.proofs.SlotLemmas.{entry_of-happened_other, entry_of-happened_own}
-use Rattle.aeth_components.proofs.UnlistedLemmas.{seen-at}
+use Rattle.aeth_components.proofs.FrameLemmas.{seen-at}
 
 -- An event is noted where the marks of the slot that it writes have changed at its interface alone.
 pub NotesWrite-set : (event : Event) (write : SlotWrite) (old : List (List ℕ)) (marks new : List ℕ)
@@ -226,3 +226,14 @@ AreInjecting-sends cycle parts slots are number part at sends =
     (ap (λ (list : List (Option ℕ)). slice_index_or list (cycle % length slots) None)
     (table_at-parts parts number part at)
     ∙ ap (λ n. slice_index_or (entries_of part) (cycle % n) None) (sym same) ∙ entry.1)
+
+-- There are marks for every component in each slot.
+pub marks-room : (cycle : ℕ) (parts : List Part) (slots : List (List ℕ))
+    → AreInjecting (map entries_of parts) slots
+    → length parts < room_of (marks_at slots (cycle % length slots))
+marks-room cycle parts slots are =
+    let count = length-map parts entries_of in
+    let some = are.some in
+    let within : cycle % length slots < length slots = omega (arith, some) in
+    let room = are.room (cycle % length slots) [] within in
+    omega (arith, count, room)

@@ -1,39 +1,45 @@
 pub mod AloneLemmas
-mod BroughtLemmas
+mod CameLemmas
+mod CarriedLemmas
 pub mod CountingLemmas
 mod CycleLemmas
+mod DriveLemmas
 mod EndLemmas
 pub mod EnteringLemmas
 mod FirstLemmas
 pub mod FrameLemmas
 mod FullLemmas
-mod HalvesLemmas
-pub mod HoldingLemmas
 mod HomeLemmas
+mod InjectLemmas
 mod InjectingLemmas
 pub mod KeptLemmas
 pub mod KindLemmas
+mod LandingLemmas
 pub mod LaneLemmas
-mod ListedLemmas
 pub mod MadeLemmas
 pub mod MadeParts
 mod MarkLemmas
 mod MarkedLemmas
 mod NextLemmas
 pub mod NoteLemmas
+mod OwnLemmas
 pub mod PartLemmas
+mod PassedLemmas
 pub mod QueueLemmas
 mod ReadyLemmas
+mod ReceivedLemmas
 mod ReceiverLemmas
 mod RoomLemmas
-mod SenderLemmas
+pub mod SeenCycle
+pub mod SeenLemmas
+pub mod SeenPhases
 mod SendingLemmas
 mod SkipLemmas
 mod SlotLemmas
 mod SwitchingLemmas
 mod TableLemmas
+mod TellingLemmas
 pub mod TurnLemmas
 mod TurnsAlone
-mod UnlistedLemmas
 mod WaitingLemmas
 mod WakingLemmas

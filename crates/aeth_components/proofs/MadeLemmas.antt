@@ -59,7 +59,8 @@ module _ (chip : ChipData) (rooms : List ℕ) where
       let second = length-map-range_with_len (made_router chip ByHeader) 0 (length chip.routers) in
       length-append interfaces routers ∙ omega arith
 
-  length-stages : length (made_stages chip.links (length chip.links)) ≡ further_wires chip.links
+  -- As many stages as further wires.
+  pub length-stages : length (made_stages chip.links (length chip.links)) ≡ further_wires chip.links
   length-stages =
       length-made_stages chip.links (length chip.links) (omega arith)
       ∙ ap further_wires (take_all (length chip.links) chip.links (omega arith))

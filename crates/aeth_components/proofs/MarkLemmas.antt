@@ -1,9 +1,13 @@
 -- Laws of the masks that mark channels.
-use Rattle.std.proofs.Common.{ℕ, ◌≡◌, ◌≢◌, ◌<◌, ◌∙◌}
+use Rattle.std.proofs.Common.{ℕ, ◌≡◌, ◌≢◌, ◌<◌, ◌/◌, ◌%◌, ◌∙◌}
 use Rattle.std.proofs.Common.{sym, ap, arith}
 use Rattle.std.proofs.Common.{inl, inr, subst, List, get_or, length}
 use Rattle.std.proofs.Common.{length-set, set, Some, slice_get}
-use Rattle.std.proofs.lemmas.Bool.{cases_eq}
+use Rattle.std.specs.Int.{bit_at}
+use Rattle.std.specs.Prelude.{slice_index}
+use Rattle.std.proofs.lemmas.Bool.{cases_eq, cases_lt}
+use Rattle.std.proofs.lemmas.List.{get_or_past}
+use Rattle.std.proofs.lemmas.Nat.Bits.{bit_at-zero}
 use Rattle.std.proofs.lemmas.Option.{same_Some}
 use Rattle.std.proofs.lemmas.Option.{slice_get-get_or, slice_get_within}
 use Rattle.aeth_base.proofs.Lists.{slice_get-slice_set_other, slice_get-slice_set_same}
@@ -95,6 +99,18 @@ AreMarked-all masks lanes size all =
           let within = slice_get_within lanes number lane at in
           absurd (omega (arith, bit, all number (omega arith)));
     }
+
+-- A marked number is one that there is room for.
+pub marked-within : (masks : List ℕ) (number : ℕ) → bit_of masks number ≡ 1 → number < room_of masks
+marked-within masks number bit = elim (cases_lt number (room_of masks)) [
+  | inl within ↦ within
+  | inr past ↦
+      let mask : slice_index masks (number / 64) ≡ 0 =
+      get_or_past masks (number / 64) 0 (omega (arith, past)) in
+      let none : bit_of masks number ≡ 0 =
+      ap (λ mask. bit_at mask (number % 64)) mask ∙ bit_at-zero (number % 64) in
+      absurd (omega (arith, bit, none))
+]
 
 -- A turn keeps what it leaves alone.
 pub kept-alone : (IsStill : Lane → Type 0) (turn : List Part → Lane → List Part × Lane)

@@ -12,7 +12,7 @@ use Rattle.aeth_components.specs.Frames.{Frame, frame_of}
 use Rattle.aeth_components.specs.Injecting.{AreInjecting, entries_of, marks_at}
 use Rattle.aeth_components.specs.Turns.{sends_own}
 use Rattle.aeth_components.proofs.InjectingLemmas.{AreInjecting-sends, length-sends}
-use Rattle.aeth_components.proofs.UnlistedLemmas.{seen-at}
+use Rattle.aeth_components.proofs.FrameLemmas.{seen-at}
 
 -- What sends something of its own is an interface.
 sends-interface : (cycle : ℕ) (part : Part) → sends_own cycle part ≡ true

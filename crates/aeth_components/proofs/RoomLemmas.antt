@@ -1,44 +1,43 @@
 -- Laws of the room in source queues: which phases of a cycle leave a full queue full.
 use Rattle.std.proofs.Common.{ℕ, zero, suc, ◌≡◌, ◌∙◌, ◌||◌, refl, sym, ap}
 use Rattle.std.proofs.Common.{inl, inr, true, false, map, List, [], ◌∷◌, length}
-use Rattle.std.proofs.Common.{Option, Some, None, slice_get, get_or, is_some, set}
+use Rattle.std.proofs.Common.{Option, Some, None, slice_get, get_or, set}
 use Rattle.std.specs.Prelude.{◌==◌}
 use Rattle.std.specs.List.{list_any, range_with_len}
 use Rattle.std.specs.Option.{option_map, option_map_or}
 use Rattle.std.proofs.Math.Bool.{or-true}
 use Rattle.std.proofs.Math.ListN.{get_or-map}
 use Rattle.std.proofs.Math.Seq.{map-set_same}
-use Rattle.std.proofs.lemmas.Bool.{cases_Bool, cases_eq, cases_lt, eq-eqb}
+use Rattle.std.proofs.lemmas.Bool.{cases_Bool, cases_eq, eq-eqb}
 use Rattle.std.proofs.lemmas.Option.{slice_get-map}
 use Rattle.aeth_clocked.specs.Wires.{flit_on}
 use Rattle.aeth_clocked.specs.declared.flit.Flit.{Flit}
-use Rattle.aeth_ni.specs.Component.{Arrival, arrival_of, emitted_by, landed_at, queue_at_cycle}
+use Rattle.aeth_ni.specs.Component.{Arrival, arrival_of, interface_absorb, interface_after}
+use Rattle.aeth_ni.specs.Component.{landed_at}
 use Rattle.aeth_ni.specs.Interface.{changed, queue_at}
 use Rattle.aeth_ni.specs.Limits.{waiting_words}
 use Rattle.aeth_ni.specs.Queue.{QueueState, empty_queue, word_taken}
-use Rattle.aeth_router.specs.Part.{absorb_of, after_of}
 use Rattle.aeth_router.specs.declared.part.Part.{Part}
 use Rattle.aeth_router.specs.declared.part.Part.TheVariants.{Interface, Router, Stage, TableRouter}
 use Rattle.aeth_router.specs.declared.router_row.RouterRow.{RouterRow}
-use Rattle.aeth_components.specs.declared.ends.Ends.{Ends}
 use Rattle.aeth_components.specs.declared.event.Event.{Event}
 use Rattle.aeth_components.specs.declared.lane.ChannelEnd.{ChannelEnd}
 use Rattle.aeth_components.specs.declared.lane.Lane.{Lane}
 use Rattle.aeth_components.proofs.AloneLemmas.{slice_get-with_part_other}
-use Rattle.aeth_components.proofs.HoldingLemmas.{RestsDrive-part}
+use Rattle.aeth_components.proofs.OwnLemmas.{still-mute}
 use Rattle.aeth_components.proofs.PartLemmas.{views-with_part}
 use Rattle.aeth_components.proofs.QueueLemmas.{taken-none, taken-some}
 use Rattle.aeth_components.proofs.TurnLemmas.{views-turns}
 use Rattle.aeth_components.specs.Changes.{event_done, happened, on_interface, switched}
 use Rattle.aeth_components.specs.Changes.{told_at, told_by}
-use Rattle.aeth_components.specs.Ends.{AreEnds, is_interface}
 use Rattle.aeth_components.specs.Entering.{entered, with_rows}
 use Rattle.aeth_components.specs.Events.{event_part}
-use Rattle.aeth_components.specs.Frames.{frame_of}
 use Rattle.aeth_components.specs.Lanes.{is_open}
 use Rattle.aeth_components.specs.Phases.{Moment, asked_of, in_turn, pulled}
 use Rattle.aeth_components.specs.Queues.{drawn}
-use Rattle.aeth_components.specs.Handing.{AreAmong, HasEvent, IsFull, IsListed, room_left}
+use Rattle.aeth_components.specs.Handing.{HasEvent, IsFull, room_left}
+use Rattle.aeth_components.specs.Seen.{interfaces_driven, interfaces_latched}
+use Rattle.aeth_components.specs.Sending.{IsSending}
 use Rattle.aeth_components.specs.Turns.{sends_own}
 
 -- The room in the source queues of an interface.
@@ -120,7 +119,7 @@ rooms-landed (Some arrival) queues =
     map-set_same room_left queues arrival.header.queue _ (empty_queue 0) refl
 
 rooms-absorbed : (wires : List (Option Flit)) (part : Part)
-    → rooms_of (absorb_of part wires) ≡ rooms_of part
+    → rooms_of (on_interface (λ ni. interface_absorb ni wires) part) ≡ rooms_of part
 rooms-absorbed wires (Interface ni) =
     ap (λ (rooms : List ℕ). Some rooms)
     (rooms-landed (arrival_of (flit_on wires ni.entering.0)) ni.queues)
@@ -131,11 +130,11 @@ rooms-absorbed wires (Stage stage) = refl
 -- So behind taking and latching full queues are full.
 pub IsFull-latched : (cycle : ℕ) (wires : List (Option Flit)) (moment : Moment) (end : ChannelEnd)
     → IsFull moment.parts end
-    → IsFull (map (λ part. absorb_of part wires) (in_turn (pulled cycle) moment).parts) end
+    → IsFull (interfaces_latched wires (in_turn (pulled cycle) moment).parts) end
 IsFull-latched cycle wires moment =
     let taken = in_turn (pulled cycle) moment in
-    IsFull-same moment.parts (map (λ part. absorb_of part wires) taken.parts)
-    (rooms-map (λ part. absorb_of part wires) (rooms-absorbed wires) taken.parts
+    IsFull-same moment.parts (interfaces_latched wires taken.parts)
+    (rooms-map (on_interface (λ ni. interface_absorb ni wires)) (rooms-absorbed wires) taken.parts
     ∙ views-turns (pulled cycle) rooms_of (rooms-pulled cycle)
     (range_with_len 0 (length moment.lanes)) moment)
 
@@ -151,62 +150,38 @@ pub IsFull-entered : (rows : List RouterRow) (parts : List Part) (end : ChannelE
 IsFull-entered rows parts =
     IsFull-same parts (with_rows rows parts) (rooms-map (entered rows) (rooms-entered rows) parts)
 
-none-is : {X : Type 0} (found : Option X) → is_some found ≡ false → found ≡ None
-none-is None none = refl
-none-is (Some x) none = absurd (cc none)
-
 -- A component that sends nothing of its own keeps its rooms when it drives.
 rooms-driven : (cycle : ℕ) (part : Part) → sends_own cycle part ≡ false
-    → rooms_of (after_of part cycle) ≡ rooms_of part
+    → rooms_of (on_interface (λ ni. interface_after ni cycle) part) ≡ rooms_of part
 rooms-driven cycle (Interface ni) mute =
-    ap rooms_of (RestsDrive-part cycle [] (Interface ni)
-    (none-is (emitted_by (queue_at_cycle ni.entries cycle) ni.queues) mute) (λ wire is. refl)).still
+    ap rooms_of (still-mute cycle (Interface ni) refl mute).0
 rooms-driven cycle (Router router) mute = refl
 rooms-driven cycle (TableRouter router) mute = refl
 rooms-driven cycle (Stage stage) mute = refl
 
 found-driven : (cycle queue : ℕ) (found : Option Part)
     → ((part : Part) → found ≡ Some part → sends_own cycle part ≡ true → ⊥)
-    → option_map_or (told_by queue room_left) (option_map (λ part. after_of part cycle) found) 0
+    → option_map_or (told_by queue room_left)
+    (option_map (on_interface (λ ni. interface_after ni cycle)) found) 0
     ≡ option_map_or (told_by queue room_left) found 0
 found-driven cycle queue None mute = refl
 found-driven cycle queue (Some part) mute = elim (cases_Bool (sends_own cycle part)) [
   | inl sends ↦ absurd (mute part refl sends)
   | inr silent ↦
-      told-rooms queue (Some (after_of part cycle))
+      told-rooms queue (Some (on_interface (λ ni. interface_after ni cycle) part))
       ∙ ap (λ (rooms : Option (List ℕ)). room_in queue (Some rooms)) (rooms-driven cycle part silent)
       ∙ sym (told-rooms queue (Some part))
 ]
 
-IsFull-driven : (cycle : ℕ) (parts : List Part) (end : ChannelEnd)
-    → ((part : Part) → slice_get parts end.ni.0 ≡ Some part → sends_own cycle part ≡ true → ⊥)
-    → IsFull parts end → IsFull (map (λ part. after_of part cycle) parts) end
+-- So behind the drive a full queue is full, but of an interface that sends.
+pub IsFull-driven : (cycle : ℕ) (parts : List Part) (end : ChannelEnd)
+    → (IsSending cycle parts end.ni.0 → ⊥) → IsFull parts end
+    → IsFull (interfaces_driven cycle parts) end
 IsFull-driven cycle parts end mute full =
     ap (λ (found : Option Part). option_map_or (told_by end.queue room_left) found 0)
-    (slice_get-map (λ part. after_of part cycle) parts end.ni.0)
-    ∙ found-driven cycle end.queue (slice_get parts end.ni.0) mute ∙ full
-
--- Only an interface does, and interfaces are the first components: where all of those that do are
--- listed, a full queue of any other component stays full.
-is_interface-sends : (cycle : ℕ) (part : Part) → sends_own cycle part ≡ true
-    → is_interface (frame_of part) ≡ true
-is_interface-sends cycle (Interface ni) sends = refl
-is_interface-sends cycle (Router router) sends = absurd (cc sends)
-is_interface-sends cycle (TableRouter router) sends = absurd (cc sends)
-is_interface-sends cycle (Stage stage) sends = absurd (cc sends)
-
-pub IsFull-sent : (cycle wires : ℕ) (parts : List Part) (ends : Ends) (numbers : List ℕ)
-    → AreEnds (map frame_of parts) wires ends → AreAmong cycle parts ends.interfaces numbers
-    → (end : ChannelEnd) → (IsListed ends.interfaces numbers end.ni.0 → ⊥)
-    → IsFull parts end → IsFull (map (λ part. after_of part cycle) parts) end
-IsFull-sent cycle wires parts ends numbers are among end none =
-    IsFull-driven cycle parts end (λ part at sends. elim (cases_lt end.ni.0 ends.interfaces) [
-      | inl below ↦ none (among end.ni.0 part below at sends)
-      | inr over ↦
-          absurd (cc (sym (are.others end.ni.0 (frame_of part)
-          (slice_get-map frame_of parts end.ni.0 ∙ ap (option_map frame_of) at) over)
-          ∙ is_interface-sends cycle part sends))
-    ])
+    (slice_get-map (on_interface (λ ni. interface_after ni cycle)) parts end.ni.0)
+    ∙ found-driven cycle end.queue (slice_get parts end.ni.0)
+    (λ part at sends. mute (part, at, sends)) ∙ full
 
 -- What happens at other interfaces changes no room.
 slice_get-switched : (events : List Event) (parts : List Part) (number : ℕ)

@@ -7,10 +7,8 @@ use Rattle.std.proofs.lemmas.Bool.{cases_lt}
 use Rattle.std.proofs.lemmas.List.{get_or_past, length-map, length-replicate}
 use Rattle.aeth_base.specs.Marks.{room_of}
 use Rattle.aeth_chip.specs.Chip.{ChipData, IsChip}
-use Rattle.aeth_clocked.specs.declared.flit.Flit.{Flit}
 use Rattle.aeth_ni.specs.Queue.{QueueState}
 use Rattle.aeth_router.proofs.TableLemmas.{get_or-same}
-use Rattle.aeth_router.specs.Part.{absorb_of, after_of}
 use Rattle.aeth_router.specs.declared.part.Part.{Part}
 use Rattle.aeth_router.specs.declared.part.Part.TheVariants.{Interface, Router, Stage, TableRouter}
 use Rattle.aeth_components.specs.Changes.{on_interface}
@@ -22,13 +20,13 @@ use Rattle.aeth_components.specs.Making.{new_parts}
 use Rattle.aeth_components.specs.Phases.{Moment, in_turn, pulled, refilled}
 use Rattle.aeth_components.specs.declared.making.RouterKind.TheVariants.{ByHeader}
 use Rattle.aeth_components.proofs.CycleLemmas.{views-slice_set}
-use Rattle.aeth_components.proofs.FrameLemmas.{from-map, views-map}
+use Rattle.aeth_components.proofs.FrameLemmas.{from-map}
 use Rattle.aeth_components.proofs.InjectingLemmas.{entry-within, table_at-parts}
 use Rattle.aeth_components.proofs.MadeLemmas.{Made, IsInterface, IsRouter, IsStage, length-new_parts}
 use Rattle.aeth_components.proofs.MadeLemmas.{part-at}
 use Rattle.aeth_components.proofs.MadeParts.{item-at}
 use Rattle.aeth_components.proofs.TurnLemmas.{views-pulled, views-refilled, views-turns}
-use Rattle.aeth_components.proofs.UnlistedLemmas.{seen-at}
+use Rattle.aeth_components.proofs.FrameLemmas.{seen-at}
 
 -- A change of a queue changes no table, so refilling and taking don't.
 entries-changed : (queue : ℕ) (change : QueueState → QueueState) (part : Part)
@@ -50,28 +48,6 @@ pub tables-pulled : (cycle : ℕ) (moment : Moment)
 tables-pulled cycle moment =
     views-turns (pulled cycle) entries_of (views-pulled entries_of entries-changed cycle)
     (range_with_len 0 (length moment.lanes)) moment
-
--- Nor does emitting, or latching.
-entries-after : (cycle : ℕ) (part : Part) → entries_of (after_of part cycle) ≡ entries_of part
-entries-after cycle (Interface ni) = refl
-entries-after cycle (Router router) = refl
-entries-after cycle (TableRouter router) = refl
-entries-after cycle (Stage stage) = refl
-
-pub tables-after : (cycle : ℕ) (parts : List Part)
-    → map entries_of (map (λ part. after_of part cycle) parts) ≡ map entries_of parts
-tables-after cycle = views-map entries_of (λ part. after_of part cycle) (entries-after cycle)
-
-entries-absorb : (wires : List (Option Flit)) (part : Part)
-    → entries_of (absorb_of part wires) ≡ entries_of part
-entries-absorb wires (Interface ni) = refl
-entries-absorb wires (Router router) = refl
-entries-absorb wires (TableRouter router) = refl
-entries-absorb wires (Stage stage) = refl
-
-pub tables-absorb : (wires : List (Option Flit)) (parts : List Part)
-    → map entries_of (map (λ part. absorb_of part wires) parts) ≡ map entries_of parts
-tables-absorb wires = views-map entries_of (λ part. absorb_of part wires) (entries-absorb wires)
 
 -- A router has none, so one in place of another keeps the tables.
 entries-router : (incoming outgoing : List ℕ) (part : Part)

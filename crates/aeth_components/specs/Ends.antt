@@ -3,6 +3,7 @@
 --   part_number                the component at a node of a chip
 --   IsSender, AreSenders, AreReceivers, NotedTo    for each wire of a chip the component that sends on it, or receives
 --   IsAtEnds                   for each wire between components those that send and receive there
+--   AreReceived                that all wires have receivers
 --   FitsWires, AreEnds         the ends of the wires of components with these frames
 --   AreEndsOf                  the ends of the wires of a chip
 --
@@ -15,7 +16,8 @@ use Rattle.aeth_chip.specs.declared.node.Link.{Link}
 use Rattle.aeth_chip.specs.declared.node.Node.{Node}
 use Rattle.aeth_chip.specs.declared.node.Node.TheVariants.{Ni, Router}
 use Rattle.aeth_components.specs.Components.{part_count}
-use Rattle.aeth_components.specs.Frames.{Frame, InterfaceFrame, RouterFrame, StageFrame, receives_by}
+use Rattle.aeth_components.specs.Frames.{AreInputsApart, Frame, InterfaceFrame, RouterFrame}
+use Rattle.aeth_components.specs.Frames.{StageFrame, receives_by}
 use Rattle.aeth_components.specs.Frames.{sends_by}
 use Rattle.aeth_components.specs.declared.ends.Ends.{Ends}
 
@@ -75,6 +77,13 @@ pub record IsAtEnds (sides : Frame → ℕ → Bool) (frames : List Frame) (ends
       → sides frame wire ≡ true → slice_get ends wire ≡ Some i
   pub below : All (λ number. number < length frames) ends
 
+-- On each wire a component receives, and none receives on a wire twice.
+pub record AreReceived (frames : List Frame) (wires : ℕ) : Type 0 where
+  pub some : (wire : ℕ) → wire < wires
+      → (i : ℕ) × (frame : Frame) × (slice_get frames i ≡ Some frame)
+      × (receives_by frame wire ≡ true)
+  pub apart : All AreInputsApart frames
+
 -- Whether a component with this frame is an interface.
 abbrev pub is_interface : Frame → Bool
 is_interface (InterfaceFrame number leaving entering slots queues) = true
@@ -97,6 +106,7 @@ pub record AreEnds (frames : List Frame) (wires : ℕ) (ends : Ends) : Type 0 wh
   pub count : ends.parts ≡ length frames
   pub sends : IsAtEnds sends_by frames ends.senders.items
   pub receives : IsAtEnds receives_by frames ends.receivers.items
+  pub received : AreReceived frames wires
   pub first : (i : ℕ) (frame : Frame) → slice_get frames i ≡ Some frame → i < ends.interfaces
       → is_interface frame ≡ true
   pub others : (i : ℕ) (frame : Frame) → slice_get frames i ≡ Some frame → ends.interfaces ≤ i

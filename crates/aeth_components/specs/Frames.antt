@@ -1,11 +1,11 @@
 -- What never changes of a component, and what holds of the frames of every network.
 -- This project's own.
-use Rattle.std.specs.Prelude.{◌≡◌, ◌<◌, ℕ, ◌==◌, Bool, true, List, length, All, Some, slice_get}
+use Rattle.std.specs.Prelude.{◌≡◌, ◌<◌, ℕ, ◌==◌, Bool, ⊤, true, List, length, All, Some, slice_get}
 use Rattle.aeth_base.specs.declared.ids.LinkId.{LinkId}
 use Rattle.aeth_base.specs.declared.ids.NiId.{NiId}
 use Rattle.aeth_clocked.specs.Driven.{AreDisjoint}
 use Rattle.aeth_clocked.specs.Wires.{AreLinks}
-use Rattle.aeth_router.specs.Router.{is_among}
+use Rattle.aeth_router.specs.Router.{AreDistinctLinks, is_among}
 use Rattle.aeth_router.specs.declared.part.Part.{Part}
 use Rattle.aeth_router.specs.declared.part.Part.TheVariants.{Interface, Router, Stage, TableRouter}
 
@@ -34,6 +34,12 @@ abbrev pub receives_by : Frame → ℕ → Bool
 receives_by (InterfaceFrame number leaving entering slots queues) wire = entering.0 == wire
 receives_by (RouterFrame incoming outgoing) wire = is_among incoming wire
 receives_by (StageFrame input output) wire = input.0 == wire
+
+-- A component receives on no wire twice.
+abbrev pub AreInputsApart : Frame → Type 0
+AreInputsApart (InterfaceFrame number leaving entering slots queues) = ⊤
+AreInputsApart (RouterFrame incoming outgoing) = AreDistinctLinks incoming
+AreInputsApart (StageFrame input output) = ⊤
 
 -- Components send and receive on wires, and on each wire just one sends.
 pub record IsWired (frames : List Frame) (wires : ℕ) : Type 0 where

@@ -4,13 +4,12 @@
 --   HasWaitingPlaces, IsWaiting      that there are marks, and the channel that waits at a place
 --   IsResting, AreHanding            what is marked of the channels of a network
 --   Settles, Wakes                   what a turn makes of it, and what interfaces with room do
---   HasEvent, IsListed, AreAmong     which interfaces those are
+--   HasEvent                         an event is for an interface
 --
 -- This project's own.
 use Rattle.std.specs.Prelude.{◌≡◌, ◌≢◌, ◌<◌, ◌-◌, ◌==◌, ◌⊎◌, ℕ, All, List, Some, length, slice_get, true}
 use Rattle.std.specs.List.{list_any}
 use Rattle.aeth_base.specs.Marks.{bit_of, room_of}
-use Rattle.aeth_clocked.specs.Resting.{is_chosen}
 use Rattle.aeth_ni.specs.Limits.{waiting_words}
 use Rattle.aeth_ni.specs.Queue.{QueueState}
 use Rattle.aeth_router.specs.declared.part.Part.{Part}
@@ -19,7 +18,6 @@ use Rattle.aeth_components.specs.Changes.{told_at}
 use Rattle.aeth_components.specs.Events.{event_part}
 use Rattle.aeth_components.specs.Homes.{home_at, home_count}
 use Rattle.aeth_components.specs.Lanes.{is_open}
-use Rattle.aeth_components.specs.Turns.{sends_own}
 use Rattle.aeth_components.specs.declared.event.Event.{Event}
 use Rattle.aeth_components.specs.declared.lane.ChannelEnd.{ChannelEnd}
 use Rattle.aeth_components.specs.declared.lane.Lane.{Lane}
@@ -81,13 +79,3 @@ pub record Wakes (Is : ℕ → Type 0) (old new : Handing) : Type 0 where
 -- One of these events is for a component.
 abbrev pub HasEvent : List Event → ℕ → Type 0
 HasEvent events number = list_any (λ event. event_part event == number) events ≡ true
-
--- A component is listed, and is one of the first so many.
-abbrev pub IsListed : ℕ → List ℕ → ℕ → Type 0
-IsListed interfaces numbers number = (number < interfaces) × (is_chosen numbers number ≡ true)
-
--- Of the first so many components each that sends something of its own is listed.
-abbrev pub AreAmong : ℕ → List Part → ℕ → List ℕ → Type 0
-AreAmong cycle parts interfaces numbers =
-    (number : ℕ) (part : Part) → number < interfaces → slice_get parts number ≡ Some part
-    → sends_own cycle part ≡ true → IsListed interfaces numbers number

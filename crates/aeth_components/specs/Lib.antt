@@ -15,9 +15,13 @@ pub mod Injecting
 pub mod Lanes
 pub mod Laws
 pub mod Making
+pub mod Passing
 pub mod Phases
 pub mod Queues
-pub mod Resting
+pub mod Ready
+pub mod Seen
+pub mod Sending
 pub mod Switching
+pub mod Telling
 pub mod Turns
 pub mod View

@@ -18,7 +18,6 @@ use crate::homes::{Homes, tell};
 use crate::lane::Lane;
 use crate::phases::{refill_one, rest, settle, take_one};
 use aeth_base::{Marks, NoMemory};
-use aeth_clocked::Wires;
 use aeth_router::Part;
 use std::alloc::Global;
 use std::marker::Model;
@@ -125,29 +124,28 @@ impl Channels {
         }
     }
 
-    /// Counts what has landed of each channel, and notes the cycle. Words come just by the wires with
-    /// a flit, to the components at their ends.
+    /// Counts what has landed of each channel, and notes the cycle. The components that got words
+    /// are marked.
     pub(crate) fn count(
         &mut self,
         parts: &[Part],
-        ends: &[u32],
-        wires: &Wires,
+        telling: &Marks,
         landings: &mut [u32],
         cycle: u32,
     )
         requires cycle { cycle + 1 < 2 ^ 32 }
         requires lanes { All (IsLane (length landings.old) (length parts.now)) self.old.lanes }
-        requires ends { length ends.now ≡ length wires.now }
-        requires few { length ends.now < 2 ^ 32 }
-        requires below { All (λ number. number < length parts.now) ends.now }
-        requires brought { AreBrought parts.now ends.now wires.now }
+        requires below { (number : ℕ) → bit_of telling.now number ≡ 1
+            → number < length parts.now }
+        requires few { length parts.now < 2 ^ 32 }
+        requires brought { AreBrought parts.now telling.now }
         ensures lanes { self.new.lanes ≡ map (counted cycle parts.now) self.old.lanes }
         ensures words { self.new.words ≡ self.old.words }
         ensures landings { landings.new ≡ fold (noted cycle parts.now) landings.old self.old.lanes }
     {
         if self.homes.is_apart {
             let count = self.lanes.len();
-            tell(&mut self.told, &self.homes, parts, ends, wires, count);
+            tell(&mut self.told, &self.homes, parts, telling, count);
             count_told(
                 &mut self.lanes,
                 &mut self.taking,

@@ -9,6 +9,7 @@ ghost use Rattle.aeth_components.specs.Busy.{TakesNothing};
 ghost use Rattle.aeth_components.specs.Changes.{switched};
 ghost use Rattle.aeth_components.specs.Channels.{AreStill};
 ghost use Rattle.aeth_components.specs.Components.{Cycle, first_components};
+ghost use Rattle.aeth_components.specs.Counting.{flits_counted};
 ghost use Rattle.aeth_components.specs.Components.{Runs, frames_of, part_count};
 ghost use Rattle.aeth_components.specs.Entering.{TakesRows, with_rows};
 ghost use Rattle.aeth_components.specs.Events.{IsDoable};
@@ -16,16 +17,18 @@ ghost use Rattle.aeth_components.specs.First.{HasSender, IsFirst};
 ghost use Rattle.aeth_components.specs.Frames.{IsWired, frame_of};
 ghost use Rattle.aeth_components.specs.Injecting.{AreInjecting, entries_of};
 ghost use Rattle.aeth_components.specs.Lanes.{IsLane, with_lane};
-ghost use Rattle.aeth_components.specs.Resting.{holding_of};
 ghost use Rattle.aeth_components.specs.Handing.{AreHanding};
-ghost use Rattle.aeth_components.specs.Turns.{AreReady, flits_on};
+ghost use Rattle.aeth_components.specs.Ready.{AreReady};
+ghost use Rattle.aeth_components.specs.Seen.{all_seen};
+ghost use Rattle.aeth_components.specs.Telling.{last_of};
+ghost use Rattle.aeth_components.specs.Turns.{flits_on};
 
 use crate::channels::Channels;
-use crate::counting::tally;
-use crate::cycle::{drive, latch};
+use crate::driving::drive;
 use crate::ends::are_empty;
 use crate::event::Event;
 use crate::handing::Handing;
+use crate::landing::land;
 use crate::lane::Lane;
 use crate::making::{RouterKind, parts_of};
 use crate::parts::enter_all;
@@ -63,19 +66,20 @@ impl Model for Components {
     ghost use Rattle.aeth_components.specs.Components.{components_of};
     ghost use Rattle.aeth_components.specs.Frames.{frame_of};
     ghost use Rattle.aeth_components.specs.Injecting.{AreInjecting, entries_of};
-    ghost use Rattle.aeth_components.specs.Resting.{holding_of};
     ghost use Rattle.aeth_components.specs.Handing.{AreHanding};
-    ghost use Rattle.aeth_components.specs.Turns.{AreReady};
+    ghost use Rattle.aeth_components.specs.Ready.{AreReady};
+    ghost use Rattle.aeth_components.specs.Seen.{all_seen};
+    ghost use Rattle.aeth_components.specs.Telling.{last_of};
 
     ghost Value = { ComponentsState };
 
-    ghost view = { λ all. components_of all.parts.items all.wires all.channels.lanes
-        all.channels.words all.landings.items all.flits.items };
+    // What routers and stages hold is on the wires.
+    ghost view = { λ all. components_of (all_seen all.wires all.parts.items) all.wires
+        all.channels.lanes all.channels.words all.landings.items all.flits.items };
 
     ghost invariant = { λ all. IsComponents (components_of all.parts.items all.wires
         all.channels.lanes all.channels.words all.landings.items all.flits.items)
-        × AreReady (map frame_of all.parts.items) (map holding_of all.parts.items) all.wires
-        all.turns
+        × AreReady (map frame_of all.parts.items) (map last_of all.parts.items) all.wires all.turns
         × AreInjecting (map entries_of all.parts.items) all.turns.injecting.slots.items
         × AreHanding all.parts.items all.channels.lanes all.handing };
 }
@@ -254,8 +258,8 @@ impl Components {
     }
 
     /// The same, in which only components take a turn that have something to do: a flit comes to them or
-    /// came in the last cycle, or they send words of their own. It counts a step for each component that
-    /// drives, and one for each that latches.
+    /// came in the last cycle, or they send words of their own. It counts a step for each flit that a router
+    /// or a stage drives, one for each interface that does, and one for each interface that latches.
     pub fn step_counted<L: Ledger>(
         &mut self,
         order: &Order,
@@ -270,21 +274,21 @@ impl Components {
         ensures steps { steps.new
             ≤ steps.old + 2 * flits_on self.old.wires + 2 * flits_on self.new.wires }
     {
-        self.turns.begin(order);
+        let _ = order;
         run(
             &mut self.parts,
             &mut self.wires,
             &mut self.channels,
             &mut self.handing,
             &mut self.turns,
+            &mut self.flits,
             cycle,
             events,
             steps,
         );
-        let ends = &self.turns.ends.receivers;
+        let telling = &self.turns.telling;
         self.channels
-            .count(&self.parts, ends, &self.wires, &mut self.landings, cycle);
-        tally(&mut self.flits, &self.wires);
+            .count(&self.parts, telling, &mut self.landings, cycle);
     }
 
     // One cycle, with a counter of its own.
@@ -302,40 +306,48 @@ impl Components {
     }
 }
 
-// One cycle of components, wires and channels, but for what is counted.
+// One cycle of components, wires and channels, but for the landings of words.
 fn run<L: Ledger>(
     parts: &mut [Part],
     wires: &mut Wires,
     channels: &mut Channels,
     handing: &mut Handing,
     turns: &mut Turns,
+    flits: &mut [u32],
     cycle: u32,
     events: &[Event],
     steps: &mut Steps<L>,
 )
     requires wired { IsWired (map frame_of parts.old) (length wires.old) }
-    requires ready { AreReady (map frame_of parts.old) (map holding_of parts.old) wires.old
-        turns.old }
+    requires ready { AreReady (map frame_of parts.old) (map last_of parts.old) wires.old turns.old }
     requires injecting { AreInjecting (map entries_of parts.old) turns.old.injecting.slots.items }
     requires lanes { All (IsLane (length channels.old.words) (length parts.old)) channels.old.lanes }
     requires events { All (IsDoable (map frame_of parts.old)) events.now }
     requires handing { AreHanding parts.old channels.old.lanes handing.old }
+    requires flits { length flits.old ≤ length wires.old }
     ensures runs { Runs channels.old.words events.now cycle wires.old wires.new
-        (record { parts = parts.old; lanes = channels.old.lanes })
-        (record { parts = parts.new; lanes = channels.new.lanes }) }
+        (record { parts = all_seen wires.old parts.old; lanes = channels.old.lanes })
+        (record { parts = all_seen wires.new parts.new; lanes = channels.new.lanes }) }
     ensures words { channels.new.words ≡ channels.old.words }
     ensures lanes { All (IsLane (length channels.new.words) (length parts.new)) channels.new.lanes }
-    ensures ready { AreReady (map frame_of parts.new) (map holding_of parts.new) wires.new
-        turns.new }
+    ensures ready { AreReady (map frame_of parts.new) (map last_of parts.new) wires.new turns.new }
     ensures injecting { AreInjecting (map entries_of parts.new) turns.new.injecting.slots.items }
     ensures handing { AreHanding parts.new channels.new.lanes handing.new }
+    ensures flits { flits.new ≡ flits_counted wires.new flits.old }
     ensures steps { steps.new ≤ steps.old + 2 * flits_on wires.old + 2 * flits_on wires.new }
 {
     switch(parts, &mut turns.injecting, events);
     handing.wake_for(events);
     channels.refill(handing, parts, cycle);
-    let count = drive(parts, turns, cycle, wires, steps);
-    handing.wake_among(&turns.numbers[..count], turns.ends.interfaces);
+    drive(parts, turns, cycle, wires, handing, steps);
     channels.take(parts, cycle);
-    latch(parts, turns, wires, steps);
+    land(
+        parts,
+        &turns.ends,
+        &mut turns.telling,
+        &mut turns.spare,
+        wires,
+        flits,
+        steps,
+    );
 }

@@ -2,8 +2,8 @@
 
 ghost use Rattle.std.specs.Prelude.{◌≡◌, ◌<◌, ℕ, IfOk, List, length};
 ghost use Rattle.aeth_base.specs.Marks.{bit_of, room_of};
-ghost use Rattle.aeth_components.specs.Handing.{AreHanding, HasEvent, HasWaitingPlaces, IsListed};
-ghost use Rattle.aeth_components.specs.Handing.{Settles, Wakes};
+ghost use Rattle.aeth_components.specs.Handing.{AreHanding, HasEvent, HasWaitingPlaces, Settles};
+ghost use Rattle.aeth_components.specs.Handing.{Wakes};
 ghost use Rattle.aeth_router.specs.declared.part.Part.{Part as PartState};
 
 use crate::event::Event;
@@ -57,7 +57,7 @@ impl Handing {
     }
 
     // The channels that wait for room at an interface may hand words on.
-    fn wake(&mut self, interface: u32)
+    pub(crate) fn wake(&mut self, interface: u32)
         requires { HasWaitingPlaces self.old }
         ensures { Wakes (λ other. other ≡ interface) self.old self.new }
     {
@@ -79,18 +79,6 @@ impl Handing {
     {
         for event in events {
             self.wake(event.part());
-        }
-    }
-
-    // So of all interfaces, which are the first so many components, that are listed.
-    pub(crate) fn wake_among(&mut self, numbers: &[u32], interfaces: u32)
-        requires { HasWaitingPlaces self.old }
-        ensures { Wakes (IsListed interfaces numbers.now) self.old self.new }
-    {
-        for number in numbers {
-            if *number < interfaces {
-                self.wake(*number);
-            }
         }
     }
 }

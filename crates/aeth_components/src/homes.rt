@@ -1,6 +1,6 @@
 // Which channel the words are of that land in a queue.
 
-ghost use Rattle.std.specs.Prelude.{◌≡◌, ◌≤◌, ◌<◌, ◌^◌, ℕ, All, IfOk, List, Some, length, slice_get};
+ghost use Rattle.std.specs.Prelude.{◌≡◌, ◌≤◌, ◌<◌, ◌^◌, ℕ, IfOk, List, Some, length, slice_get};
 ghost use Rattle.std.specs.Prelude.{slice_set, true};
 ghost use Rattle.aeth_base.specs.Marks.{bit_of, room_of};
 ghost use Rattle.aeth_components.specs.Homes.{AreHomes, AreTold, home_at, home_count};
@@ -9,7 +9,6 @@ ghost use Rattle.aeth_components.specs.Turns.{StayMarked};
 
 use crate::lane::Lane;
 use aeth_base::{Marks, NoMemory};
-use aeth_clocked::Wires;
 use aeth_router::Part;
 use std::alloc::Global;
 
@@ -89,28 +88,17 @@ fn come_to(numbers: &mut [usize], place: usize, number: usize) -> bool
     numbers[place] == number
 }
 
-// Marks of so many channels those to which the last flits may have brought words: they came by a wire
-// to the component at its end.
-pub(crate) fn tell(
-    told: &mut Marks,
-    homes: &Homes,
-    parts: &[Part],
-    ends: &[u32],
-    wires: &Wires,
-    count: usize,
-)
+// Marks of so many channels those of which the marked components got words by their last flits.
+pub(crate) fn tell(told: &mut Marks, homes: &Homes, parts: &[Part], telling: &Marks, count: usize)
     requires size { length homes.now.numbers.items ≡ home_count }
-    requires ends { length ends.now ≡ length wires.now }
-    requires few { length ends.now < 2 ^ 32 }
-    requires below { All (λ number. number < length parts.now) ends.now }
+    requires below { (number : ℕ) → bit_of telling.now number ≡ 1 → number < length parts.now }
+    requires few { length parts.now < 2 ^ 32 }
     requires room { count < room_of told.old }
     ensures room { room_of told.new ≡ room_of told.old }
-    ensures told { AreTold homes.now.numbers.items parts.now ends.now wires.now (length wires.now)
-        count told.new }
+    ensures told { AreTold homes.now.numbers.items parts.now telling.now count told.new }
 {
-    for wire in wires.used() {
-        let number = ends[wire];
-        tell_one(told, homes, &parts[number as usize], number, count);
+    for number in telling.iter() {
+        tell_one(told, homes, &parts[number], number as u32, count);
     }
 }
 

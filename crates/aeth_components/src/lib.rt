@@ -4,12 +4,13 @@
 mod channels;
 mod components;
 mod counting;
-mod cycle;
+mod driving;
 mod ends;
 mod event;
 mod handing;
 mod homes;
 mod injecting;
+mod landing;
 mod lane;
 pub mod laws;
 mod making;

@@ -7,7 +7,7 @@ ghost use Rattle.aeth_router.specs.Router.{router_inputs, router_outputs};
 use aeth_base::{LinkId, NoMemory, RouterId};
 use aeth_chip::{Chip, read_chip};
 use aeth_clocked::{Clocked, Flit, Wires};
-use aeth_router::{Router, Stage};
+use aeth_router::{Onward, Part, Router, Stage};
 use std::alloc::Global;
 use std::test::*;
 
@@ -75,6 +75,22 @@ fn driven(alloc: Global, latched: &[Option<Flit>; 2]) -> Option<[Option<Flit>; 2
     Some([wires.get(LinkId(1)), wires.get(LinkId(4))])
 }
 
+// What it passes on to links 1 and 4 when these flits come from links 0 and 5, one after the other.
+fn passed(alloc: Global, latched: &[Option<Flit>; 2]) -> Option<[Option<Flit>; 2]> {
+    let part = Part::Router(router_of(alloc, PAIR, 0, 6)?);
+    let (Ok(mut onward), Ok(mut wires)) = (Onward::new(alloc, 6), Wires::new(alloc, 6)) else {
+        return None;
+    };
+    if let Some(flit) = latched[0] {
+        part.pass(0, LinkId(0), flit, &mut onward);
+    }
+    if let Some(flit) = latched[1] {
+        part.pass(0, LinkId(5), flit, &mut onward);
+    }
+    onward.settle(&mut wires);
+    Some([wires.get(LinkId(1)), wires.get(LinkId(4))])
+}
+
 // What `PAIR_WITH_DELAY` carries on links 4, 6 and 3, in a cycle each, when `r0` has latched this
 // flit from link 0: it leaves `r0`, the stage behind link 4, and `r1`.
 fn crossing(alloc: Global, latched: Option<Flit>) -> Option<[Option<Flit>; 3]> {
@@ -97,7 +113,8 @@ fn crossing(alloc: Global, latched: Option<Flit>) -> Option<[Option<Flit>; 3]> {
     Some([entered, reached, wires.get(LinkId(3))])
 }
 
-// What is latched from links 0 and 5, what is driven on links 1 and 4, and why.
+// What is latched from links 0 and 5, what is driven on links 1 and 4, and why. What is passed on is
+// the same.
 #[test]
 fn a_flit_goes_on_by_its_port(rt: HostRuntime) {
     let rows = [
@@ -124,6 +141,7 @@ fn a_flit_goes_on_by_its_port(rt: HostRuntime) {
     ];
     for (latched, wanted, why) in &rows {
         assert_eq!(rt; driven(rt.alloc(), latched), Some(*wanted), "{why}");
+        assert_eq!(rt; passed(rt.alloc(), latched), Some(*wanted), "{why}");
     }
 }
 

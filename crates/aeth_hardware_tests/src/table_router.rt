@@ -7,7 +7,7 @@ ghost use Rattle.aeth_router.specs.TableRouter.{table_inputs, table_outputs};
 use aeth_base::{LinkId, NoMemory, RouterId};
 use aeth_chip::{Chip, read_chip};
 use aeth_clocked::{Clocked, Flit, Wires};
-use aeth_router::TableRouter;
+use aeth_router::{Onward, Part, TableRouter};
 use std::alloc::Global;
 use std::test::*;
 
@@ -117,8 +117,20 @@ fn crossing(alloc: Global, cycle: u32, sent: &[Option<Flit>; 2]) -> Option<[Opti
     ])
 }
 
+// What the router `r0` passes on to links 1 and 4, in the cycle behind this one, of a flit from link 0.
+fn passed(alloc: Global, cycle: u32, sent: Option<Flit>) -> Option<[Option<Flit>; 2]> {
+    let part = Part::TableRouter(router_of(alloc, 0)?);
+    let (Ok(mut onward), Ok(mut wires)) = (Onward::new(alloc, WIRES), Wires::new(alloc, WIRES))
+    else {
+        return None;
+    };
+    part.pass(cycle.checked_add(1)?, LinkId(0), sent?, &mut onward);
+    onward.settle(&mut wires);
+    Some([wires.get(LinkId(1)), wires.get(LinkId(4))])
+}
+
 // A cycle, what is latched in it from links 0 and 2, what is driven then on links 4, 5, 3 and 1,
-// and why. Header words and entries are worked by hand.
+// and why. Header words and entries are worked by hand. What is passed on to link 4 is the same.
 #[test]
 fn a_flit_goes_on_by_the_table(rt: HostRuntime) {
     let there = flit(0x8000_0001, 100, 101);
@@ -153,5 +165,10 @@ fn a_flit_goes_on_by_the_table(rt: HostRuntime) {
     ];
     for (cycle, sent, wanted, why) in &rows {
         assert_eq!(rt; crossing(rt.alloc(), *cycle, sent), Some(*wanted), "{why}");
+        assert_eq!(rt;
+            passed(rt.alloc(), *cycle, sent[0]),
+            Some([None, wanted[0]]),
+            "{why}"
+        );
     }
 }

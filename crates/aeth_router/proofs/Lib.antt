@@ -1,10 +1,16 @@
+mod AddsLemmas
+mod ContendedLemmas
 pub mod IdleLemmas
 pub mod LinkLemmas
+pub mod OnwardLemmas
+pub mod PassingLemmas
 pub mod PortLemmas
 pub mod RestingLemmas
 pub mod RouterLemmas
 pub mod RowLemmas
-pub mod TableLemmas
-pub mod WireLemmas
+pub mod SingleLemmas
+pub mod SoleLemmas
 mod Steps
+pub mod TableLemmas
 mod TrafficLemmas
+pub mod WireLemmas

@@ -1,13 +1,13 @@
 -- Laws of the lists of links of a router.
 use Rattle.std.proofs.Common.{◌≡◌, ◌<◌, ◌≤◌, ◌+◌, ℕ, zero, suc, refl, ap, inl, inr, arith}
 use Rattle.std.proofs.Common.{length, Bool, true, List, [], ◌∷◌, Some, slice_get}
-use Rattle.std.proofs.Common.{get_or, take, ◌∙◌}
+use Rattle.std.proofs.Common.{None, get_or, take, ◌∙◌, ◌⊎◌}
 use Rattle.std.specs.Prelude.{◌==◌, count_by, position}
 use Rattle.std.specs.List.{position_or_len}
 use Rattle.std.proofs.lemmas.Map.Keys.{any_passes_from_place}
-use Rattle.std.proofs.lemmas.Bool.{cases_Bool, eq-eqb, cases_eq}
+use Rattle.std.proofs.lemmas.Bool.{cases_Bool, eq-eqb, cases_eq, cases_lt, eqb-true, le-ltb}
 use Rattle.std.proofs.lemmas.Bool.Decides.{nat_tests}
-use Rattle.std.proofs.lemmas.List.Sums.{position_or_len_is}
+use Rattle.std.proofs.lemmas.List.Sums.{passes_at_first, position_or_len_is}
 use Rattle.std.proofs.lemmas.Option.{same_Some, slice_get_within, slice_get-get_or}
 use Rattle.std.proofs.lemmas.Option.{get_or_from_slice_get}
 use Rattle.aeth_chip.specs.declared.node.Link.{Link}
@@ -143,3 +143,20 @@ position-at links port link apart at =
     ])
     (λ within. eq-eqb (get_or links port 0) link (get_or_from_slice_get links port link 0 at)) in
     rw first (grind (arith, nat_tests))
+
+-- A link stands at a place of a list, or is at none.
+pub place-of : (links : List ℕ) (link : ℕ)
+    → ((place : ℕ) × (slice_get links place ≡ Some link))
+    ⊎ (position (λ other. other == link) links ≡ None)
+place-of links link =
+    let place = position_or_len (λ other. other == link) links in
+    elim (cases_lt place (length links)) [
+      | inl within ↦
+          let passes = passes_at_first (λ other. other == link) links 0 within in
+          inl (
+            place,
+            slice_get-get_or links place 0 within
+                ∙ ap (λ n. Some n) (eqb-true (get_or links place 0) link passes),
+          )
+      | inr past ↦ inr (rw (le-ltb place (length links) past) refl)
+    ]

@@ -77,13 +77,15 @@ place-of-one port slot other_port other_slot slots is_slot is_other same = (
 -- What is in a slot of a port once the entry of another, or of the same, is set.
 module _ (entries : List (Option ℕ)) (ports slots port slot : ℕ) (is_port : port < ports)
     (is_slot : slot < slots) (size : length entries ≡ ports * slots) where
-  entry-same : (entry : Option ℕ)
+  -- The same has the entry.
+  pub entry-same : (entry : Option ℕ)
       → entry_at (set entries (port * slots + slot) entry) slots port slot ≡ entry
   entry-same entry =
       let within = entry-within port slot ports slots is_port is_slot in
       get_or-set_same entries (port * slots + slot) entry None (omega arith)
 
-  entry-other : (other_port other_slot : ℕ) (entry : Option ℕ) → other_slot < slots
+  -- Any other stays.
+  pub entry-other : (other_port other_slot : ℕ) (entry : Option ℕ) → other_slot < slots
       → (other_port ≡ port → other_slot ≡ slot → ⊥)
       → entry_at (set entries (other_port * slots + other_slot) entry) slots port slot
       ≡ entry_at entries slots port slot

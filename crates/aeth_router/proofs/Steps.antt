@@ -29,6 +29,14 @@ numbers_of-at links place default within =
     ∙ ap (λ (link : Option LinkId). option_map (λ link. link.0) link)
     (slice_get-get_or links place default within)
 
+-- So is that of the link that is got at a place.
+pub numbers_of-got : (links : List LinkId) (place : ℕ) (link : LinkId)
+    → place < length links → link ≡ get_or links place link
+    → slice_get (numbers_of links) place ≡ Some link.0
+numbers_of-got links place link within is =
+    numbers_of-at links place link within
+    ∙ ap (λ (there : LinkId). Some there.0) (sym is)
+
 -- It is a link, where all are.
 pub numbers_of-below : (links : List LinkId) (place count : ℕ) (default : LinkId)
     → AreLinks (is_among (numbers_of links)) count → place < length links
@@ -68,7 +76,7 @@ pub record HasTaken (wires first : List (Option Flit)) (links : List ℕ) (place
   pub none : is_any ≡ false → held ≡ first
 
 -- What the wire of a place has.
-taken-at : (wires : List (Option Flit)) (links : List ℕ) (place link : ℕ)
+pub taken-at : (wires : List (Option Flit)) (links : List ℕ) (place link : ℕ)
     → slice_get links place ≡ Some link
     → slice_get (map (flit_on wires) links) place ≡ Some (flit_on wires link)
 taken-at wires links place link at =

@@ -1,11 +1,11 @@
 -- Laws of routers with tables.
 use Rattle.std.proofs.Common.{◌≡◌, ◌<◌, ◌≤◌, ◌∙◌, ◌+◌, ◌*◌, ◌%◌, ℕ, zero, suc, refl, ap}
-use Rattle.std.proofs.Common.{inl, inr, arith}
+use Rattle.std.proofs.Common.{inl, inr, arith, sym, true, false}
 use Rattle.std.proofs.Common.{Bool, List, [], ◌∷◌, length, map, replicate, get_or, slice_get}
 use Rattle.std.proofs.Common.{Option, Some, None}
 use Rattle.std.specs.Prelude.{◌==◌, ◌||◌, not, option_and_then, option_map, position}
 use Rattle.std.specs.List.{list_any, prefix_len}
-use Rattle.std.proofs.lemmas.Bool.{cases_Bool}
+use Rattle.std.proofs.lemmas.Bool.{cases_Bool, cases_lt}
 use Rattle.std.proofs.lemmas.List.{length-map}
 use Rattle.std.proofs.lemmas.List.Sums.{count_by-le-length}
 use Rattle.std.proofs.lemmas.Nat.{mul-add-lt}
@@ -13,12 +13,14 @@ use Rattle.aeth_base.specs.declared.ids.LinkId.{LinkId}
 use Rattle.aeth_chip.specs.declared.node.Link.{Link}
 use Rattle.aeth_chip.specs.Nodes.{numbers_from}
 use Rattle.aeth_chip.proofs.NodeLemmas.{length-numbers_from}
+use Rattle.aeth_clocked.specs.Wires.{AreLinks}
 use Rattle.aeth_clocked.specs.declared.flit.Flit.{Flit}
 use Rattle.aeth_router.specs.Ports.{hopped}
 use Rattle.aeth_router.specs.Router.{AreDistinctLinks, is_among, numbers_of}
 use Rattle.aeth_router.specs.TableRouter.{TableRouterState, place_from, routed, sent_from, sent_on}
-use Rattle.aeth_router.specs.TableRouter.{table_emit}
-use Rattle.aeth_router.proofs.LinkLemmas.{position-at}
+use Rattle.aeth_router.specs.TableRouter.{table_emit, table_outputs}
+use Rattle.aeth_router.proofs.LinkLemmas.{is_among-at, position-at}
+use Rattle.aeth_router.proofs.Steps.{numbers_of-at}
 
 -- The entries of a port are within a table.
 pub entry-within : (port slot ports slots : ℕ) → port < ports → slot < slots
@@ -109,3 +111,34 @@ pub sent_on-port : (outgoing : List ℕ) (carried : ℕ → Option Flit) (port l
     → AreDistinctLinks outgoing → slice_get outgoing port ≡ Some link
     → sent_on outgoing carried link ≡ carried port
 sent_on-port outgoing carried port link apart at = rw (position-at outgoing port link apart at) refl
+
+-- There are as many ports as links that are theirs.
+pub length-ports : (router : TableRouterState) (links : List LinkId)
+    → numbers_of links ≡ router.outgoing → length links ≡ length router.outgoing
+length-ports router links are = sym (length-map links (λ (link : LinkId). link.0)) ∙ ap length are
+
+-- The link of a port, where the links are these.
+pub port-link : (router : TableRouterState) (links : List LinkId) (port : ℕ) (link : LinkId)
+    → numbers_of links ≡ router.outgoing → port < length router.outgoing
+    → link ≡ get_or links port link → slice_get router.outgoing port ≡ Some link.0
+port-link router links port link are within is =
+    let ports = length-ports router links are in
+    rw (← are) (numbers_of-at links port link (omega arith)
+    ∙ ap (λ (there : LinkId). Some there.0) (sym is))
+
+-- It is one of so many, where all are.
+pub port-link-below : (router : TableRouterState) (links : List LinkId) (port count : ℕ)
+    (link : LinkId) → numbers_of links ≡ router.outgoing → port < length router.outgoing
+    → link ≡ get_or links port link → AreLinks (table_outputs router) count → link.0 < count
+port-link-below router links port count link are within is below =
+    below link.0 (is_among-at router.outgoing port link.0
+    (port-link router links port link are within is))
+
+-- What isn't so past all ports is so of a port.
+pub is_port-from : (ports port : ℕ) (is : Bool) → (ports ≤ port → is ≡ false) → is ≡ true
+    → port < ports
+is_port-from ports port is past does =
+    elim (cases_lt port ports) [
+      | inl within ↦ within
+      | inr beyond ↦ absurd (cc (sym does ∙ past beyond))
+    ]

@@ -111,7 +111,7 @@ carried-same held before None same = refl
 carried-same held before (Some port) same = ap sole (same port refl)
 
 -- A link that is at a port's place is the port's link.
-port-at : (outgoing : List ℕ) (link port : ℕ)
+pub port-at : (outgoing : List ℕ) (link port : ℕ)
     → position (λ other. other == link) outgoing ≡ Some port → slice_get outgoing port ≡ Some link
 port-at outgoing link port is =
     let found = position-Some (λ other. other == link) outgoing port 0 is in

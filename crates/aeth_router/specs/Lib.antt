@@ -1,9 +1,12 @@
 pub mod Agreement
+pub mod Onward
 pub mod Part
 pub mod PartAgreement
+pub mod Passing
 pub mod Ports
 pub mod Router
 pub mod Rows
+pub mod Single
 pub mod Stage
 pub mod TableRouter
 pub mod Traffic

@@ -2,7 +2,6 @@
 -- latches.
 --
 --   TableRouterState, IsTableRouter      the state, and what holds of every one
---   IsTableNoted      what is noted of the flits that one holds
 --   new_table_router, with_entry      the state at first, and with another entry
 --   entry_at, sent_from, sent_on      the entry of a port for a slot, and what goes out by it
 --   routed      what a port carries in a slot
@@ -10,7 +9,7 @@
 --
 -- Routers that forward by one hop in a cycle: after Æthereal (2005). Tables in routers: this
 -- project's own.
-use Rattle.std.specs.Prelude.{◌≡◌, ◌≤◌, ℕ, ◌+◌, ◌*◌, ◌%◌, ◌==◌, Bool, false, Option, None}
+use Rattle.std.specs.Prelude.{◌≡◌, ◌≤◌, ℕ, ◌+◌, ◌*◌, ◌%◌, ◌==◌, Bool, Option, None}
 use Rattle.std.specs.Prelude.{option_and_then, option_map, List, length, map, replicate, position}
 use Rattle.std.specs.List.{slice_index_or, slice_set}
 use Rattle.aeth_base.specs.declared.ids.LinkId.{LinkId}
@@ -44,11 +43,6 @@ pub record IsTableRouter (router : TableRouterState) : Type 0 where
   pub places : length router.held ≡ length router.incoming
   pub apart : AreDistinctLinks router.outgoing
   pub entries : length router.entries ≡ length router.outgoing * router.slots
-
--- What is noted of one: where no flit is noted, none is held.
-pub record IsTableNoted (is_holding : Bool) (router : TableRouterState) : Type 0 where
-  pub sound : IsTableRouter router
-  pub idle : is_holding ≡ false → router.held ≡ replicate (length router.held) None
 
 -- The router of this number of a chip, without entries and without flits.
 abbrev pub new_table_router : RouterId → ChipData → TableRouterState

@@ -2,6 +2,7 @@
 //! of links with a delay.
 #![tactic(auto)]
 
+mod onward;
 mod part;
 mod router;
 mod router_row;
@@ -9,6 +10,7 @@ mod stage;
 mod table_router;
 mod traffic;
 
+pub use onward::Onward;
 pub use part::Part;
 pub use router::Router;
 pub use router_row::RouterRow;

@@ -1,14 +1,20 @@
 // A component of any kind.
 
+ghost use Rattle.std.specs.Prelude.{Some, length};
+ghost use Rattle.aeth_clocked.specs.Wires.{AreLinks};
+ghost use Rattle.aeth_router.specs.Onward.{Adds};
 ghost use Rattle.aeth_router.specs.Part.{outputs_of, inputs_of, emit_of, after_of, absorb_of};
 ghost use Rattle.aeth_router.specs.PartAgreement.{outputs_of-after, inputs_of-after};
 ghost use Rattle.aeth_router.specs.PartAgreement.{outputs_of-absorb, inputs_of-absorb};
 ghost use Rattle.aeth_router.specs.PartAgreement.{absorb_of-agrees};
+ghost use Rattle.aeth_router.specs.Passing.{passed};
 
+use crate::onward::Onward;
 use crate::router::Router;
 use crate::stage::Stage;
 use crate::table_router::TableRouter;
-use aeth_clocked::{Clocked, Wires};
+use aeth_base::LinkId;
+use aeth_clocked::{Clocked, Flit, Wires};
 use aeth_ni::Ni;
 
 /// A component of a network.
@@ -22,6 +28,24 @@ pub enum Part {
     TableRouter(TableRouter),
     /// A stage of a link with a delay.
     Stage(Stage),
+}
+
+impl Part {
+    /// Passes on what the component has from a wire in a cycle: the flit goes to each output on which it is
+    /// sent. An interface passes none on.
+    ///
+    /// What a router or a stage drives, where it has latched wires, is what it passes on of their flits.
+    pub fn pass(&self, cycle: u32, wire: LinkId, flit: Flit, onward: &mut Onward)
+        requires { AreLinks (outputs_of self.now) (length onward.old) }
+        ensures { Adds (λ out. passed self.now cycle out wire.0 (Some flit)) onward.old onward.new }
+    {
+        match self {
+            Part::Interface(_) => {}
+            Part::Router(router) => router.pass(flit, onward),
+            Part::TableRouter(router) => router.pass(cycle, wire, flit, onward),
+            Part::Stage(stage) => stage.pass(flit, onward),
+        }
+    }
 }
 
 impl Clocked for Part {

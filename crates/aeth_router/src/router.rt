@@ -1,20 +1,25 @@
 // A router: flits latched in one cycle and driven in the next.
 
-ghost use Rattle.std.specs.Prelude.{◌≡◌, ◌<◌, ◌↔◌, IfOk, IsTrue, None, false, length, map};
+ghost use Rattle.std.specs.Prelude.{◌≡◌, ◌<◌, ◌↔◌, IfOk, IsTrue, None, Some, false, length, map};
 ghost use Rattle.std.specs.Prelude.{replicate};
 ghost use Rattle.aeth_chip.specs.Nodes.{sends_on};
 ghost use Rattle.aeth_clocked.specs.Resting.{HasNoFlit};
 ghost use Rattle.aeth_clocked.specs.Wires.{AreLinks, flit_on};
+ghost use Rattle.aeth_router.specs.Onward.{Adds};
+ghost use Rattle.aeth_router.specs.Ports.{toward};
 ghost use Rattle.aeth_router.specs.Router.{is_among, last_wire, new_router, numbers_of};
 ghost use Rattle.aeth_router.specs.Router.{router_outputs, router_inputs, router_emit};
 ghost use Rattle.aeth_router.specs.Router.{router_after, router_absorb};
+ghost use Rattle.aeth_router.specs.TableRouter.{sent_on};
 ghost use Rattle.aeth_router.specs.Agreement.{router_absorb-agrees};
 ghost use Rattle.std.proofs.Common.{refl};
 
+use crate::onward::Onward;
 use crate::traffic::{clear, emit};
 use aeth_base::{LinkId, NoMemory, RouterId};
 use aeth_chip::{Chip, Node};
 use aeth_clocked::{Clocked, Flit, Wires};
+use aeth_header::hop;
 use std::alloc::Global;
 use std::marker::Model;
 
@@ -68,6 +73,18 @@ impl Router {
             held,
             is_holding: false,
         })
+    }
+
+    // Passes a flit on, to the port that it names.
+    pub(crate) fn pass(&self, flit: Flit, onward: &mut Onward)
+        requires { AreLinks (router_outputs self.now) (length onward.old) }
+        ensures { Adds (sent_on self.now.outgoing (λ port. toward port (Some flit)))
+            onward.old onward.new }
+    {
+        let (port, header) = hop(flit.header);
+        if let Some(link) = self.outgoing.get(port as usize) {
+            onward.add(*link, Flit { header, ..flit });
+        }
     }
 
     // Whether no flit is held.

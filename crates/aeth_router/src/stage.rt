@@ -1,11 +1,13 @@
 // A stage of a link with a delay.
 
-ghost use Rattle.std.specs.Prelude.{◌≡◌, ◌≢◌};
+ghost use Rattle.std.specs.Prelude.{◌≡◌, ◌≢◌, ◌<◌, ◌==◌, if◌then◌else◌, None, Some, length};
 ghost use Rattle.std.proofs.Common.{refl};
 ghost use Rattle.aeth_router.specs.Agreement.{stage_absorb-agrees};
+ghost use Rattle.aeth_router.specs.Onward.{Adds};
 ghost use Rattle.aeth_router.specs.Stage.{new_stage, stage_outputs, stage_inputs, stage_emit};
 ghost use Rattle.aeth_router.specs.Stage.{stage_after, stage_absorb};
 
+use crate::onward::Onward;
 use aeth_base::LinkId;
 use aeth_clocked::{Clocked, Flit, Wires};
 use std::marker::Model;
@@ -47,6 +49,15 @@ impl Stage {
             output,
             held: None,
         }
+    }
+
+    // Passes a flit on.
+    pub(crate) fn pass(&self, flit: Flit, onward: &mut Onward)
+        requires { self.now.output.0 < length onward.old }
+        ensures { Adds (λ out. if self.now.output.0 == out then Some flit else None)
+            onward.old onward.new }
+    {
+        onward.add(self.output, flit);
     }
 }
 

@@ -1,7 +1,7 @@
 // A router with a table: flits latched in one cycle, and driven in the next as the table says.
 
-ghost use Rattle.std.specs.Prelude.{◌≡◌, ◌<◌, ◌≤◌, ◌+◌, ◌*◌, ◌==◌, ◌↔◌, IfOk, IfSome, IsTrue, None};
-ghost use Rattle.std.specs.Prelude.{length, position, replicate, true};
+ghost use Rattle.std.specs.Prelude.{◌≡◌, ◌<◌, ◌≤◌, ◌+◌, ◌*◌, ◌%◌, ◌==◌, ◌↔◌, IfOk, IfSome, IsTrue, None};
+ghost use Rattle.std.specs.Prelude.{Some, false, if◌then◌else◌, length, position, replicate, true};
 ghost use Rattle.std.specs.List.{list_any, slice_set};
 ghost use Rattle.aeth_base.specs.Limits.{max_slots};
 ghost use Rattle.aeth_chip.specs.Limits.{max_links};
@@ -9,6 +9,9 @@ ghost use Rattle.aeth_chip.specs.Nodes.{receives_on};
 ghost use Rattle.aeth_chip.specs.declared.node.Node.TheVariants.{Router};
 ghost use Rattle.aeth_clocked.specs.Wires.{AreLinks, Drives};
 ghost use Rattle.aeth_router.specs.Agreement.{table_absorb-agrees};
+ghost use Rattle.aeth_router.specs.Onward.{Adds};
+ghost use Rattle.aeth_router.specs.Single.{IsAlone, is_from, is_sent_by};
+ghost use Rattle.aeth_router.specs.Ports.{hopped};
 ghost use Rattle.aeth_router.specs.Router.{AreDistinctLinks, is_among, numbers_of};
 ghost use Rattle.aeth_router.specs.Rows.{AreRowsFor, IsRowFor, is_for, with_row, with_table};
 ghost use Rattle.aeth_router.specs.TableRouter.{entry_at, new_table_router, place_from, sent_from};
@@ -16,6 +19,7 @@ ghost use Rattle.aeth_router.specs.TableRouter.{sent_on, table_absorb, table_aft
 ghost use Rattle.aeth_router.specs.TableRouter.{table_inputs, table_outputs, with_entry};
 ghost use Rattle.std.proofs.Common.{refl};
 
+use crate::onward::Onward;
 use crate::router::{are_empty, are_none, empty, empty_places, last_wires, sending, take_in};
 use crate::router_row::RouterRow;
 use crate::traffic::clear;
@@ -44,11 +48,14 @@ pub struct TableRouter {
     held: Vec<Option<Flit>>,
     // Where this is false, no flit is held.
     is_holding: bool,
+    // Where this is true, no two ports have for one slot the place of one wire.
+    is_single: bool,
 }
 
 impl Model for TableRouter {
     ghost use Rattle.aeth_router.specs.Router.{numbers_of};
-    ghost use Rattle.aeth_router.specs.TableRouter.{TableRouterState, IsTableNoted};
+    ghost use Rattle.aeth_router.specs.Single.{IsTableNoted};
+    ghost use Rattle.aeth_router.specs.TableRouter.{TableRouterState};
 
     ghost Value = { TableRouterState };
 
@@ -62,7 +69,7 @@ impl Model for TableRouter {
       held = router.held.items;
     } };
 
-    ghost invariant = { λ router. IsTableNoted router.is_holding (record {
+    ghost invariant = { λ router. IsTableNoted router.is_holding router.is_single (record {
       number = router.number;
       links = numbers_of router.links.items;
       incoming = numbers_of router.incoming.items;
@@ -96,6 +103,7 @@ impl TableRouter {
             entries,
             held,
             is_holding: false,
+            is_single: true,
         })
     }
 
@@ -117,6 +125,7 @@ impl TableRouter {
     {
         let entry = place_from(&self.links, from);
         let slots = self.slots as usize;
+        self.is_single = self.is_single && self.is_alone(port as usize, slot, entry);
         set_entry(
             &mut self.entries,
             slots,
@@ -133,9 +142,29 @@ impl TableRouter {
         ensures { self.new ≡ with_table rows.now self.old }
     {
         self.entries.fill(None);
+        self.is_single = true;
         for row in rows {
             self.enter_row(row);
         }
+    }
+
+    // Whether no other port has the wire of an entry for a slot.
+    fn is_alone(&self, port: usize, slot: u32, entry: Option<u16>) -> bool
+        requires { slot < self.now.slots }
+        ensures { result ≡ true → IsAlone self.now port slot entry }
+    {
+        let Some(place) = entry else {
+            return true;
+        };
+        let Some(wire) = self.incoming.get(place as usize) else {
+            return true;
+        };
+        for other in 0..self.outgoing.len() {
+            if other != port && self.is_sent_by(slot, *wire, other) {
+                return false;
+            }
+        }
+        true
     }
 
     // Makes a row an entry, if it is one of the router.
@@ -146,6 +175,51 @@ impl TableRouter {
         if row.router.0 == self.number.0 {
             self.set(row.port, row.slot, Some(row.from));
         }
+    }
+
+    // Passes on in a cycle a flit from a wire, to each port whose entry is the wire's place. Where no two
+    // ports have one wire, and it's the wire of the port that the flit names, no other is looked at.
+    pub(crate) fn pass(&self, cycle: u32, wire: LinkId, flit: Flit, onward: &mut Onward)
+        requires { AreLinks (table_outputs self.now) (length onward.old) }
+        ensures { Adds (sent_on self.now.outgoing (λ port. if is_sent_by self.now
+            (cycle % self.now.slots) wire.0 port then Some (hopped flit) else None))
+            onward.old onward.new }
+    {
+        let slot = cycle % self.slots;
+        let (port, header) = hop(flit.header);
+        let sent = Flit { header, ..flit };
+        if self.is_single && self.is_sent_by(slot, wire, port as usize) {
+            onward.add(self.outgoing[port as usize], sent);
+        } else {
+            self.send_all(slot, wire, sent, onward);
+        }
+    }
+
+    // Sends a flit to each port whose entry for a slot is the place of a wire.
+    fn send_all(&self, slot: u32, wire: LinkId, sent: Flit, onward: &mut Onward)
+        requires slot { slot < self.now.slots }
+        requires links { AreLinks (table_outputs self.now) (length onward.old) }
+        ensures { Adds (sent_on self.now.outgoing (λ port. if is_sent_by self.now slot wire.0 port
+            then Some sent else None)) onward.old onward.new }
+    {
+        for port in 0..self.outgoing.len() {
+            if self.is_sent_by(slot, wire, port) {
+                onward.add(self.outgoing[port], sent);
+            }
+        }
+    }
+
+    // Whether a port sends on in a slot what comes by a wire.
+    fn is_sent_by(&self, slot: u32, wire: LinkId, port: usize) -> bool
+        requires { slot < self.now.slots }
+        ensures is { port < length self.now.outgoing → result ≡ is_sent_by self.now slot wire.0 port }
+        ensures past { length self.now.outgoing ≤ port → result ≡ false }
+    {
+        if port >= self.outgoing.len() {
+            return false;
+        }
+        let entry = entry_at(&self.entries, self.slots as usize, port, slot as usize);
+        is_from(&self.incoming, wire, entry)
     }
 
     // Whether no flit is held.
@@ -281,6 +355,19 @@ fn entry_at(entries: &[Option<u16>], slots: usize, port: usize, slot: usize) -> 
     ensures { result ≡ entry_at entries.now slots port slot }
 {
     entries[port * slots + slot]
+}
+
+// Whether an entry is the place of a wire.
+fn is_from(incoming: &[LinkId], wire: LinkId, entry: Option<u16>) -> bool
+    ensures { result ≡ is_from (numbers_of incoming.now) wire.0 entry }
+{
+    match entry {
+        Some(place) => match incoming.get(place as usize) {
+            Some(from) => from.0 == wire.0,
+            None => false,
+        },
+        None => false,
+    }
 }
 
 // What an entry sends on.

@@ -1,6 +1,6 @@
 -- What interfaces tell of the last flit: nothing before the first cycle, and nothing of empty wires.
 use Rattle.std.proofs.Common.{◌≡◌, ◌∙◌, ◌++◌, ◌-◌, ℕ, Contains, List, None, Option, Some, ap}
-use Rattle.std.proofs.Common.{inl, inr, length, map, slice_get, sym}
+use Rattle.std.proofs.Common.{inl, inr, length, map, refl, slice_get, sym}
 use Rattle.std.specs.List.{range_with_len}
 use Rattle.std.specs.Option.{option_map}
 use Rattle.std.proofs.lemmas.List.Elements.{Contains-append_cases}
@@ -13,27 +13,20 @@ use Rattle.aeth_clocked.specs.declared.flit.Flit.{Flit}
 use Rattle.aeth_ni.specs.Interface.{InterfaceState}
 use Rattle.aeth_router.specs.Part.{absorb_of}
 use Rattle.aeth_router.specs.declared.part.Part.{Part}
-use Rattle.aeth_router.specs.declared.part.Part.TheVariants.{Interface}
+use Rattle.aeth_router.specs.declared.part.Part.TheVariants.{Interface, Router, Stage, TableRouter}
 use Rattle.aeth_components.proofs.FrameLemmas.{from-map}
-use Rattle.aeth_components.proofs.HoldingLemmas.{HoldNoMore-latched, holdings-switched}
+use Rattle.aeth_components.proofs.SeenPhases.{lasts-switched}
 use Rattle.aeth_components.specs.Changes.{switched}
 use Rattle.aeth_components.specs.Making.{link_stages, made_interface, made_router, made_stage}
 use Rattle.aeth_components.specs.Making.{made_stages, new_parts}
-use Rattle.aeth_components.specs.Resting.{Holding, InterfaceHolds, RouterHolds, StageHolds, holding_of}
+use Rattle.aeth_components.specs.Telling.{last_of}
 use Rattle.aeth_components.specs.declared.event.Event.{Event}
 use Rattle.aeth_components.specs.declared.making.RouterKind.TheVariants.{ByHeader}
 
--- What is told of the last flit.
-abbrev last_held : Holding → Option (ℕ × ℕ)
-last_held (InterfaceHolds entering last) = last
-last_held (RouterHolds incoming held) = None
-last_held (StageHolds input held) = None
-
 -- Fresh components tell of none.
 last-made : (chip : ChipData) (rooms : List ℕ) (part : Part) → Contains (new_parts chip ByHeader rooms) part
-    → last_held (holding_of part) ≡ None
+    → last_of part ≡ None
 last-made chip rooms part has =
-    let told = λ (one : Part). last_held (holding_of one) in
     let interfaces = map (made_interface chip rooms) (range_with_len 0 (length chip.nis)) in
     let routers = map (made_router chip ByHeader) (range_with_len 0 (length chip.routers)) in
     let stages = made_stages chip.links (length chip.links) in
@@ -42,18 +35,18 @@ last-made chip rooms part has =
         | inl first ↦
             let (number, is, listed) = map-Contains (made_interface chip rooms)
             (range_with_len 0 (length chip.nis)) part first in
-            sym (ap told is)
+            sym (ap last_of is)
         | inr second ↦
             let (number, is, listed) = map-Contains (made_router chip ByHeader)
             (range_with_len 0 (length chip.routers)) part second in
-            sym (ap told is)
+            sym (ap last_of is)
       ]
       | inr third ↦
           let (link, listed, own) = flat_map-Contains (link_stages chip.links)
           (range_with_len 0 (length chip.links)) part third in
           let (place, is, there) = map-Contains (made_stage chip.links link)
           (range_with_len 0 (delay_of chip.links (record { 0 = link }) - 1)) part own in
-          sym (ap told is)
+          sym (ap last_of is)
     ]
 
 -- Nor do they once events are done.
@@ -62,17 +55,22 @@ pub last-loaded : (chip : ChipData) (rooms : List ℕ) (events : List Event) (i 
     → slice_get (switched events (new_parts chip ByHeader rooms)) i ≡ Some (Interface ni) → ni.last ≡ None
 last-loaded chip rooms events i ni at =
     let made = new_parts chip ByHeader rooms in
-    let (part, there, same) = from-map holding_of made i (holding_of (Interface ni))
-    (ap (λ (all : List Holding). slice_get all i) (sym (holdings-switched events made))
-    ∙ slice_get-map holding_of (switched events made) i ∙ ap (option_map holding_of) at) in
-    ap last_held same ∙ last-made chip rooms part (Contains-slice_get made i part there)
+    let (part, there, same) = from-map last_of made i ni.last
+    (ap (λ (all : List (Option (ℕ × ℕ))). slice_get all i) (sym (lasts-switched events made))
+    ∙ slice_get-map last_of (switched events made) i ∙ ap (option_map last_of) at) in
+    same ∙ last-made chip rooms part (Contains-slice_get made i part there)
 
 -- What has latched empty wires tells of none.
+last-absorbed : (wires : List (Option Flit)) → ((l : ℕ) → flit_on wires l ≡ None) → (part : Part)
+    → last_of (absorb_of part wires) ≡ None
+last-absorbed wires empty (Interface ni) = rw (empty ni.entering.0) refl
+last-absorbed wires empty (Router router) = refl
+last-absorbed wires empty (TableRouter router) = refl
+last-absorbed wires empty (Stage stage) = refl
+
 pub last-latched : (wires : List (Option Flit)) → ((l : ℕ) → flit_on wires l ≡ None)
     → (parts : List Part) (i : ℕ) (ni : InterfaceState)
     → slice_get (map (λ part. absorb_of part wires) parts) i ≡ Some (Interface ni) → ni.last ≡ None
 last-latched wires empty parts i ni at =
-    (HoldNoMore-latched wires parts).none i (holding_of (Interface ni))
-    (slice_get-map holding_of (map (λ part. absorb_of part wires) parts) i
-    ∙ ap (option_map holding_of) at)
-    (λ wire is. empty wire)
+    let (part, there, same) = from-map (λ part. absorb_of part wires) parts i (Interface ni) at in
+    ap last_of same ∙ last-absorbed wires empty part

@@ -1,6 +1,6 @@
 // What no clause says: that words land where flits bring them, in their worked cycles, by routers that
 // read headers and by routers that look a table up.
-ghost use Rattle.std.specs.Prelude.{◌≡◌, ◌≤◌, IfSome, None, Some, length, replicate, slice_get};
+ghost use Rattle.std.specs.Prelude.{◌≡◌, ◌≤◌, IfSome, Some, length, slice_get};
 ghost use Rattle.aeth_base.specs.Limits.{max_cycles};
 ghost use Rattle.aeth_components.specs.Components.{frames_of};
 ghost use Rattle.aeth_components.specs.Frames.{RouterFrame, frame_of};
@@ -98,15 +98,6 @@ fn play(pair: &mut Components, order: &Order, from: u32, to: u32)
     }
 }
 
-// A router that holds nothing in place of one with the same wires.
-fn replace_router(pair: &mut Components, number: usize, router: Router)
-    requires frame { slice_get (frames_of pair.old) number
-        ≡ Some (RouterFrame router.incoming router.outgoing) }
-    requires none { router.held ≡ replicate (length router.incoming) None }
-{
-    pair.parts[number] = Part::Router(router);
-}
-
 // The words of the receive queue at the second component, the oldest first.
 fn words_in(pair: Components) -> [Option<u32>; 4] {
     let Components { mut parts, .. } = pair;
@@ -131,37 +122,11 @@ fn played(alloc: Global, pair: &mut Components, from: u32, to: u32) -> bool
     true
 }
 
-// The router `r0` is put back to a fresh one, and so loses the flit that it holds.
-fn lose(alloc: Global, chip: &Chip, pair: &mut Components) -> bool
-    requires { slice_get (frames_of pair.old) 2
-        ≡ Some (frame_of (made_router chip.now ByHeader 0)) }
-{
-    match Router::new(alloc, chip, RouterId(0)) {
-        Ok(router) => {
-            replace_router(pair, 2, router);
-            true
-        }
-        Err(_) => false,
-    }
-}
-
-// A router with a table that holds nothing in place of the router `r0`.
-fn put_table_router(pair: &mut Components, router: TableRouter)
-    requires frame { slice_get (frames_of pair.old) 2
-        ≡ Some (RouterFrame router.incoming router.outgoing) }
-    requires none { router.held ≡ replicate (length router.incoming) None }
-    ensures { frames_of pair.new ≡ frames_of pair.old }
-{
-    pair.parts[2] = Part::TableRouter(router);
-}
-
 // The router sends on to the other in a slot what comes from its interface, if it can have such an
-// entry: it holds nothing, and its wires are as before.
+// entry.
 fn with_entry(router: TableRouter, slot: u32) -> Option<TableRouter>
-    requires { router.held ≡ replicate (length router.incoming) None }
-    ensures incoming { IfSome result (λ now. now.incoming ≡ router.incoming) }
-    ensures outgoing { IfSome result (λ now. now.outgoing ≡ router.outgoing) }
-    ensures none { IfSome result (λ now. now.held ≡ replicate (length now.incoming) None) }
+    ensures { IfSome result (λ now. RouterFrame now.incoming now.outgoing
+        ≡ RouterFrame router.incoming router.outgoing) }
 {
     let mut router = router;
     if !router.can_set(1, slot, Some(LinkId(0))) {
@@ -171,60 +136,77 @@ fn with_entry(router: TableRouter, slot: u32) -> Option<TableRouter>
     Some(router)
 }
 
-// The router `r0` with a table for the channel, which holds nothing.
+// The router `r0` with a table for the channel.
 fn table_router(alloc: Global, chip: &Chip) -> Option<TableRouter>
-    ensures frame { IfSome result (λ router. RouterFrame router.incoming router.outgoing
+    ensures { IfSome result (λ router. RouterFrame router.incoming router.outgoing
         ≡ frame_of (made_router chip.now ByHeader 0)) }
-    ensures none { IfSome result (λ router. router.held
-        ≡ replicate (length router.incoming) None) }
 {
-    let router = TableRouter::new(alloc, chip, RouterId(0)).ok()?;
+    let Ok(router) = TableRouter::new(alloc, chip, RouterId(0)) else {
+        return None;
+    };
     let router = with_entry(router, 1)?;
     with_entry(router, 5)
 }
 
-// The router `r0` becomes a fresh one with a table, and so loses the flit that it holds.
-fn put_table(alloc: Global, chip: &Chip, pair: &mut Components) -> bool
+// The router `r0` as it is at first: it reads headers, or has a table for the channel.
+fn fresh_router(alloc: Global, chip: &Chip, by_table: bool) -> Option<Part>
+    ensures { IfSome result (λ router. frame_of router
+        ≡ frame_of (made_router chip.now ByHeader 0)) }
+{
+    if by_table {
+        return Some(Part::TableRouter(table_router(alloc, chip)?));
+    }
+    Some(Part::Router(Router::new(alloc, chip, RouterId(0)).ok()?))
+}
+
+// A fresh router takes the place of the router `r0`.
+fn put_fresh(alloc: Global, chip: &Chip, pair: &mut Components, by_table: bool) -> bool
     requires { slice_get (frames_of pair.old) 2
         ≡ Some (frame_of (made_router chip.now ByHeader 0)) }
     ensures { frames_of pair.new ≡ frames_of pair.old }
 {
-    match table_router(alloc, chip) {
+    match fresh_router(alloc, chip, by_table) {
         Some(router) => {
-            put_table_router(pair, router);
+            pair.parts[2] = router;
             true
         }
         None => false,
     }
 }
 
-// 20 cycles with a table in the router `r0`. Before cycle 5 a flit is lost, as a fresh router with the
-// same entries comes in its place.
-fn carry_by_table(alloc: Global, chip: &Chip, pair: &mut Components) -> bool
-    requires { slice_get (frames_of pair.old) 2
-        ≡ Some (frame_of (made_router chip.now ByHeader 0)) }
+// The one flit that is under way is lost from its wire, unless an interface still tells of another. It
+// is what the router holds that receives there.
+fn empty_wire(pair: &mut Components) -> bool
+    ensures { frames_of pair.new ≡ frames_of pair.old }
 {
-    if !put_table(alloc, chip, pair) {
+    let count = pair.parts.len();
+    if pair.turns.telling.next(0, count) < count {
         return false;
     }
-    if !played(alloc, pair, 0, 5) {
+    let wire = pair.wires.next(0);
+    if wire as usize >= pair.flits.len() {
         return false;
     }
-    if !put_table(alloc, chip, pair) {
-        return false;
-    }
-    played(alloc, pair, 5, 20)
+    pair.wires.put(LinkId(wire), None);
+    true
 }
 
-// 20 cycles. Before cycle 5 a flit is lost.
-fn carry(alloc: Global, chip: &Chip, pair: &mut Components) -> bool
+// 20 cycles. Before cycle 5 a fresh router takes the place of the router `r0`, and the flit that this
+// one holds is lost.
+fn carry(alloc: Global, chip: &Chip, pair: &mut Components, by_table: bool) -> bool
     requires { slice_get (frames_of pair.old) 2
         ≡ Some (frame_of (made_router chip.now ByHeader 0)) }
 {
+    if !put_fresh(alloc, chip, pair, by_table) {
+        return false;
+    }
     if !played(alloc, pair, 0, 5) {
         return false;
     }
-    if !lose(alloc, chip, pair) {
+    if !put_fresh(alloc, chip, pair, by_table) {
+        return false;
+    }
+    if !empty_wire(pair) {
         return false;
     }
     played(alloc, pair, 5, 20)
@@ -236,15 +218,10 @@ fn received_on(alloc: Global, chip: &Chip, by_table: bool) -> Option<[Option<u32
         return None;
     }
     let mut pair = pair_of(alloc, chip)?;
-    let is_carried = if by_table {
-        carry_by_table(alloc, chip, &mut pair)
-    } else {
-        carry(alloc, chip, &mut pair)
-    };
-    if is_carried {
-        return Some(words_in(pair));
+    if !carry(alloc, chip, &mut pair, by_table) {
+        return None;
     }
-    None
+    Some(words_in(pair))
 }
 
 fn received(alloc: Global, by_table: bool) -> Option<[Option<u32>; 4]> {

@@ -1,4 +1,4 @@
-use Rattle.std.proofs.Common.{◌≡◌, ◌<◌, ◌≤◌, ◌∙◌, ℕ, List, Some, ap, arith, get_or, length, slice_get}
+use Rattle.std.proofs.Common.{◌≤◌, ◌∙◌, ℕ, ap, arith, length}
 use Rattle.std.proofs.Common.{sym}
 use Rattle.std.specs.List.{slice_set}
 use Rattle.std.proofs.lemmas.Bool.Decides.{nat_tests}
@@ -7,16 +7,8 @@ use Rattle.std.proofs.lemmas.Option.{same_Some, slice_get_past}
 use Rattle.aeth_base.specs.declared.ids.LinkId.{LinkId}
 use Rattle.aeth_router.specs.Router.{numbers_of}
 use Rattle.aeth_router.proofs.LinkLemmas.{is_among-at}
-use Rattle.aeth_router.proofs.Steps.{numbers_of-at}
+use Rattle.aeth_router.proofs.Steps.{numbers_of-got}
 use Rattle.aeth_router.proofs.traffic.put_at.Goals as goal
-
--- The number of the link at a place.
-numbers_of-got : (links : List LinkId) (place : ℕ) (link : LinkId)
-    → place < length links → link ≡ get_or links place link
-    → slice_get (numbers_of links) place ≡ Some link.0
-numbers_of-got links place link within is =
-    numbers_of-at links place link within
-    ∙ ap (λ (there : LinkId). Some there.0) (sym is)
 
 -- The link of the port is a link.
 pub put-requires : goal.put-requires

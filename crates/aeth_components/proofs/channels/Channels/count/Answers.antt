@@ -35,7 +35,6 @@ count_told-requires-clause-told c =
     let all = c.self.inside in
     let lanes = all.lanes.items in
     let parts = c.args.parts.now in
-    let wires = c.args.wires.now in
     let words = length c.args.landings.now in
     let count = c.len-count.ensures in
     let own = all.lanes.ok.0 in
@@ -43,13 +42,12 @@ count_told-requires-clause-told c =
     let room = c.self.invariant.room in
     let told = c.tell.ensures.room in
     subst (AreMarked (λ lane. brings parts lane ≡ 0) c.tell.new.told) (sym c.deref_mut.ensures.value)
-    (AreMarked-told all.homes lanes parts words c.args.ends.now wires c.tell.new.told
+    (AreMarked-told all.homes lanes parts words c.args.telling.now c.tell.new.told
     c.self.invariant.places c.if-self.true
     (subst (λ (all : ChannelsState). All (IsLane words (length parts)) all.lanes) (sym c.self.view_is)
     c.requires.lanes)
     c.requires.brought
-    (subst (λ n. AreTold all.homes.numbers.items parts c.args.ends.now wires (length wires) n
-    c.tell.new.told) same c.tell.ensures.told) (omega (arith, room, told)))
+    (subst (λ n. AreTold all.homes.numbers.items parts c.args.telling.now n c.tell.new.told) same c.tell.ensures.told) (omega (arith, room, told)))
 
 -- What is noted of them stays so.
 pub invariant_of-self : goal.invariant_of-self

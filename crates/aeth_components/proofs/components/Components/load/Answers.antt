@@ -1,4 +1,5 @@
 use Rattle.std.proofs.Common.{ap, arith, length, subst, sym}
+use Rattle.std.proofs.lemmas.List.{length-map}
 use Rattle.std.proofs.lemmas.List.Elements.{All-set}
 use Rattle.aeth_components.proofs.components.Components.load.Goals as goal
 use Rattle.aeth_components.proofs.WaitingLemmas.{AreHanding-marked}
@@ -6,6 +7,7 @@ use Rattle.aeth_components.specs.Channels.{ChannelsState}
 use Rattle.aeth_components.specs.Components.{ComponentsState, IsComponents, components_of}
 use Rattle.aeth_components.specs.Lanes.{IsLane}
 use Rattle.aeth_components.specs.Handing.{AreHanding}
+use Rattle.aeth_components.specs.Seen.{seen}
 
 -- The channel has a mark.
 pub mark-requires : goal.mark-requires
@@ -22,8 +24,10 @@ invariant_of-self c =
     let state = c.self.invariant.0 in
     let P = IsLane (length all.channels.words) (length all.parts.items) in
     let sound : P c.args.lane =
-    subst (λ (all : ComponentsState). IsLane (length all.words) (length all.parts) c.args.lane)
-    (sym c.self.view_is) c.requires.lane in (
+    subst (λ n. IsLane (length all.channels.words) n c.args.lane)
+    (length-map all.parts.items (seen all.wires))
+    (subst (λ (all : ComponentsState). IsLane (length all.words) (length all.parts) c.args.lane)
+    (sym c.self.view_is) c.requires.lane) in (
       subst (λ (channels : ChannelsState). IsComponents (components_of all.parts.items all.wires
           channels.lanes channels.words all.landings.items all.flits.items)) (sym c.load.ensures)
           (record {

@@ -1,6 +1,7 @@
-use Rattle.std.proofs.Common.{◌<◌, ◌∙◌, arith, subst}
+use Rattle.std.proofs.Common.{◌<◌, ◌∙◌, ap, subst, replicate, ℕ}
 use Rattle.std.specs.List.{All}
 use Rattle.aeth_base.specs.Marks.{room_of}
+use Rattle.aeth_router.specs.Onward.{Nothing}
 use Rattle.aeth_components.proofs.FirstLemmas.{AreReady-new}
 use Rattle.aeth_components.proofs.TableLemmas.{AreInjecting-new}
 use Rattle.aeth_components.proofs.turns.Turns.new.Goals as goal
@@ -9,16 +10,9 @@ use Rattle.aeth_components.proofs.turns.Turns.new.Goals as goal
 pub returns-clause-ready : goal.returns-clause-ready
 returns-clause-ready c = λ rooms.
     AreReady-new c.args.chip.now c.slots-slots.ensures.chip rooms _ c.in_ok-ends.ensures
-    (record {
-      driving = c.in_ok-none.ensures.room;
-      latching = c.in_ok-none-2.ensures.room;
-      numbers = (
-          let size = c.in_ok-numbers.ensures.len in
-          let own = c.in_ok-numbers.numbers.ok.0 in
-          omega (arith, size, own));
-    })
-    (λ number below. c.in_ok-none.ensures.unmarked number)
-    (λ number below. c.in_ok-none-2.ensures.unmarked number)
+    c.in_ok-none.ensures.room c.in_ok-none-2.ensures.room c.in_ok-none.ensures.unmarked
+    c.in_ok-none-2.ensures.unmarked
+    (c.in_ok-new.ensures ∙ ap (λ (n : ℕ). replicate n Nothing) c.wires.ensures.wires)
 
 -- No table has an entry.
 pub returns-clause-injecting : goal.returns-clause-injecting

@@ -1,0 +1,137 @@
+-- What is on the wires once all components have driven.
+use Rattle.std.proofs.Common.{ℕ, ◌≡◌, ◌<◌, refl, sym, ◌∙◌, ap, arith, inl, inr, subst}
+use Rattle.std.proofs.Common.{[], ◌∷◌, ◌+◌, ap₂, cond, count_by}
+use Rattle.std.proofs.Common.{Bool, List, Option, Some, None, length, map, slice_get, true}
+use Rattle.std.proofs.lemmas.Bool.{cases_lt}
+use Rattle.std.proofs.lemmas.List.{length-map}
+use Rattle.std.proofs.lemmas.List.Sums.{sum_by-cons}
+use Rattle.std.proofs.lemmas.Option.{slice_get-get_or, unwrap_or-slice_get}
+use Rattle.aeth_clocked.specs.Driven.{driven, is_output}
+use Rattle.aeth_clocked.specs.Wires.{flit_on}
+use Rattle.aeth_clocked.specs.declared.flit.Flit.{Flit}
+use Rattle.aeth_clocked.proofs.DrivenLemmas.{driven-at}
+use Rattle.aeth_clocked.proofs.WiresLemmas.{Drives-whole}
+use Rattle.aeth_router.proofs.OnwardLemmas.{flit_on-carried}
+use Rattle.aeth_router.specs.Onward.{Arrival, CameFrom, arrival_at, carried}
+use Rattle.aeth_router.specs.Part.{emit_of, outputs_of}
+use Rattle.aeth_router.specs.declared.part.Part.{Part}
+use Rattle.aeth_router.specs.declared.part.Part.TheVariants.{Interface, Router, Stage, TableRouter}
+use Rattle.aeth_components.proofs.FrameLemmas.{AreDisjoint-parts, from-map, is_output-parts}
+use Rattle.aeth_components.proofs.FrameLemmas.{outputs_of-frame, seen-at}
+use Rattle.aeth_components.proofs.OwnLemmas.{output-below}
+use Rattle.aeth_components.proofs.PassedLemmas.{passed-emits, passed-none}
+use Rattle.aeth_components.proofs.SeenLemmas.{frames-seen, outputs_of-seen}
+use Rattle.aeth_components.proofs.SeenCycle.{sends_own-seen}
+use Rattle.aeth_components.specs.Components.{wires_driven}
+use Rattle.aeth_components.specs.Ends.{AreEnds, is_interface}
+use Rattle.aeth_components.specs.Frames.{Frame, IsWired, frame_of, sends_by}
+use Rattle.aeth_components.specs.Passing.{passed_from}
+use Rattle.aeth_components.specs.Seen.{all_seen, seen}
+use Rattle.aeth_components.specs.Sending.{Injects}
+use Rattle.aeth_components.specs.Turns.{sends_own}
+use Rattle.aeth_components.specs.declared.ends.Ends.{Ends}
+
+-- An interface is seen as it is.
+seen-interface : (wires : List (Option Flit)) (part : Part) → is_interface (frame_of part) ≡ true
+    → seen wires part ≡ part
+seen-interface wires (Interface ni) is = refl
+seen-interface wires (Router router) is = absurd (cc is)
+seen-interface wires (TableRouter router) is = absurd (cc is)
+seen-interface wires (Stage stage) is = absurd (cc is)
+
+module _ (parts : List Part) (wires : List (Option Flit)) (ends : Ends) (cycle : ℕ)
+    (wired : IsWired (map frame_of parts) (length wires))
+    (are : AreEnds (map frame_of parts) (length wires) ends) (arrivals : List Arrival)
+    (size : length arrivals ≡ length wires)
+    (came : (out : ℕ) → out < length wires
+    → CameFrom (passed_from ends.receivers.items parts wires cycle out) (length wires)
+    (arrival_at arrivals out)) where
+  -- What components hold makes no difference to how they are wired.
+  seen-wired : IsWired (map frame_of (all_seen wires parts)) (length wires)
+  seen-wired =
+      subst (λ (frames : List Frame). IsWired frames (length wires)) (sym (frames-seen wires parts)) wired
+
+  -- What the wires carry that has come.
+  settled-at : (settled : List (Option Flit)) → settled ≡ map carried arrivals → (wire : ℕ)
+      → wire < length wires → flit_on settled wire ≡ carried (arrival_at arrivals wire)
+  settled-at settled is wire within =
+      ap (λ (wires : List (Option Flit)). flit_on wires wire) is
+      ∙ flit_on-carried arrivals wire (omega (arith, size, within))
+
+  -- Nothing has come to what an interface sends on.
+  pub empty-outputs : (settled : List (Option Flit)) → settled ≡ map carried arrivals
+      → (i wire : ℕ) (part : Part) → slice_get parts i ≡ Some part → i < ends.interfaces
+      → outputs_of part wire ≡ true → flit_on settled wire ≡ None
+  empty-outputs settled is i wire part at less own =
+      let within = output-below parts (length wires) wired i part at wire own in
+      settled-at settled is wire within
+      ∙ passed-none parts wires ends cycle wired are i wire part (arrival_at arrivals wire) at less own
+      (came wire within)
+
+  -- On each output is what the component emits, seen with what it holds.
+  output-emits : (settled now : List (Option Flit)) → settled ≡ map carried arrivals
+      → Injects cycle ends.interfaces parts settled now → (i wire : ℕ) (part : Part)
+      → slice_get parts i ≡ Some part → outputs_of part wire ≡ true
+      → flit_on now wire ≡ emit_of (seen wires part) cycle wire
+  output-emits settled now is injects i wire part at own =
+      let within = output-below parts (length wires) wired i part at wire own in
+      let framed = seen-at frame_of parts i part at in
+      elim (cases_lt i ends.interfaces) [
+        | inl less ↦
+            let same = seen-interface wires part (are.first i (frame_of part) framed less) in
+            injects.own i wire part at less own
+            ∙ ap (λ (part : Part). emit_of part cycle wire) (sym same)
+        | inr over ↦
+            injects.other i wire part at over own ∙ settled-at settled is wire within
+            ∙ passed-emits parts wires ends cycle wired are i wire part (arrival_at arrivals wire) at
+            over own (came wire within)
+      ]
+
+  -- All that is on the wires is what the components drive.
+  driven-at-wire : (settled now : List (Option Flit)) → settled ≡ map carried arrivals
+      → Injects cycle ends.interfaces parts settled now → (wire : ℕ) → wire < length wires
+      → flit_on now wire ≡ driven outputs_of emit_of (all_seen wires parts) cycle wire
+  driven-at-wire settled now is injects wire within =
+      let (i, frame, there, sends) = wired.owned wire within in
+      let (part, at, framed) = from-map frame_of parts i frame there in
+      let own : outputs_of part wire ≡ true =
+      outputs_of-frame part wire ∙ ap (λ (frame : Frame). sends_by frame wire) (sym framed) ∙ sends in
+      output-emits settled now is injects i wire part at own
+      ∙ sym (driven-at outputs_of emit_of (all_seen wires parts) i cycle wire (seen wires part)
+      (AreDisjoint-parts (all_seen wires parts) (length wires) seen-wired)
+      (seen-at (seen wires) parts i part at)
+      (ap (λ (outputs : ℕ → Bool). outputs wire) (outputs_of-seen wires part) ∙ own))
+
+  pub wires-driven : (settled now : List (Option Flit)) → settled ≡ map carried arrivals
+      → Injects cycle ends.interfaces parts settled now
+      → now ≡ wires_driven (all_seen wires parts) (length wires) cycle
+  wires-driven settled now is injects =
+      let seen_parts = all_seen wires parts in
+      let sized : length settled ≡ length wires =
+      ap length is ∙ length-map arrivals carried ∙ size in
+      let all : (wire : ℕ) → wire < length settled → is_output outputs_of seen_parts wire ≡ true =
+      λ wire within. is_output-parts seen_parts (length wires) seen-wired wire
+      (omega (arith, sized, within)) in
+      Drives-whole (is_output outputs_of seen_parts) (driven outputs_of emit_of seen_parts cycle) settled
+      now all (record {
+        links = injects.size;
+        at = λ wire within.
+            let count = injects.size in
+            let below : wire < length wires = omega (arith, sized, within) in
+            rw (all wire within)
+            (slice_get-get_or now wire None (omega (arith, count, within))
+            ∙ ap (λ (flit : Option Flit). Some flit)
+            (sym (unwrap_or-slice_get now wire None)
+            ∙ driven-at-wire settled now is injects wire below));
+      })
+      ∙ ap (λ (n : ℕ). wires_driven seen_parts n cycle) sized
+
+-- As many send something of their own, whatever routers and stages hold.
+pub sending-seen : (wires : List (Option Flit)) (cycle : ℕ) (parts : List Part)
+    → count_by (sends_own cycle) (all_seen wires parts) ≡ count_by (sends_own cycle) parts
+sending-seen wires cycle [] = refl
+sending-seen wires cycle (part ∷ parts) =
+    sum_by-cons (λ x. cond (sends_own cycle x) 1 0) (seen wires part) (all_seen wires parts)
+    ∙ ap₂ (λ (own : Bool) (rest : ℕ). cond own 1 0 + rest) (sends_own-seen wires cycle part)
+    (sending-seen wires cycle parts)
+    ∙ sym (sum_by-cons (λ x. cond (sends_own cycle x) 1 0) part parts)

@@ -1,0 +1,233 @@
+-- Laws of the walk over the interfaces in which each that sends something of its own drives it.
+use Rattle.std.proofs.Common.{ℕ, ◌≡◌, ◌≢◌, ◌<◌, ◌≤◌, ◌+◌, refl, sym, ap, ◌∙◌, arith, cond, false}
+use Rattle.std.proofs.Common.{true, inl, inr, List, length, length-set, map, None, Option, Some, take}
+use Rattle.std.proofs.Common.{count_by, get_or, slice_get}
+use Rattle.std.specs.Prelude.{slice_set}
+use Rattle.std.specs.Option.{option_map}
+use Rattle.std.proofs.lemmas.Bool.{cases_Bool, cases_eq, cases_lt}
+use Rattle.std.proofs.lemmas.List.{take-take}
+use Rattle.std.proofs.lemmas.List.Sums.{count_by_more_yes, sum_by-take-le}
+use Rattle.std.proofs.lemmas.Option.{get_or_from_slice_get, same_Some, slice_get-get_or}
+use Rattle.std.proofs.lemmas.Option.{slice_get-map, slice_get_within}
+use Rattle.aeth_base.proofs.Lists.{same_list, slice_get-slice_set_other, slice_get-slice_set_same}
+use Rattle.aeth_clocked.specs.Wires.{Drives, flit_on}
+use Rattle.aeth_clocked.specs.declared.flit.Flit.{Flit}
+use Rattle.aeth_router.specs.Part.{after_of, emit_of, outputs_of}
+use Rattle.aeth_router.specs.declared.part.Part.{Part}
+use Rattle.aeth_components.specs.Ends.{is_interface}
+use Rattle.aeth_components.specs.Frames.{Frame, IsWired, frame_of}
+use Rattle.aeth_components.specs.Handing.{HasWaitingPlaces, Wakes}
+use Rattle.aeth_components.specs.Seen.{interfaces_driven}
+use Rattle.aeth_components.specs.Sending.{Injects, IsSending}
+use Rattle.aeth_components.specs.Turns.{sends_own}
+use Rattle.aeth_components.specs.declared.handing.Handing.{Handing}
+use Rattle.aeth_components.proofs.FrameLemmas.{AreDisjoint-parts, seen-at}
+use Rattle.aeth_components.proofs.OwnLemmas.{after-sends, flit_on-other, flit_on-own, option_map-still}
+use Rattle.aeth_components.proofs.OwnLemmas.{output-below, own_driven, still-mute, still-other}
+use Rattle.aeth_components.proofs.WakingLemmas.{Wakes-more, Wakes-none, Wakes-same}
+
+-- The interfaces below a number have driven what they send of their own, and who waits there is woken.
+pub record InjectedTo (cycle : ℕ) (parts : List Part) (wires : List (Option Flit)) (handing : Handing)
+    (steps to : ℕ) (now_parts : List Part) (now_wires : List (Option Flit)) (now_handing : Handing)
+    (now_steps : ℕ) : Type 0 where
+  pub size : length now_parts ≡ length parts
+  pub driven : (number : ℕ) → number < to
+      → slice_get now_parts number ≡ option_map (own_driven cycle) (slice_get parts number)
+  pub behind : (number : ℕ) → to ≤ number → slice_get now_parts number ≡ slice_get parts number
+  pub sent : Injects cycle to parts wires now_wires
+  pub woken : Wakes (λ number. (number < to) × IsSending cycle parts number) handing now_handing
+  pub few : now_steps ≤ steps + count_by (sends_own cycle) (take to parts)
+
+-- None yet.
+pub InjectedTo-first : (cycle : ℕ) (parts : List Part) (wires : List (Option Flit))
+    (handing : Handing) (steps : ℕ) → HasWaitingPlaces handing
+    → InjectedTo cycle parts wires handing steps 0 parts wires handing steps
+InjectedTo-first cycle parts wires handing steps places = record {
+  size = refl;
+  driven = λ number below. absurd (omega (arith, below));
+  behind = λ number past. refl;
+  sent = record {
+    size = refl;
+    own = λ number wire part at below. absurd (omega (arith, below));
+    other = λ number wire part at past is. refl;
+  };
+  woken = Wakes-none (λ number. (number < 0) × IsSending cycle parts number) handing places
+      (λ number is. let below = is.0 in omega (arith, below));
+  few = omega arith;
+}
+
+module _ {cycle : ℕ} {parts : List Part} {wires : List (Option Flit)} {handing : Handing}
+    {steps to : ℕ} {now_parts : List Part} {now_wires : List (Option Flit)} {now_handing : Handing}
+    {now_steps : ℕ}
+    (injected : InjectedTo cycle parts wires handing steps to now_parts now_wires now_handing
+    now_steps) where
+  -- Those that are passed over send nothing, and their outputs are empty.
+  pub InjectedTo-until : (interfaces next : ℕ) → to ≤ next → next ≤ interfaces
+      → ((number : ℕ) (frame : Frame) → slice_get (map frame_of parts) number ≡ Some frame
+      → number < interfaces → is_interface frame ≡ true)
+      → ((number wire : ℕ) (part : Part) → slice_get parts number ≡ Some part → number < interfaces
+      → outputs_of part wire ≡ true → flit_on wires wire ≡ None)
+      → ((number : ℕ) (part : Part) → slice_get parts number ≡ Some part → to ≤ number
+      → number < next → sends_own cycle part ≡ false)
+      → InjectedTo cycle parts wires handing steps next now_parts now_wires now_handing now_steps
+  InjectedTo-until interfaces next further within first empty mute =
+      let still : (number : ℕ) (part : Part) → slice_get parts number ≡ Some part → to ≤ number
+      → number < next
+      → (own_driven cycle part ≡ part) × ((wire : ℕ) → emit_of part cycle wire ≡ None) =
+      λ number part at over below.
+      still-mute cycle part
+      (first number (frame_of part) (seen-at frame_of parts number part at)
+      (omega (arith, below, within)))
+      (mute number part at over below) in
+      record {
+        size = injected.size;
+        driven = λ number below. elim (cases_lt number to) [
+          | inl less ↦ injected.driven number less
+          | inr over ↦
+              injected.behind number over
+              ∙ sym (option_map-still (own_driven cycle) (slice_get parts number)
+              (λ part at. (still number part at over below).0))
+        ];
+        behind = λ number past. injected.behind number (omega (arith, past, further));
+        sent = record {
+          size = injected.sent.size;
+          own = λ number wire part at below is. elim (cases_lt number to) [
+            | inl less ↦ injected.sent.own number wire part at less is
+            | inr over ↦
+                injected.sent.other number wire part at over is
+                ∙ empty number wire part at (omega (arith, below, within)) is
+                ∙ sym ((still number part at over below).1 wire)
+          ];
+          other = λ number wire part at past is.
+              injected.sent.other number wire part at (omega (arith, past, further)) is;
+        };
+        woken = Wakes-same (λ number. (number < next) × IsSending cycle parts number)
+            (λ number. (number < to) × IsSending cycle parts number) handing now_handing
+            (λ number is. elim (cases_lt number to) [
+              | inl less ↦ (less, is.1)
+              | inr over ↦
+                  let own = is.1 in
+                  absurd (cc (sym (mute number own.0 own.1 over is.0) ∙ own.2))
+            ]) injected.woken;
+        few =
+            (let before = injected.few in
+            let more = sum_by-take-le (λ part. cond (sends_own cycle part) 1 0) (take next parts) to in
+            let same = ap (count_by (sends_own cycle)) (take-take to next parts further) in
+            omega (arith, before, more, same));
+      }
+
+  -- The next is as it was.
+  pub InjectedTo-next : (read : Part) → to < length parts
+      → slice_get parts to ≡ Some (get_or now_parts to read)
+  InjectedTo-next read within =
+      let size = injected.size in
+      sym (injected.behind to (omega arith))
+      ∙ slice_get-get_or now_parts to read (omega (arith, within, size))
+
+  -- One more sends, and drives it.
+  pub InjectedTo-more : {part driven_part : Part} {new_wires : List (Option Flit)}
+      {new_handing : Handing} {new_steps : ℕ} → IsWired (map frame_of parts) (length wires)
+      → slice_get parts to ≡ Some part → sends_own cycle part ≡ true
+      → driven_part ≡ after_of part cycle
+      → Drives (outputs_of part) (emit_of part cycle) now_wires new_wires
+      → Wakes (λ other. other ≡ to) now_handing new_handing → new_steps ≡ now_steps + 1
+      → InjectedTo cycle parts wires handing steps (to + 1) (slice_set now_parts to driven_part)
+      new_wires new_handing new_steps
+  InjectedTo-more {part} {driven_part} {new_wires} {new_handing} wired there sends is drives wakes
+      tick =
+      let within = slice_get_within parts to part there in
+      let size = injected.size in
+      let links : (number wire : ℕ) (other : Part) → slice_get parts number ≡ Some other
+      → outputs_of other wire ≡ true → wire < length now_wires =
+      λ number wire other at own.
+      let below = output-below parts (length wires) wired number other at wire own in
+      let same = injected.sent.size in
+      omega (arith, below, same) in
+      let apart : (number wire : ℕ) (other : Part) → slice_get parts number ≡ Some other
+      → outputs_of other wire ≡ true → number ≢ to → flit_on new_wires wire ≡ flit_on now_wires wire =
+      λ number wire other at own away.
+      flit_on-other (outputs_of part) (emit_of part cycle) now_wires new_wires wire drives
+      (links number wire other at own)
+      (elim (cases_Bool (outputs_of part wire)) [
+        | inl both ↦
+            absurd (away (AreDisjoint-parts parts (length wires) wired number to wire other part at
+            there own both))
+        | inr none ↦ none
+      ]) in
+      record {
+        size = length-set now_parts to driven_part ∙ size;
+        driven = λ number below. elim (cases_eq number to) [
+          | inl same ↦
+              ap (slice_get (slice_set now_parts to driven_part)) same
+              ∙ slice_get-slice_set_same now_parts to driven_part (omega (arith, within, size))
+              ∙ ap (λ (part : Part). Some part) (is ∙ after-sends cycle part sends)
+              ∙ ap (option_map (own_driven cycle)) (sym (ap (slice_get parts) same ∙ there))
+          | inr away ↦
+              slice_get-slice_set_other now_parts to number driven_part away
+              ∙ injected.driven number (omega (arith, below, away))
+        ];
+        behind = λ number past.
+            slice_get-slice_set_other now_parts to number driven_part
+            (λ same. omega (arith, same, past))
+            ∙ injected.behind number (omega (arith, past));
+        sent = record {
+          size = drives.links ∙ injected.sent.size;
+          own = λ number wire other at below own. elim (cases_eq number to) [
+            | inl same ↦
+                let one : other ≡ part =
+                same_Some other part (sym at ∙ ap (slice_get parts) same ∙ there) in
+                flit_on-own (outputs_of part) (emit_of part cycle) now_wires new_wires wire drives
+                (links number wire other at own)
+                (ap (λ (part : Part). outputs_of part wire) (sym one) ∙ own)
+                ∙ ap (λ (part : Part). emit_of part cycle wire) (sym one)
+            | inr away ↦
+                apart number wire other at own away
+                ∙ injected.sent.own number wire other at (omega (arith, below, away)) own
+          ];
+          other = λ number wire other at past own.
+              apart number wire other at own (λ same. omega (arith, same, past))
+              ∙ injected.sent.other number wire other at (omega (arith, past)) own;
+        };
+        woken = Wakes-more (λ number. (number < to + 1) × IsSending cycle parts number)
+            (λ number. (number < to) × IsSending cycle parts number) to handing now_handing new_handing
+            injected.woken wakes
+            (λ number among. elim (cases_eq number to) [
+              | inl same ↦ inr same
+              | inr away ↦ let below = among.0 in inl (omega (arith, below, away), among.1)
+            ]);
+        few =
+            (let before = injected.few in
+            let one = count_by_more_yes (sends_own cycle) parts to part within
+            (ap (sends_own cycle) (get_or_from_slice_get parts to part part there) ∙ sends) in
+            omega (arith, before, one, tick));
+      }
+
+  -- Past all interfaces no other component is changed, nor sends.
+  module _
+      (others : (number : ℕ) (frame : Frame) → slice_get (map frame_of parts) number ≡ Some frame
+      → to ≤ number → is_interface frame ≡ false) where
+    left : (number : ℕ) (part : Part) → slice_get parts number ≡ Some part → to ≤ number
+        → (own_driven cycle part ≡ part) × (sends_own cycle part ≡ false)
+    left number part at past =
+        still-other cycle part
+        (others number (frame_of part) (seen-at frame_of parts number part at) past)
+
+    pub InjectedTo-parts : now_parts ≡ interfaces_driven cycle parts
+    InjectedTo-parts = same_list now_parts (interfaces_driven cycle parts) (λ number.
+        elim (cases_lt number to) [
+          | inl less ↦ injected.driven number less
+          | inr past ↦
+              injected.behind number past
+              ∙ sym (option_map-still (own_driven cycle) (slice_get parts number)
+              (λ part at. (left number part at past).0))
+        ] ∙ sym (slice_get-map (own_driven cycle) parts number))
+
+    pub InjectedTo-woken : Wakes (IsSending cycle parts) handing now_handing
+    InjectedTo-woken = Wakes-same (IsSending cycle parts)
+        (λ number. (number < to) × IsSending cycle parts number) handing now_handing
+        (λ number own. elim (cases_lt number to) [
+          | inl less ↦ (less, own)
+          | inr past ↦
+              let mute = (left number own.0 own.1 past).1 in
+              absurd (cc (sym mute ∙ own.2))
+        ]) injected.woken

@@ -1,0 +1,210 @@
+-- Components that hold what their wires have: rows that enter, what is counted of them, who sends, and
+-- what they are at first.
+use Rattle.std.proofs.Common.{ℕ, ◌≡◌, ◌∙◌, refl, sym, ap, ap₂, subst, arith, inl, inr}
+use Rattle.std.proofs.Common.{List, [], ◌∷◌, ◌++◌, length, map, fold, replicate, get_or, slice_get}
+use Rattle.std.proofs.Common.{Option, Some, None}
+use Rattle.std.specs.List.{All, flat_map, range_with_len}
+use Rattle.std.specs.Option.{option_map, option_map_or}
+use Rattle.std.proofs.lemmas.Bool.{cases_Bool}
+use Rattle.std.proofs.lemmas.List.{get_or-map, length-map, map-append}
+use Rattle.std.proofs.lemmas.Option.{slice_get-map, unwrap_or-slice_get}
+use Rattle.aeth_chip.specs.Chip.{ChipData}
+use Rattle.aeth_chip.specs.Wires.{wire_at}
+use Rattle.aeth_chip.specs.declared.node.Link.{Link}
+use Rattle.aeth_clocked.specs.Wires.{flit_on}
+use Rattle.aeth_clocked.specs.declared.flit.Flit.{Flit}
+use Rattle.aeth_router.specs.Router.{entering_wires, new_router}
+use Rattle.aeth_router.specs.Rows.{is_for, with_row, without_entries}
+use Rattle.aeth_router.specs.TableRouter.{TableRouterState, new_table_router, table_absorb}
+use Rattle.aeth_router.specs.declared.part.Part.{Part}
+use Rattle.aeth_router.specs.declared.part.Part.TheVariants.{Interface, Router, Stage, TableRouter}
+use Rattle.aeth_router.specs.declared.router_row.RouterRow.{RouterRow}
+use Rattle.aeth_router.proofs.TableLemmas.{get_or-same}
+use Rattle.aeth_components.specs.Counting.{brought_at, counted, noted}
+use Rattle.aeth_components.specs.Entering.{TakesRows, entered, with_rows}
+use Rattle.aeth_components.specs.First.{HasSender, IsFirst}
+use Rattle.aeth_components.specs.Making.{link_stages, made_interface, made_router, made_stage}
+use Rattle.aeth_components.specs.Making.{made_stages, new_parts}
+use Rattle.aeth_components.specs.Queues.{brought_by}
+use Rattle.aeth_components.specs.Seen.{all_seen, seen}
+use Rattle.aeth_components.specs.Turns.{sends_own}
+use Rattle.aeth_components.specs.declared.lane.ChannelEnd.{ChannelEnd}
+use Rattle.aeth_components.specs.declared.lane.Lane.{Lane}
+use Rattle.aeth_components.specs.declared.making.RouterKind.{RouterKind}
+use Rattle.aeth_components.specs.declared.making.RouterKind.TheVariants.{ByHeader, ByTable}
+use Rattle.aeth_components.proofs.FrameLemmas.{from-map}
+use Rattle.aeth_components.proofs.FrameLemmas.{seen-at}
+
+module _ (wires : List (Option Flit)) where
+  -- What a router holds is nothing to the rows that enter its table.
+  with_row-seen : (router : TableRouterState) (row : RouterRow)
+      → with_row (table_absorb router wires) row ≡ table_absorb (with_row router row) wires
+  with_row-seen router row =
+      elim (cases_Bool (is_for router.number row)) [
+        | inl own ↦ rw own refl
+        | inr foreign ↦ rw foreign refl
+      ]
+
+  with_fold-seen : (rows : List RouterRow) (router : TableRouterState)
+      → fold with_row (table_absorb router wires) rows ≡ table_absorb (fold with_row router rows) wires
+  with_fold-seen [] router = refl
+  with_fold-seen (row ∷ rows) router =
+      ap (λ (router : TableRouterState). fold with_row router rows) (with_row-seen router row)
+      ∙ with_fold-seen rows (with_row router row)
+
+  entered-seen : (rows : List RouterRow) (part : Part)
+      → entered rows (seen wires part) ≡ seen wires (entered rows part)
+  entered-seen rows (Interface ni) = refl
+  entered-seen rows (Router router) = refl
+  entered-seen rows (TableRouter router) =
+      ap (λ (router : TableRouterState). TableRouter router)
+      (with_fold-seen rows (without_entries router))
+  entered-seen rows (Stage stage) = refl
+
+  pub with_rows-seen : (rows : List RouterRow) (parts : List Part)
+      → with_rows rows (all_seen wires parts) ≡ all_seen wires (with_rows rows parts)
+  with_rows-seen rows [] = refl
+  with_rows-seen rows (part ∷ parts) = rw (entered-seen rows part, with_rows-seen rows parts) refl
+
+  takes_rows-bare : (rows : List RouterRow) (part : Part) → TakesRows rows (seen wires part)
+      → TakesRows rows part
+  takes_rows-bare rows (Interface ni) takes = tt
+  takes_rows-bare rows (Router router) takes = tt
+  takes_rows-bare rows (TableRouter router) takes = λ place default within own.
+      let fits = takes place default within own in
+      record { port = fits.port; slot = fits.slot; from = fits.from }
+  takes_rows-bare rows (Stage stage) takes = tt
+
+  pub TakesRows-bare : (rows : List RouterRow) (parts : List Part)
+      → All (TakesRows rows) (all_seen wires parts) → All (TakesRows rows) parts
+  TakesRows-bare rows parts all place default within =
+      takes_rows-bare rows (get_or parts place default)
+      (subst (TakesRows rows) (get_or-map (seen wires) parts place default (seen wires default) within)
+      (all place (seen wires default) (let size = length-map parts (seen wires) in omega arith)))
+
+  -- The same words were brought, so the same is counted and noted.
+  pub brought_by-seen : (queue : ℕ) (part : Part)
+      → brought_by queue (seen wires part) ≡ brought_by queue part
+  brought_by-seen queue (Interface ni) = refl
+  brought_by-seen queue (Router router) = refl
+  brought_by-seen queue (TableRouter router) = refl
+  brought_by-seen queue (Stage stage) = refl
+
+  brought_from-seen : (queue : ℕ) (found : Option Part)
+      → option_map_or (brought_by queue) (option_map (seen wires) found) 0
+      ≡ option_map_or (brought_by queue) found 0
+  brought_from-seen queue None = refl
+  brought_from-seen queue (Some part) = brought_by-seen queue part
+
+  pub brought_at-seen : (end : ChannelEnd) (parts : List Part)
+      → brought_at end (all_seen wires parts) ≡ brought_at end parts
+  brought_at-seen end parts =
+      ap (λ (found : Option Part). option_map_or (brought_by end.queue) found 0)
+      (slice_get-map (seen wires) parts end.ni.0)
+      ∙ brought_from-seen end.queue (slice_get parts end.ni.0)
+
+  pub counted-seen : (cycle : ℕ) (parts : List Part) (lanes : List Lane)
+      → map (counted cycle (all_seen wires parts)) lanes ≡ map (counted cycle parts) lanes
+  counted-seen cycle parts [] = refl
+  counted-seen cycle parts (lane ∷ lanes) =
+      rw (brought_at-seen lane.receiver parts, counted-seen cycle parts lanes) refl
+
+  pub noted-seen : (cycle : ℕ) (parts : List Part) (lanes : List Lane) (landings : List ℕ)
+      → fold (noted cycle (all_seen wires parts)) landings lanes
+      ≡ fold (noted cycle parts) landings lanes
+  noted-seen cycle parts [] landings = refl
+  noted-seen cycle parts (lane ∷ lanes) landings =
+      rw (brought_at-seen lane.receiver parts) (noted-seen cycle parts lanes (noted cycle parts landings lane))
+
+  -- The same components send something of their own.
+  pub sends_own-seen : (cycle : ℕ) (part : Part)
+      → sends_own cycle (seen wires part) ≡ sends_own cycle part
+  sends_own-seen cycle (Interface ni) = refl
+  sends_own-seen cycle (Router router) = refl
+  sends_own-seen cycle (TableRouter router) = refl
+  sends_own-seen cycle (Stage stage) = refl
+
+  pub HasSender-bare : (parts : List Part) (cycle : ℕ) → HasSender (all_seen wires parts) cycle
+      → HasSender parts cycle
+  HasSender-bare parts cycle sender =
+      let found = from-map (seen wires) parts sender.number sender.part sender.at in
+      record {
+        number = sender.number;
+        part = found.0;
+        at = found.1;
+        sends = sym (sends_own-seen cycle found.0) ∙ ap (sends_own cycle) (sym found.2) ∙ sender.sends;
+      }
+
+  pub HasSender-seen : (parts : List Part) (cycle : ℕ) → HasSender parts cycle
+      → HasSender (all_seen wires parts) cycle
+  HasSender-seen parts cycle sender = record {
+    number = sender.number;
+    part = seen wires sender.part;
+    at = seen-at (seen wires) parts sender.number sender.part sender.at;
+    sends = sends_own-seen cycle sender.part ∙ sender.sends;
+  }
+
+  pub IsFirst-seen : (parts : List Part) (from to result : ℕ)
+      → IsFirst (HasSender parts) from to result
+      → IsFirst (HasSender (all_seen wires parts)) from to result
+  IsFirst-seen parts from to result first = record {
+    least = first.least;
+    most = first.most;
+    before = λ other over below sender.
+        first.before other over below (HasSender-bare parts other sender);
+    holds = λ below. HasSender-seen parts result (first.holds below);
+  }
+
+-- Where no wire has a flit the components of a chip hold what they do at first.
+module _ (count : ℕ) where
+  flit-none : (link : ℕ) → flit_on (replicate count None) link ≡ None
+  flit-none link = unwrap_or-slice_get (replicate count None) link None ∙ get_or-same None count link
+
+  held-none : (links : List ℕ)
+      → map (flit_on (replicate count None)) links ≡ replicate (length links) None
+  held-none [] = refl
+  held-none (link ∷ links) = rw (flit-none link, held-none links) refl
+
+  router-new : (chip : ChipData) (kind : RouterKind) (number : ℕ)
+      → seen (replicate count None) (made_router chip kind number) ≡ made_router chip kind number
+  router-new chip ByHeader number =
+      ap (λ held. Router (record (new_router (record { 0 = number }) chip.links) { held = held }))
+      (held-none (entering_wires (record { 0 = number }) chip.links))
+  router-new chip ByTable number =
+      ap (λ held. TableRouter (record (new_table_router (record { 0 = number }) chip) { held = held }))
+      (held-none (entering_wires (record { 0 = number }) chip.links))
+
+  stage-new : (links : List Link) (link place : ℕ)
+      → seen (replicate count None) (made_stage links link place) ≡ made_stage links link place
+  stage-new links link place =
+      rw (flit-none (wire_at links link place)) refl
+
+  made-new : (made : ℕ → Part) → ((n : ℕ) → seen (replicate count None) (made n) ≡ made n)
+      → (numbers : List ℕ) → all_seen (replicate count None) (map made numbers) ≡ map made numbers
+  made-new made same [] = refl
+  made-new made same (n ∷ numbers) = rw (same n, made-new made same numbers) refl
+
+  stages-new : (links : List Link) (numbers : List ℕ)
+      → all_seen (replicate count None) (flat_map (link_stages links) numbers)
+      ≡ flat_map (link_stages links) numbers
+  stages-new links [] = refl
+  stages-new links (link ∷ numbers) =
+      map-append (seen (replicate count None)) (link_stages links link)
+      (flat_map (link_stages links) numbers)
+      ∙ ap₂ (λ (some others : List Part). some ++ others)
+      (made-new (made_stage links link) (stage-new links link) _) (stages-new links numbers)
+
+  pub new_parts-seen : (chip : ChipData) (kind : RouterKind) (rooms : List ℕ)
+      → all_seen (replicate count None) (new_parts chip kind rooms) ≡ new_parts chip kind rooms
+  new_parts-seen chip kind rooms =
+      let interfaces = map (made_interface chip rooms) (range_with_len 0 (length chip.nis)) in
+      let routers = map (made_router chip kind) (range_with_len 0 (length chip.routers)) in
+      let stages = made_stages chip.links (length chip.links) in
+      map-append (seen (replicate count None)) (interfaces ++ routers) stages
+      ∙ ap₂ (λ (some others : List Part). some ++ others)
+      (map-append (seen (replicate count None)) interfaces routers
+      ∙ ap₂ (λ (some others : List Part). some ++ others)
+      (made-new (made_interface chip rooms) (λ n. refl) (range_with_len 0 (length chip.nis)))
+      (made-new (made_router chip kind) (router-new chip kind)
+      (range_with_len 0 (length chip.routers))))
+      (stages-new chip.links (range_with_len 0 (length chip.links)))

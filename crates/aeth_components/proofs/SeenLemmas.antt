@@ -1,0 +1,223 @@
+-- Changes of interfaces and the turns of channels commute with a map of components that leaves
+-- interfaces as they are, as what routers and stages hold of wires does.
+use Rattle.std.proofs.Common.{ℕ, zero, suc, ◌≡◌, ◌∙◌, ◌+◌, refl, sym, ap, ap₂, inl, inr}
+use Rattle.std.proofs.Common.{List, [], ◌∷◌, length, map, fold}
+use Rattle.std.proofs.Common.{Option, Some, None, slice_get}
+use Rattle.std.specs.List.{range_with_len}
+use Rattle.std.specs.Option.{option_map, option_map_or}
+use Rattle.std.proofs.lemmas.Bool.{cases_Bool}
+use Rattle.std.proofs.lemmas.Option.{slice_get-map}
+use Rattle.aeth_clocked.specs.declared.flit.Flit.{Flit}
+use Rattle.aeth_ni.specs.Interface.{InterfaceState, changed}
+use Rattle.aeth_ni.specs.Queue.{QueueState}
+use Rattle.aeth_router.specs.Part.{inputs_of, outputs_of}
+use Rattle.aeth_router.specs.declared.part.Part.{Part}
+use Rattle.aeth_router.specs.declared.part.Part.TheVariants.{Interface, Router, Stage, TableRouter}
+use Rattle.aeth_components.specs.Changes.{at_end, event_done, happened, on_interface, switched}
+use Rattle.aeth_components.specs.Changes.{told_at, told_by, with_part}
+use Rattle.aeth_components.specs.Events.{event_part}
+use Rattle.aeth_components.specs.Frames.{frame_of}
+use Rattle.aeth_components.specs.Injecting.{entries_of}
+use Rattle.aeth_components.specs.Lanes.{is_open}
+use Rattle.aeth_components.specs.Phases.{Moment, asked_of, drawn_out, handed_on, in_turn, left_of}
+use Rattle.aeth_components.specs.Phases.{pulled, refilled, turned, turned_at}
+use Rattle.aeth_components.specs.Queues.{drawn, draws, filled, fits}
+use Rattle.aeth_components.specs.Seen.{all_seen, seen}
+use Rattle.aeth_components.specs.Telling.{last_of}
+use Rattle.aeth_components.specs.declared.event.Event.{Event}
+use Rattle.aeth_components.specs.declared.lane.ChannelEnd.{ChannelEnd}
+use Rattle.aeth_components.specs.declared.lane.Lane.{Lane}
+use Rattle.aeth_components.proofs.FrameLemmas.{views-map}
+use Rattle.aeth_components.proofs.TurnLemmas.{pulled-closed, pulled-open, refilled-closed}
+use Rattle.aeth_components.proofs.TurnLemmas.{refilled-open}
+
+-- A map of components with which every change of interfaces commutes.
+abbrev pub Keeps : (Part → Part) → Type 0
+Keeps maps = (change : InterfaceState → InterfaceState) (part : Part)
+    → maps (on_interface change part) ≡ on_interface change (maps part)
+
+-- It leaves what queues tell.
+abbrev pub KeepsTold : (Part → Part) → Type 0
+KeepsTold maps = (queue : ℕ) (tells : QueueState → ℕ) (part : Part)
+    → told_by queue tells (maps part) ≡ told_by queue tells part
+
+-- What is done in a turn, with the components mapped.
+abbrev pub done_with : (Part → Part) → List Part × Lane → List Part × Lane
+done_with maps done = (map maps done.0, done.1)
+
+abbrev pub moment_with : (Part → Part) → Moment → Moment
+moment_with maps moment = record { parts = map maps moment.parts; lanes = moment.lanes }
+
+-- A turn that commutes with a map does so when all channels have it.
+module _ (maps : Part → Part) (turn : List Part → Lane → List Part × Lane)
+    (commutes : (parts : List Part) (lane : Lane)
+    → turn (map maps parts) lane ≡ done_with maps (turn parts lane)) where
+  turned_at-map : (moment : Moment) (number : ℕ) (found : Option Lane)
+      → turned_at turn (moment_with maps moment) number found
+      ≡ moment_with maps (turned_at turn moment number found)
+  turned_at-map moment number None = refl
+  turned_at-map moment number (Some lane) = rw (commutes moment.parts lane) refl
+
+  turns-map : (numbers : List ℕ) (moment : Moment)
+      → fold (turned turn) (moment_with maps moment) numbers
+      ≡ moment_with maps (fold (turned turn) moment numbers)
+  turns-map [] moment = refl
+  turns-map (number ∷ numbers) moment =
+      ap (λ (moment : Moment). fold (turned turn) moment numbers)
+      (turned_at-map moment number (slice_get moment.lanes number))
+      ∙ turns-map numbers (turned turn moment number)
+
+  pub in_turn-map : (moment : Moment)
+      → in_turn turn (moment_with maps moment) ≡ moment_with maps (in_turn turn moment)
+  in_turn-map moment = turns-map (range_with_len 0 (length moment.lanes)) moment
+
+module _ (maps : Part → Part) (keeps : Keeps maps) where
+  -- A change of one interface.
+  pub with_part-map : (number : ℕ) (change : InterfaceState → InterfaceState) (parts : List Part)
+      → with_part number (on_interface change) (map maps parts)
+      ≡ map maps (with_part number (on_interface change) parts)
+  with_part-map number change [] = refl
+  with_part-map zero change (part ∷ parts) =
+      ap (λ (first : Part). first ∷ map maps parts) (sym (keeps change part))
+  with_part-map (suc number) change (part ∷ parts) =
+      ap (λ (rest : List Part). maps part ∷ rest) (with_part-map number change parts)
+
+  pub at_end-map : (end : ChannelEnd) (change : QueueState → QueueState) (parts : List Part)
+      → at_end end change (map maps parts) ≡ map maps (at_end end change parts)
+  at_end-map end change parts = with_part-map end.ni.0 (changed end.queue change) parts
+
+  -- Events.
+  pub happened-map : (event : Event) (parts : List Part)
+      → happened (map maps parts) event ≡ map maps (happened parts event)
+  happened-map event parts = with_part-map (event_part event) (event_done event) parts
+
+  pub switched-map : (events : List Event) (parts : List Part)
+      → switched events (map maps parts) ≡ map maps (switched events parts)
+  switched-map [] parts = refl
+  switched-map (event ∷ events) parts =
+      ap (switched events) (happened-map event parts)
+      ∙ switched-map events (happened parts event)
+
+  module _ (told : KeepsTold maps) where
+    -- What is told of a queue stays.
+    told_from-map : (queue : ℕ) (tells : QueueState → ℕ) (found : Option Part)
+        → option_map_or (told_by queue tells) (option_map maps found) 0
+        ≡ option_map_or (told_by queue tells) found 0
+    told_from-map queue tells None = refl
+    told_from-map queue tells (Some part) = told queue tells part
+
+    pub told_at-map : (end : ChannelEnd) (tells : QueueState → ℕ) (parts : List Part)
+        → told_at end tells (map maps parts) ≡ told_at end tells parts
+    told_at-map end tells parts =
+        ap (λ (found : Option Part). option_map_or (told_by end.queue tells) found 0)
+        (slice_get-map maps parts end.ni.0)
+        ∙ told_from-map end.queue tells (slice_get parts end.ni.0)
+
+    -- The turns of a channel.
+    handed_on-map : (left : List ℕ) (parts : List Part) (lane : Lane)
+        → handed_on left (map maps parts) lane ≡ done_with maps (handed_on left parts lane)
+    handed_on-map left parts lane =
+        ap₂ (λ (parts : List Part) (n : ℕ). (parts, record lane { handed = lane.handed + n }))
+        (at_end-map lane.sender (filled left) parts) (told_at-map lane.sender (fits left) parts)
+
+    pub refilled-map : (words : List ℕ) (cycle : ℕ) (parts : List Part) (lane : Lane)
+        → refilled words cycle (map maps parts) lane
+        ≡ done_with maps (refilled words cycle parts lane)
+    refilled-map words cycle parts lane =
+        elim (cases_Bool (is_open lane cycle)) [
+          | inl opened ↦
+              refilled-open words cycle (map maps parts) lane opened
+              ∙ handed_on-map (left_of words lane) parts lane
+              ∙ ap (done_with maps) (sym (refilled-open words cycle parts lane opened))
+          | inr closed ↦
+              refilled-closed words cycle (map maps parts) lane closed
+              ∙ ap (done_with maps) (sym (refilled-closed words cycle parts lane closed))
+        ]
+
+    drawn_out-map : (parts : List Part) (lane : Lane)
+        → drawn_out (map maps parts) lane ≡ done_with maps (drawn_out parts lane)
+    drawn_out-map parts lane =
+        ap₂ (λ (parts : List Part) (n : ℕ). (parts, record lane { taken = lane.taken + n }))
+        (at_end-map lane.receiver (drawn (asked_of lane)) parts)
+        (told_at-map lane.receiver (draws (asked_of lane)) parts)
+
+    pub pulled-map : (cycle : ℕ) (parts : List Part) (lane : Lane)
+        → pulled cycle (map maps parts) lane ≡ done_with maps (pulled cycle parts lane)
+    pulled-map cycle parts lane =
+        elim (cases_Bool (is_open lane cycle)) [
+          | inl opened ↦
+              pulled-open cycle (map maps parts) lane opened
+              ∙ drawn_out-map parts lane
+              ∙ ap (done_with maps) (sym (pulled-open cycle parts lane opened))
+          | inr closed ↦
+              pulled-closed cycle (map maps parts) lane closed
+              ∙ ap (done_with maps) (sym (pulled-closed cycle parts lane closed))
+        ]
+
+-- What routers and stages hold of wires is such a map.
+pub keeps-seen : (wires : List (Option Flit)) → Keeps (seen wires)
+keeps-seen wires change (Interface ni) = refl
+keeps-seen wires change (Router router) = refl
+keeps-seen wires change (TableRouter router) = refl
+keeps-seen wires change (Stage stage) = refl
+
+pub told-seen : (wires : List (Option Flit)) → KeepsTold (seen wires)
+told-seen wires queue tells (Interface ni) = refl
+told-seen wires queue tells (Router router) = refl
+told-seen wires queue tells (TableRouter router) = refl
+told-seen wires queue tells (Stage stage) = refl
+
+-- So events and the turns of all channels commute with it.
+module _ (wires : List (Option Flit)) where
+  pub switched-seen : (events : List Event) (parts : List Part)
+      → switched events (all_seen wires parts) ≡ all_seen wires (switched events parts)
+  switched-seen = switched-map (seen wires) (keeps-seen wires)
+
+  pub refilled-seen : (words : List ℕ) (cycle : ℕ) (moment : Moment)
+      → in_turn (refilled words cycle) (moment_with (seen wires) moment)
+      ≡ moment_with (seen wires) (in_turn (refilled words cycle) moment)
+  refilled-seen words cycle =
+      in_turn-map (seen wires) (refilled words cycle)
+      (refilled-map (seen wires) (keeps-seen wires) (told-seen wires) words cycle)
+
+  pub pulled-seen : (cycle : ℕ) (moment : Moment)
+      → in_turn (pulled cycle) (moment_with (seen wires) moment)
+      ≡ moment_with (seen wires) (in_turn (pulled cycle) moment)
+  pulled-seen cycle =
+      in_turn-map (seen wires) (pulled cycle)
+      (pulled-map (seen wires) (keeps-seen wires) (told-seen wires) cycle)
+
+  -- Frames stay, and the wires of components.
+  pub frame_of-seen : (part : Part) → frame_of (seen wires part) ≡ frame_of part
+  frame_of-seen (Interface ni) = refl
+  frame_of-seen (Router router) = refl
+  frame_of-seen (TableRouter router) = refl
+  frame_of-seen (Stage stage) = refl
+
+  pub frames-seen : (parts : List Part) → map frame_of (all_seen wires parts) ≡ map frame_of parts
+  frames-seen = views-map frame_of (seen wires) frame_of-seen
+
+  pub outputs_of-seen : (part : Part) → outputs_of (seen wires part) ≡ outputs_of part
+  outputs_of-seen (Interface ni) = refl
+  outputs_of-seen (Router router) = refl
+  outputs_of-seen (TableRouter router) = refl
+  outputs_of-seen (Stage stage) = refl
+
+  pub inputs_of-seen : (part : Part) → inputs_of (seen wires part) ≡ inputs_of part
+  inputs_of-seen (Interface ni) = refl
+  inputs_of-seen (Router router) = refl
+  inputs_of-seen (TableRouter router) = refl
+  inputs_of-seen (Stage stage) = refl
+
+  -- So do the slot tables, and what components tell of flits.
+  pub entries_of-seen : (part : Part) → entries_of (seen wires part) ≡ entries_of part
+  entries_of-seen (Interface ni) = refl
+  entries_of-seen (Router router) = refl
+  entries_of-seen (TableRouter router) = refl
+  entries_of-seen (Stage stage) = refl
+
+  pub last_of-seen : (part : Part) → last_of (seen wires part) ≡ last_of part
+  last_of-seen (Interface ni) = refl
+  last_of-seen (Router router) = refl
+  last_of-seen (TableRouter router) = refl
+  last_of-seen (Stage stage) = refl

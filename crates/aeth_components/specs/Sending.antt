@@ -1,0 +1,26 @@
+-- What interfaces send of their own in a cycle.
+--
+--   IsSending      a component that does
+--   Injects      what is on the wires then
+--
+-- This project's own.
+use Rattle.std.specs.Prelude.{◌≡◌, ◌≤◌, ◌<◌, ℕ, List, Option, Some, length, slice_get, true}
+use Rattle.aeth_clocked.specs.Wires.{flit_on}
+use Rattle.aeth_clocked.specs.declared.flit.Flit.{Flit}
+use Rattle.aeth_router.specs.Part.{emit_of, outputs_of}
+use Rattle.aeth_router.specs.declared.part.Part.{Part}
+use Rattle.aeth_components.specs.Turns.{sends_own}
+
+-- The component of a number sends something of its own in a cycle.
+abbrev pub IsSending : ℕ → List Part → ℕ → Type 0
+IsSending cycle parts number =
+    (part : Part) × (slice_get parts number ≡ Some part) × (sends_own cycle part ≡ true)
+
+-- On the output of each of the first so many components is what it emits, and those of the others are as
+-- they were.
+pub record Injects (cycle to : ℕ) (parts : List Part) (old new : List (Option Flit)) : Type 0 where
+  pub size : length new ≡ length old
+  pub own : (number wire : ℕ) (part : Part) → slice_get parts number ≡ Some part → number < to
+      → outputs_of part wire ≡ true → flit_on new wire ≡ emit_of part cycle wire
+  pub other : (number wire : ℕ) (part : Part) → slice_get parts number ≡ Some part → to ≤ number
+      → outputs_of part wire ≡ true → flit_on new wire ≡ flit_on old wire
