@@ -1,45 +1,45 @@
 -- Laws of masks: what a write of one mask changes, and the first bit that is left of one.
 use Rattle.std.proofs.Common.{ℕ, ◌≡◌, ◌≢◌, ◌<◌, ◌≤◌, ◌+◌, ◌-◌, ◌*◌}
 use Rattle.std.proofs.Common.{◌/◌, ◌%◌, ◌^◌, ◌∙◌, refl, sym, ap, arith}
-use Rattle.std.proofs.Common.{inl, inr, List, length, replicate, set}
+use Rattle.std.proofs.Common.{inl, inr, List, drop, length, replicate, set, take}
 use Rattle.std.specs.Prelude.{slice_index}
 use Rattle.std.specs.Int.{bit_at, trailing_zeros, w64}
 use Rattle.std.proofs.Math.Nat.{lt_of_le_of_lt}
 use Rattle.std.proofs.lemmas.Bool.{cases_eq, cases_lt}
-use Rattle.std.proofs.lemmas.List.{get_or-replicate, get_or-set_other, get_or-set_same, get_or_past}
-use Rattle.std.proofs.lemmas.List.{length-replicate}
+use Rattle.std.proofs.lemmas.List.{get_or-drop, get_or-replicate, get_or-set_other, get_or-set_same}
+use Rattle.std.proofs.lemmas.List.{get_or-take, get_or_past, length-replicate, length-take}
 use Rattle.std.proofs.lemmas.Nat.{shr-shr, shr_le}
 use Rattle.std.proofs.lemmas.Nat.Bits.{bit_at-zero, bit_at_above, bit_at-trailing_zeros}
-use Rattle.aeth_base.specs.Marks.{bit_of}
+use Rattle.aeth_base.specs.Marks.{bit_of, numbers_of_mask}
 
 -- A mask is written at a number's place: the bits of its own mask are the new ones, and all others
 -- as they were.
-pub bit_of-here : (masks : List ℕ) (number mask : ℕ) → number / 64 < length masks
-    → bit_of (set masks (number / 64) mask) number ≡ bit_at mask (number % 64)
+pub bit_of-here : (masks : List ℕ) (number mask : ℕ) → number / numbers_of_mask < length masks
+    → bit_of (set masks (number / numbers_of_mask) mask) number ≡ bit_at mask (number % numbers_of_mask)
 bit_of-here masks number mask within =
-    ap (λ n. bit_at n (number % 64)) (get_or-set_same masks (number / 64) mask 0 within)
+    ap (λ n. bit_at n (number % numbers_of_mask))
+    (get_or-set_same masks (number / numbers_of_mask) mask 0 within)
 
-pub bit_of-away : (masks : List ℕ) (number mask other : ℕ) → number / 64 < length masks
-    → ((bit : ℕ) → bit < 64 → bit ≢ number % 64
-    → bit_at mask bit ≡ bit_at (slice_index masks (number / 64)) bit)
+pub bit_of-away : (masks : List ℕ) (number mask other : ℕ) → number / numbers_of_mask < length masks
+    → ((bit : ℕ) → bit < numbers_of_mask → bit ≢ number % numbers_of_mask
+    → bit_at mask bit ≡ bit_at (slice_index masks (number / numbers_of_mask)) bit)
     → other ≢ number
-    → bit_of (set masks (number / 64) mask) other ≡ bit_of masks other
+    → bit_of (set masks (number / numbers_of_mask) mask) other ≡ bit_of masks other
 bit_of-away masks number mask other within same apart =
-    elim (cases_eq (other / 64) (number / 64)) [
+    elim (cases_eq (other / numbers_of_mask) (number / numbers_of_mask)) [
       | inl place ↦
-          let bits : other % 64 ≢ number % 64 =
-          λ bit. apart (omega arith) in
-          let to : bit_at (slice_index (set masks (number / 64) mask) (other / 64)) (other % 64)
-          ≡ bit_at mask (other % 64) =
-          ap (λ p. bit_at (slice_index (set masks (number / 64) mask) p) (other % 64)) place
-          ∙ ap (λ n. bit_at n (other % 64)) (get_or-set_same masks (number / 64) mask 0 within) in
-          let from : bit_at (slice_index masks (number / 64)) (other % 64)
-          ≡ bit_at (slice_index masks (other / 64)) (other % 64) =
-          ap (λ p. bit_at (slice_index masks p) (other % 64)) (sym place) in
-          to ∙ same (other % 64) (omega arith) bits ∙ from
+          let bit = other % numbers_of_mask in
+          let bits : bit ≢ number % numbers_of_mask = λ same_bit. apart (omega arith) in
+          let to : bit_of (set masks (number / numbers_of_mask) mask) other ≡ bit_at mask bit =
+          ap (λ p. bit_at (slice_index (set masks (number / numbers_of_mask) mask) p) bit) place
+          ∙ ap (λ n. bit_at n bit)
+          (get_or-set_same masks (number / numbers_of_mask) mask 0 within) in
+          let from : bit_at (slice_index masks (number / numbers_of_mask)) bit ≡ bit_of masks other =
+          ap (λ p. bit_at (slice_index masks p) bit) (sym place) in
+          to ∙ same bit (omega arith) bits ∙ from
       | inr else ↦
-          ap (λ n. bit_at n (other % 64))
-          (get_or-set_other masks (number / 64) (other / 64) mask 0 else)
+          ap (λ n. bit_at n (other % numbers_of_mask))
+          (get_or-set_other masks (number / numbers_of_mask) (other / numbers_of_mask) mask 0 else)
     ]
 
 -- A bit of a mask that was shifted down.
@@ -58,19 +58,19 @@ none-below mask from bit small some after below =
 
 -- The lowest one is within the mask.
 pub lowest-within : (mask from : ℕ) → mask < 2 ^ 64 → 0 < mask / 2 ^ from
-    → from + trailing_zeros w64 (mask / 2 ^ from) < 64
+    → from + trailing_zeros w64 (mask / 2 ^ from) < numbers_of_mask
 lowest-within mask from small some =
     let lowest = bit_at-trailing_zeros w64 (mask / 2 ^ from) some
     (lt_of_le_of_lt (shr_le mask from) small) in
     let one : bit_at mask (from + trailing_zeros w64 (mask / 2 ^ from)) ≡ 1 =
     sym (bit_at-shift mask from (trailing_zeros w64 (mask / 2 ^ from))) ∙ lowest.1 in
-    elim (cases_lt (from + trailing_zeros w64 (mask / 2 ^ from)) 64) [
+    elim (cases_lt (from + trailing_zeros w64 (mask / 2 ^ from)) numbers_of_mask) [
       | inl below ↦ below
       | inr above ↦
           absurd (omega (
             arith,
             one,
-            bit_at_above mask 64 (from + trailing_zeros w64 (mask / 2 ^ from)) small above,
+            bit_at_above mask numbers_of_mask (from + trailing_zeros w64 (mask / 2 ^ from)) small above,
           ))
     ]
 
@@ -82,79 +82,90 @@ none-left mask from bit none after =
     ∙ ap (λ n. bit_at n (bit - from)) none ∙ bit_at-zero (bit - from)
 
 -- No number from a number on is marked before the lowest one of what is left of its mask.
-pub bit_of-below : (masks : List ℕ) (from number : ℕ) → slice_index masks (from / 64) < 2 ^ 64
-    → 0 < slice_index masks (from / 64) / 2 ^ (from % 64) → from ≤ number
-    → number < from + trailing_zeros w64 (slice_index masks (from / 64) / 2 ^ (from % 64))
+pub bit_of-below : (masks : List ℕ) (from number : ℕ)
+    → slice_index masks (from / numbers_of_mask) < 2 ^ 64
+    → 0 < slice_index masks (from / numbers_of_mask) / 2 ^ (from % numbers_of_mask) → from ≤ number
+    → number < from
+    + trailing_zeros w64 (slice_index masks (from / numbers_of_mask) / 2 ^ (from % numbers_of_mask))
     → bit_of masks number ≡ 0
 bit_of-below masks from number small some after below =
-    let within = lowest-within (slice_index masks (from / 64)) (from % 64) small some in
-    let place : number / 64 ≡ from / 64 = omega arith in
-    ap (λ p. bit_at (slice_index masks p) (number % 64)) place
-    ∙ none-below (slice_index masks (from / 64)) (from % 64) (number % 64) small some (omega arith)
+    let mask = slice_index masks (from / numbers_of_mask) in
+    let within = lowest-within mask (from % numbers_of_mask) small some in
+    let place : number / numbers_of_mask ≡ from / numbers_of_mask = omega arith in
+    ap (λ p. bit_at (slice_index masks p) (number % numbers_of_mask)) place
+    ∙ none-below mask (from % numbers_of_mask) (number % numbers_of_mask) small some (omega arith)
     (omega arith)
 
 -- None is within its mask, where nothing is left of this.
 pub bit_of-left : (masks : List ℕ) (from number : ℕ)
-    → slice_index masks (from / 64) / 2 ^ (from % 64) ≡ 0 → from ≤ number
-    → number < 64 * (from / 64 + 1) → bit_of masks number ≡ 0
+    → slice_index masks (from / numbers_of_mask) / 2 ^ (from % numbers_of_mask) ≡ 0 → from ≤ number
+    → number < numbers_of_mask * (from / numbers_of_mask + 1) → bit_of masks number ≡ 0
 bit_of-left masks from number none after below =
-    let place : number / 64 ≡ from / 64 = omega arith in
-    ap (λ p. bit_at (slice_index masks p) (number % 64)) place
-    ∙ none-left (slice_index masks (from / 64)) (from % 64) (number % 64) none (omega arith)
+    let place : number / numbers_of_mask ≡ from / numbers_of_mask = omega arith in
+    ap (λ p. bit_at (slice_index masks p) (number % numbers_of_mask)) place
+    ∙ none-left (slice_index masks (from / numbers_of_mask)) (from % numbers_of_mask)
+    (number % numbers_of_mask) none (omega arith)
+
+-- A mask of a part of the masks, by its place among all.
+pub mask-within : (masks : List ℕ) (from count index place : ℕ)
+    → index < length (take count (drop from masks)) → place ≡ from + index
+    → slice_index masks place ≡ slice_index (take count (drop from masks)) index
+mask-within masks from count index place within at =
+    let few : index < count = omega (arith, within, length-take count (drop from masks)) in
+    ap (slice_index masks) at ∙ sym (get_or-drop from masks index 0)
+    ∙ sym (get_or-take count (drop from masks) index 0 few)
 
 -- No number of a mask is marked before its lowest one.
 pub bit_of-lowest : (masks : List ℕ) (place number mask : ℕ) → slice_index masks place ≡ mask
-    → mask < 2 ^ 64 → 0 < mask → 64 * place ≤ number
-    → number < 64 * place + trailing_zeros w64 mask → bit_of masks number ≡ 0
+    → mask < 2 ^ 64 → 0 < mask → numbers_of_mask * place ≤ number
+    → number < numbers_of_mask * place + trailing_zeros w64 mask → bit_of masks number ≡ 0
 bit_of-lowest masks place number mask at small some after below =
     let lowest = bit_at-trailing_zeros w64 mask some small in
-    let few : trailing_zeros w64 mask < 64 = lowest.0 in
-    let there : number / 64 ≡ place = omega arith in
-    ap (λ p. bit_at (slice_index masks p) (number % 64)) there
-    ∙ ap (λ n. bit_at n (number % 64)) at ∙ lowest.2 (number % 64) (omega arith)
-
--- No number of an empty mask is marked.
-pub bit_of-none : (masks : List ℕ) (place number : ℕ) → slice_index masks place ≡ 0
-    → 64 * place ≤ number → number < 64 * (place + 1) → bit_of masks number ≡ 0
-bit_of-none masks place number none after below =
-    let there : number / 64 ≡ place = omega arith in
-    ap (λ p. bit_at (slice_index masks p) (number % 64)) there
-    ∙ ap (λ n. bit_at n (number % 64)) none ∙ bit_at-zero (number % 64)
+    let few : trailing_zeros w64 mask < numbers_of_mask = lowest.0 in
+    let there : number / numbers_of_mask ≡ place = omega arith in
+    ap (λ p. bit_at (slice_index masks p) (number % numbers_of_mask)) there
+    ∙ ap (λ n. bit_at n (number % numbers_of_mask)) at
+    ∙ lowest.2 (number % numbers_of_mask) (omega arith)
 
 -- The lowest one of what is left of a mask is marked.
-pub bit_of-found : (masks : List ℕ) (from : ℕ) → slice_index masks (from / 64) < 2 ^ 64
-    → 0 < slice_index masks (from / 64) / 2 ^ (from % 64)
-    → bit_of masks (from + trailing_zeros w64 (slice_index masks (from / 64) / 2 ^ (from % 64))) ≡ 1
+pub bit_of-found : (masks : List ℕ) (from : ℕ)
+    → slice_index masks (from / numbers_of_mask) < 2 ^ 64
+    → 0 < slice_index masks (from / numbers_of_mask) / 2 ^ (from % numbers_of_mask)
+    → bit_of masks (from
+    + trailing_zeros w64 (slice_index masks (from / numbers_of_mask) / 2 ^ (from % numbers_of_mask)))
+    ≡ 1
 bit_of-found masks from small some =
-    let mask = slice_index masks (from / 64) in
-    let zeros = trailing_zeros w64 (mask / 2 ^ (from % 64)) in
-    let within : from % 64 + zeros < 64 = lowest-within mask (from % 64) small some in
-    let lowest = bit_at-trailing_zeros w64 (mask / 2 ^ (from % 64)) some
-    (lt_of_le_of_lt (shr_le mask (from % 64)) small) in
-    let there : (from + zeros) / 64 ≡ from / 64 = omega arith in
-    let bit : (from + zeros) % 64 ≡ from % 64 + zeros = omega arith in
-    ap (λ p. bit_at (slice_index masks p) ((from + zeros) % 64)) there
-    ∙ ap (bit_at mask) bit ∙ sym (bit_at-shift mask (from % 64) zeros) ∙ lowest.1
+    let mask = slice_index masks (from / numbers_of_mask) in
+    let zeros = trailing_zeros w64 (mask / 2 ^ (from % numbers_of_mask)) in
+    let within : from % numbers_of_mask + zeros < numbers_of_mask =
+    lowest-within mask (from % numbers_of_mask) small some in
+    let lowest = bit_at-trailing_zeros w64 (mask / 2 ^ (from % numbers_of_mask)) some
+    (lt_of_le_of_lt (shr_le mask (from % numbers_of_mask)) small) in
+    let there : (from + zeros) / numbers_of_mask ≡ from / numbers_of_mask = omega arith in
+    let bit : (from + zeros) % numbers_of_mask ≡ from % numbers_of_mask + zeros = omega arith in
+    ap (λ p. bit_at (slice_index masks p) ((from + zeros) % numbers_of_mask)) there
+    ∙ ap (bit_at mask) bit ∙ sym (bit_at-shift mask (from % numbers_of_mask) zeros) ∙ lowest.1
 
 -- So is the lowest one of a mask.
 pub bit_of-first : (masks : List ℕ) (place mask : ℕ) → slice_index masks place ≡ mask
-    → mask < 2 ^ 64 → 0 < mask → bit_of masks (64 * place + trailing_zeros w64 mask) ≡ 1
+    → mask < 2 ^ 64 → 0 < mask → bit_of masks (numbers_of_mask * place + trailing_zeros w64 mask) ≡ 1
 bit_of-first masks place mask at small some =
     let zeros = trailing_zeros w64 mask in
     let lowest = bit_at-trailing_zeros w64 mask some small in
-    let few : zeros < 64 = lowest.0 in
-    let there : (64 * place + zeros) / 64 ≡ place = omega arith in
-    let bit : (64 * place + zeros) % 64 ≡ zeros = omega arith in
-    ap (λ p. bit_at (slice_index masks p) ((64 * place + zeros) % 64)) there
-    ∙ ap (λ n. bit_at n ((64 * place + zeros) % 64)) at ∙ ap (bit_at mask) bit ∙ lowest.1
+    let few : zeros < numbers_of_mask = lowest.0 in
+    let there : (numbers_of_mask * place + zeros) / numbers_of_mask ≡ place = omega arith in
+    let bit : (numbers_of_mask * place + zeros) % numbers_of_mask ≡ zeros = omega arith in
+    ap (λ p. bit_at (slice_index masks p) ((numbers_of_mask * place + zeros) % numbers_of_mask)) there
+    ∙ ap (λ n. bit_at n ((numbers_of_mask * place + zeros) % numbers_of_mask)) at
+    ∙ ap (bit_at mask) bit ∙ lowest.1
 
 -- Where all masks are 0, no number is marked.
 pub bit_of-zeros : (count number : ℕ) → bit_of (replicate count 0) number ≡ 0
 bit_of-zeros count number =
     let size : length (replicate {A = ℕ} count 0) ≡ count = length-replicate count 0 in
-    let none : slice_index (replicate count 0) (number / 64) ≡ 0 =
-    elim (cases_lt (number / 64) count) [
-      | inl within ↦ get_or-replicate count (number / 64) 0 0 within
-      | inr past ↦ get_or_past (replicate count 0) (number / 64) 0 (omega arith)
+    let none : slice_index (replicate count 0) (number / numbers_of_mask) ≡ 0 =
+    elim (cases_lt (number / numbers_of_mask) count) [
+      | inl within ↦ get_or-replicate count (number / numbers_of_mask) 0 0 within
+      | inr past ↦ get_or_past (replicate count 0) (number / numbers_of_mask) 0 (omega arith)
     ] in
-    ap (λ n. bit_at n (number % 64)) none ∙ bit_at-zero (number % 64)
+    ap (λ n. bit_at n (number % numbers_of_mask)) none ∙ bit_at-zero (number % numbers_of_mask)

@@ -1,6 +1,6 @@
 // Which of some numbers are marked, as masks of 64 numbers each.
 
-ghost use Rattle.std.specs.Prelude.{◌≡◌, ◌≢◌, ◌<◌, ◌≤◌, ◌*◌, ◌^◌, ◌⊎◌, ℕ, IfOk, length};
+ghost use Rattle.std.specs.Prelude.{◌≡◌, ◌≢◌, ◌<◌, ◌≤◌, ◌*◌, ◌^◌, ◌⊎◌, ◌↔◌, ℕ, IfOk, IsTrue, length};
 ghost use Rattle.aeth_base.specs.Marks.{bit_of, marked_from, numbers_of_mask, room_of};
 
 use crate::marked::Marked;
@@ -76,6 +76,14 @@ impl Marks {
         unmark(&mut self.masks, number);
     }
 
+    /// Whether a number is marked.
+    pub fn has(&self, number: usize) -> bool
+        requires { number < room_of self.now }
+        ensures { IsTrue result ↔ (bit_of self.now number ≡ 1) }
+    {
+        has(&self.masks, number)
+    }
+
     /// The first marked number from `from` on; `end` where none is marked below it.
     pub fn next(&self, from: usize, end: usize) -> usize
         requires from { from ≤ end }
@@ -130,6 +138,14 @@ fn unmark(masks: &mut [u64], number: usize)
     masks[place] = mask & !(1 << (number % NUMBERS_OF_MASK));
 }
 
+// Whether it is 1.
+fn has(masks: &[u64], number: usize) -> bool
+    requires { number < room_of masks.now }
+    ensures { IsTrue result ↔ (bit_of masks.now number ≡ 1) }
+{
+    masks[number / NUMBERS_OF_MASK] >> (number % NUMBERS_OF_MASK) & 1 == 1
+}
+
 // The first marked number from one on, or a number past `end`, or this.
 fn first_from(masks: &[u64], from: usize, end: usize) -> usize
     requires from { from ≤ end }
@@ -156,11 +172,13 @@ fn first_in(masks: &[u64], from: usize, end: usize) -> usize
         → bit_of masks.now number ≡ 0 }
     ensures found { result < end → bit_of masks.now result ≡ 1 }
 {
-    for place in from..end / NUMBERS_OF_MASK + 1 {
-        let mask = masks[place];
-        if mask != 0 {
+    let last = end / NUMBERS_OF_MASK + 1;
+    let mut place = from;
+    for mask in &masks[from.min(last)..last] {
+        if *mask != 0 {
             return NUMBERS_OF_MASK * place + mask.trailing_zeros() as usize;
         }
+        place += 1;
     }
     end
 }

@@ -1,12 +1,10 @@
 -- Wires from which all flits are taken.
-use Rattle.std.proofs.Common.{ℕ, zero, suc, ◌≡◌, ◌≢◌, ◌<◌, ◌∙◌, refl, sym, ap, arith, inl, inr}
-use Rattle.std.proofs.Common.{List, length, Option, None, Some, replicate, slice_get}
-use Rattle.std.specs.Prelude.{unwrap_or}
-use Rattle.std.specs.List.{slice_set}
-use Rattle.std.proofs.lemmas.Bool.{cases_eq, cases_lt}
+use Rattle.std.proofs.Common.{ℕ, zero, suc, ◌≡◌, ◌<◌, ◌∙◌, refl, sym, ap, arith, inl, inr}
+use Rattle.std.proofs.Common.{List, length, Option, None, Some, replicate}
+use Rattle.std.proofs.lemmas.Bool.{cases_lt}
 use Rattle.std.proofs.lemmas.List.{get_or-replicate, length-replicate}
 use Rattle.std.proofs.lemmas.Option.{slice_get-get_or, slice_get_past, unwrap_or-slice_get}
-use Rattle.aeth_base.proofs.Lists.{same_list, slice_get-slice_set_other, slice_get-slice_set_same}
+use Rattle.aeth_base.proofs.Lists.{same_list}
 use Rattle.aeth_clocked.specs.Wires.{flit_on}
 use Rattle.aeth_clocked.specs.declared.flit.Flit.{Flit}
 
@@ -15,21 +13,6 @@ pub flit_on-replicate : (count wire : ℕ) → flit_on (replicate count None) wi
 flit_on-replicate zero wire = refl
 flit_on-replicate (suc count) zero = refl
 flit_on-replicate (suc count) (suc wire) = flit_on-replicate count wire
-
--- A wire that is emptied has none, and any other what it had.
-pub flit_on-emptied : (wires : List (Option Flit)) (wire link : ℕ) → wire < length wires
-    → (link ≢ wire → flit_on wires link ≡ None) → flit_on (slice_set wires wire None) link ≡ None
-flit_on-emptied wires wire link within others =
-    elim (cases_eq link wire) [
-      | inl same ↦
-          ap (λ (flit : Option (Option Flit)). unwrap_or flit None)
-          (ap (slice_get (slice_set wires wire None)) same
-          ∙ slice_get-slice_set_same wires wire None within)
-      | inr other ↦
-          ap (λ (flit : Option (Option Flit)). unwrap_or flit None)
-          (slice_get-slice_set_other wires wire link None other)
-          ∙ others other
-    ]
 
 -- Wires without a flit are all empty.
 pub all-empty : (wires : List (Option Flit))

@@ -2,6 +2,7 @@ pub mod ClearLemmas
 pub mod DrivenLemmas
 mod DrivenTurns
 pub mod FewLemmas
+mod MarkedWiresLemmas
 pub mod OrderLemmas
 mod RestingTurns
 mod Turns

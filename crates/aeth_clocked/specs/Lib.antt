@@ -1,4 +1,5 @@
 pub mod Driven
+pub mod MarkedWires
 pub mod Order
 pub mod Resting
 pub mod Stepped

@@ -1,10 +1,9 @@
 -- What components do to wires: a flit or none on each link, listed by link numbers. Sets of links
 -- are tests.
 -- Simultaneous components over shared wires: this project's own.
-use Rattle.std.specs.Prelude.{◌≡◌, ℕ, ◌<◌, ◌-◌, ◌^◌, Bool, true, if◌then◌else◌}
+use Rattle.std.specs.Prelude.{◌≡◌, ℕ, ◌<◌, ◌-◌, Bool, true, if◌then◌else◌}
 use Rattle.std.specs.Prelude.{List, filter, length, Option, Some, None, is_some, slice_get, unwrap_or}
 use Rattle.std.specs.List.{range_with_len}
-use Rattle.aeth_base.specs.Marks.{bit_of, room_of}
 use Rattle.aeth_clocked.specs.declared.flit.Flit.{Flit}
 
 -- The flit on a link.
@@ -18,17 +17,6 @@ has_flit wires link = is_some (flit_on wires link)
 -- The links with a flit from one on, upwards.
 abbrev pub used_from : List (Option Flit) → ℕ → List ℕ
 used_from wires from = filter (has_flit wires) (range_with_len from (length wires - from))
-
--- The bit that marks a link: 1 where it has a flit.
-abbrev pub bit_for : Option Flit → ℕ
-bit_for None = 0
-bit_for (Some flit) = 1
-
--- Just the links with a flit are marked.
-pub record AreUsed (marks : List ℕ) (wires : List (Option Flit)) : Type 0 where
-  pub few : length wires < 2 ^ 32
-  pub room : length wires < room_of marks
-  pub exact : (link : ℕ) → bit_of marks link ≡ bit_for (flit_on wires link)
 
 -- Each link of the set is below the number of links.
 abbrev pub AreLinks : (ℕ → Bool) → ℕ → Type 0

@@ -1,14 +1,20 @@
 // The wires between components.
 
-ghost use Rattle.std.specs.Prelude.{◌≡◌, ◌≢◌, ◌<◌, ◌≤◌, ◌↔◌, ℕ, None, Some, IfOk, IsSome, IsTrue};
+ghost use Rattle.std.specs.Prelude.{◌≡◌, ◌<◌, ◌≤◌, ◌↔◌, ℕ, None, Some, IfOk, IsSome, IsTrue};
 ghost use Rattle.std.specs.Prelude.{length, slice_get, slice_set, replicate};
-ghost use Rattle.aeth_base.specs.Marks.{bit_of, room_of};
-ghost use Rattle.aeth_clocked.specs.Wires.{AreUsed, bit_for, flit_on, used_from};
+ghost use Rattle.aeth_clocked.specs.Wires.{flit_on, used_from};
 
 use crate::flit::Flit;
 use aeth_base::{LinkId, Marked, Marks, NoMemory};
 use std::alloc::Global;
 use std::marker::Model;
+
+// What stands at the place of a link before its first flit.
+const NO_FLIT: Flit = Flit {
+    header: 0,
+    first: 0,
+    second: 0,
+};
 
 /// The wires of one cycle: a flit or none on each, seen as a list by link numbers.
 ///
@@ -16,21 +22,22 @@ use std::marker::Model;
 /// numbered behind all links, and are links here as those are.
 #[derive(Drop)]
 pub struct Wires {
-    links: Vec<Option<Flit>>,
+    // What stands at the place of a link without a flit is nobody's.
+    flits: Vec<Flit>,
     // Just the links with a flit are marked.
     used: Marks,
 }
 
 impl Model for Wires {
-    ghost use Rattle.std.specs.Prelude.{List, Option};
-    ghost use Rattle.aeth_clocked.specs.Wires.{AreUsed};
+    ghost use Rattle.std.specs.Prelude.{List, Option, length};
+    ghost use Rattle.aeth_clocked.specs.MarkedWires.{AreMarksOf, marked_wires};
     ghost use Rattle.aeth_clocked.specs.declared.flit.Flit.{Flit};
 
     ghost Value = { List (Option Flit) };
 
-    ghost view = { λ wires. wires.links.items };
+    ghost view = { λ wires. marked_wires wires.used wires.flits.items };
 
-    ghost invariant = { λ wires. AreUsed wires.used wires.links.items };
+    ghost invariant = { λ wires. AreMarksOf (length wires.flits.items) wires.used };
 }
 
 impl Wires {
@@ -39,40 +46,51 @@ impl Wires {
         ensures { IfOk result (λ wires. wires ≡ replicate links None) }
     {
         let used = Marks::none(alloc, links as usize)?;
-        let links = vec![in alloc; None; links as usize]?;
-        Ok(Wires { links, used })
+        let flits = vec![in alloc; NO_FLIT; links as usize]?;
+        Ok(Wires { flits, used })
     }
 
     /// The flit on a link; `None` where the link is empty.
+    #[tactic(auto, using(crate::proofs::MarkedWiresLemmas::as_many_wires))]
     pub fn get(&self, link: LinkId) -> Option<Flit>
         requires { link.0 < length self.now }
         ensures { slice_get self.now link.0 ≡ Some result }
     {
-        self.links[link.0 as usize]
+        let place = link.0 as usize;
+        if self.used.has(place) {
+            Some(self.flits[place])
+        } else {
+            None
+        }
     }
 
     /// Whether a link is empty.
+    #[tactic(auto, using(crate::proofs::MarkedWiresLemmas::as_many_wires))]
     pub fn is_empty(&self, link: LinkId) -> bool
         requires { link.0 < length self.now }
         ensures { IsTrue result ↔ (flit_on self.now link.0 ≡ None) }
     {
-        self.links[link.0 as usize].is_none()
+        !self.used.has(link.0 as usize)
     }
 
     /// Puts a flit on a link, or empties it.
+    #[tactic(auto, using(crate::proofs::MarkedWiresLemmas::as_many_wires))]
     pub fn put(&mut self, link: LinkId, flit: Option<Flit>)
         requires { link.0 < length self.old }
         ensures { self.new ≡ slice_set self.old link.0 flit }
     {
-        if flit.is_none() && self.is_empty(link) {
-            return;
-        }
         let place = link.0 as usize;
-        note(&mut self.used, place, flit);
-        self.links[place] = flit;
+        match flit {
+            Some(flit) => {
+                self.flits[place] = flit;
+                self.used.mark(place);
+            }
+            None => self.used.unmark(place),
+        }
     }
 
     /// The first link from a number on that has a flit; the number of links where none has.
+    #[tactic(auto, using(crate::proofs::MarkedWiresLemmas::as_many_wires))]
     pub fn next(&self, from: u32) -> u32
         requires { from ≤ length self.now }
         ensures from { from ≤ result }
@@ -80,7 +98,7 @@ impl Wires {
         ensures empty { (link : ℕ) → from ≤ link → link < result → flit_on self.now link ≡ None }
         ensures found { result < length self.now → IsSome (flit_on self.now result) }
     {
-        self.used.next(from as usize, self.links.len()) as u32
+        self.used.next(from as usize, self.flits.len()) as u32
     }
 
     /// The links with a flit, upwards.
@@ -94,30 +112,6 @@ impl Wires {
     pub fn clear(&mut self)
         ensures { self.new ≡ replicate (length self.old) None }
     {
-        empty(&mut self.links, &self.used);
         self.used.clear();
-    }
-}
-
-// Empties the marked links.
-fn empty(links: &mut [Option<Flit>], used: &Marks)
-    requires { AreUsed used.now links.old }
-    ensures { links.new ≡ replicate (length links.old) None }
-{
-    for link in used.iter() {
-        links[link] = None;
-    }
-}
-
-// Marks a link that gets a flit, and no more one that gets none.
-fn note(used: &mut Marks, place: usize, flit: Option<Flit>)
-    requires { place < room_of used.old }
-    ensures room { room_of used.new ≡ room_of used.old }
-    ensures here { bit_of used.new place ≡ bit_for flit }
-    ensures away { (link : ℕ) → link ≢ place → bit_of used.new link ≡ bit_of used.old link }
-{
-    match flit {
-        Some(_) => used.mark(place),
-        None => used.unmark(place),
     }
 }
