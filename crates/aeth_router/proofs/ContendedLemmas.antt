@@ -1,28 +1,29 @@
 -- Laws of the notes that are kept of what comes to wires: the first flits, and marks of the wires to
 -- which others came.
-use Rattle.std.proofs.Common.{◌≡◌, ◌≢◌, ◌<◌, ◌≤◌, ◌^◌, ◌+◌, ◌/◌, ◌%◌, ◌∙◌, ℕ, refl, sym, ap, inl, inr}
+use Rattle.std.proofs.Common.{◌≡◌, ◌≢◌, ◌<◌, ◌≤◌, ◌+◌, ◌∙◌, ℕ, refl, sym, ap, inl, inr}
 use Rattle.std.proofs.Common.{arith, Bool, true, Option, Some, None, IsSome, is_some, List, [], ◌∷◌}
 use Rattle.std.proofs.Common.{length, length-set, map}
-use Rattle.std.specs.Prelude.{slice_index}
 use Rattle.std.specs.List.{slice_set}
-use Rattle.std.proofs.lemmas.Bool.{cases_eq, cases_lt}
-use Rattle.std.proofs.lemmas.Nat.Bits.{bit_at-lt}
+use Rattle.std.proofs.lemmas.Bool.{cases_Bool, cases_eq, cases_lt}
 use Rattle.aeth_base.specs.Marks.{bit_of, is_marked, marked_from, room_of}
 use Rattle.aeth_base.proofs.MarkedLemmas.{is_marked-one, is_marked-zero, next-passing, none-passing}
 use Rattle.aeth_clocked.specs.Wires.{flit_on}
 use Rattle.aeth_clocked.specs.declared.flit.Flit.{Flit}
+use Rattle.aeth_clocked.proofs.UsedLemmas.{flit-within}
 use Rattle.aeth_router.specs.Onward.{AreContended, arrival_of, arrivals_of, carried}
 use Rattle.aeth_router.proofs.OnwardLemmas.{carried-arrivals_of, flit_on-apart, flit_on-put}
 
--- No wire is marked.
-pub AreContended-none : (is_contended : Bool) (first : List (Option Flit)) (marks : List ℕ)
-    → length first < 2 ^ 32 → length first < room_of marks
-    → ((wire : ℕ) → bit_of marks wire ≡ 0) → AreContended is_contended first marks
-AreContended-none is_contended first marks few room none =
+-- No wire is marked any more, where as many wires and marks are there as before.
+pub AreContended-none : (was is_contended : Bool) (first wires : List (Option Flit))
+    (marks left : List ℕ) → AreContended was first marks → length wires ≡ length first
+    → room_of left ≡ room_of marks → ((wire : ℕ) → bit_of left wire ≡ 0)
+    → AreContended is_contended wires left
+AreContended-none was is_contended first wires marks left noted size same none =
+    let few = noted.few in
+    let room = noted.room in
     record {
-      few = few;
-      room = room;
-      below = λ wire is. absurd (cc (sym (none wire) ∙ is));
+      few = omega (arith, few, size);
+      room = omega (arith, room, size, same);
       flit = λ wire is. absurd (cc (sym (none wire) ∙ is));
       none = λ isnt. none;
     }
@@ -31,10 +32,10 @@ AreContended-none is_contended first marks few room none =
 pub empty-alone : (is_contended : Bool) (first : List (Option Flit)) (marks : List ℕ) (wire : ℕ)
     → AreContended is_contended first marks → flit_on first wire ≡ None → bit_of marks wire ≡ 0
 empty-alone is_contended first marks wire noted empty =
-    let bit = bit_at-lt (slice_index marks (wire / 64)) (wire % 64) in
-    elim (cases_eq (bit_of marks wire) 1) [
-      | inl one ↦ absurd (cc (sym (ap is_some empty) ∙ noted.flit wire one))
-      | inr other ↦ omega (arith, bit, other)
+    elim (cases_Bool (is_marked marks wire)) [
+      | inl marked ↦
+          absurd (cc (sym (ap is_some empty) ∙ noted.flit wire (is_marked-one marks wire marked)))
+      | inr unmarked ↦ is_marked-zero marks wire unmarked
     ]
 
 -- A first flit comes to a wire.
@@ -48,7 +49,6 @@ AreContended-put is_contended first marks wire flit within noted =
     record {
       few = omega (arith, few);
       room = omega (arith, room);
-      below = λ other is. let below = noted.below other is in omega (arith, below);
       flit = λ other is. elim (cases_eq other wire) [
         | inl same ↦ rw (same, flit_on-put first wire (Some flit) within) refl
         | inr apart ↦
@@ -64,18 +64,14 @@ some-not_none (Some flit) some = refl
 
 -- A further flit comes to a wire.
 pub AreContended-mark : (is_contended : Bool) (first : List (Option Flit)) (old new : List ℕ)
-    (wire : ℕ) → wire < length first → flit_on first wire ≢ None → room_of new ≡ room_of old
+    (wire : ℕ) → flit_on first wire ≢ None → room_of new ≡ room_of old
     → ((other : ℕ) → other ≢ wire → bit_of new other ≡ bit_of old other)
     → AreContended is_contended first old → AreContended true first new
-AreContended-mark is_contended first old new wire within some size away noted =
+AreContended-mark is_contended first old new wire some size away noted =
     let room = noted.room in
     record {
       few = noted.few;
       room = omega (arith, room);
-      below = λ other is. elim (cases_eq other wire) [
-        | inl same ↦ rw same within
-        | inr apart ↦ noted.below other (sym (away other apart) ∙ is)
-      ];
       flit = λ other is. elim (cases_eq other wire) [
         | inl same ↦ rw same (some-not_none (flit_on first wire) some)
         | inr apart ↦ noted.flit other (sym (away other apart) ∙ is)
@@ -143,8 +139,9 @@ module _ (first : List (Option Flit)) (marks : List ℕ) (noted : AreContended t
   pub marked-within : (next : ℕ) (rest : List ℕ) → marked_from marks from ≡ next ∷ rest
       → next < length first
   marked-within next rest list =
-      noted.below next
-      (is_marked-one marks next (next-passing (is_marked marks) from (room_of marks) next rest list).is)
+      flit-within first next
+      (noted.flit next (is_marked-one marks next
+      (next-passing (is_marked marks) from (room_of marks) next rest list).is))
 
   -- It loses its flit.
   pub AreLost-next : (wires : List (Option Flit)) (next : ℕ) (rest : List ℕ)
@@ -154,7 +151,7 @@ module _ (first : List (Option Flit)) (marks : List ℕ) (noted : AreContended t
       let found = next-passing (is_marked marks) from (room_of marks) next rest list in
       let one = is_marked-one marks next found.is in
       let after = found.after in
-      let below = noted.below next one in
+      let below = marked-within next rest list in
       let size = lost.size in
       let none = λ (wire : ℕ) (later : from ≤ wire) (before : wire < next).
       is_marked-zero marks wire (found.none wire later before) in

@@ -55,6 +55,7 @@ flits-none [] wires empty = refl
 flits-none (link ∷ links) wires empty =
     rw (empty 0 link refl, flits-none links wires (λ place. empty (suc place))) refl
 
+-- So a router has none then from the wires on which it receives.
 pub HasNoFlit-map : (links : List ℕ) (wires : List (Option Flit))
     → HasNoFlit (is_among links) wires
     → map (flit_on wires) links ≡ replicate (length links) None

@@ -8,8 +8,8 @@ pub mod PortLemmas
 pub mod RestingLemmas
 pub mod RouterLemmas
 pub mod RowLemmas
-pub mod SingleLemmas
-pub mod SoleLemmas
+mod SingleLemmas
+mod SoleLemmas
 mod Steps
 pub mod TableLemmas
 mod TrafficLemmas

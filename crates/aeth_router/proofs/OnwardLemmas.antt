@@ -18,10 +18,6 @@ use Rattle.aeth_clocked.proofs.ClearLemmas.{flit_on-replicate}
 use Rattle.aeth_router.specs.Onward.{Arrival, CameFrom, Nothing, One, Several, arrival_at}
 use Rattle.aeth_router.specs.Onward.{arrival_of, arrivals_of, arrived, carried}
 
--- From no sender nothing comes.
-pub CameFrom-none : (sent : ℕ → Option Flit) → CameFrom sent 0 Nothing
-CameFrom-none sent = λ sender below. absurd (omega arith)
-
 -- Senders that send nothing change nothing.
 pub CameFrom-skip : (sent : ℕ → Option Flit) (from to : ℕ) (arrival : Arrival)
     → CameFrom sent from arrival → from ≤ to

@@ -1,5 +1,5 @@
 -- Laws of the flits for a port.
-use Rattle.std.proofs.Common.{◌≡◌, ◌≢◌, ◌<◌, ◌≤◌, ℕ, zero, suc, refl, sym, ap, ◌∙◌, inl, inr, arith}
+use Rattle.std.proofs.Common.{◌≡◌, ◌≢◌, ◌<◌, ℕ, zero, suc, refl, sym, ap, ◌∙◌, inl, inr, arith}
 use Rattle.std.proofs.Common.{List, [], ◌∷◌, ◌++◌, Option, Some, None, slice_get}
 use Rattle.std.proofs.lemmas.Bool.{cases_eq, cases_lt}
 use Rattle.std.proofs.lemmas.Bool.Decides.{nat_tests}
@@ -8,7 +8,6 @@ use Rattle.std.proofs.lemmas.Option.{same_Some}
 use Rattle.aeth_clocked.specs.declared.flit.Flit.{Flit}
 use Rattle.aeth_header.specs.Header.{port_of}
 use Rattle.aeth_router.specs.Ports.{hopped, toward, flits_for, sole}
-use Rattle.aeth_router.specs.Traffic.{named_ports}
 
 -- A flit goes to the port that it names.
 pub toward-same : (port : ℕ) (flit : Flit) → port_of flit.header ≡ port
@@ -77,19 +76,6 @@ flits_for-some port (Some first ∷ held) (suc place) flit names =
           (record { at = names.at; names = names.names }) in
           (rest.0, rest.1, flits_for-other port first held other ∙ rest.2)
     ]
-
--- A flit's port is one that a header can name.
-port_of-below : (word : ℕ) → port_of word < named_ports
-port_of-below word = omega arith
-
--- Past those that a header can name, there is no flit for a port.
-pub flits_for-past : (port : ℕ) (held : List (Option Flit)) → named_ports ≤ port
-    → flits_for port held ≡ []
-flits_for-past port held past =
-    flits_for-none port held (λ place flit names.
-    let below = port_of-below flit.header in
-    let same = names.names in
-    omega arith)
 
 -- A list with a second member has no sole one.
 sole-two : (flit first : Flit) (flits others : List Flit) → flits ≡ first ∷ others

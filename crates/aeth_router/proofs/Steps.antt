@@ -1,18 +1,18 @@
 -- What each turn of the loops over links of a router adds.
 use Rattle.std.proofs.Common.{◌≡◌, ◌<◌, ◌≤◌, ◌+◌, ℕ, Bool, false, refl, sym, ap, ◌∙◌, inl, inr, arith}
 use Rattle.std.proofs.Common.{eqb, ◌||◌, List, [], ◌∷◌, ◌++◌, length, map, take}
-use Rattle.std.proofs.Common.{get_or, Option, Some, None, true}
+use Rattle.std.proofs.Common.{get_or, replicate, Option, Some, None, true}
 use Rattle.std.proofs.Common.{slice_get}
 use Rattle.std.specs.Prelude.{unwrap_or}
 use Rattle.std.specs.List.{slice_set}
 use Rattle.std.proofs.lemmas.Bool.{cases_Bool, cases_eq, cases_lt, eqb-true}
 use Rattle.std.proofs.lemmas.Bool.Decides.{nat_tests}
-use Rattle.std.proofs.lemmas.List.{length-map, map-append, take_more}
+use Rattle.std.proofs.lemmas.List.{get_or-replicate, length-map, length-replicate, map-append}
 use Rattle.std.proofs.lemmas.List.Folds.{list_any-append}
-use Rattle.std.proofs.lemmas.Option.{get_or_from_slice_get, slice_get-get_or, slice_get-map}
-use Rattle.std.proofs.lemmas.Option.{slice_get_past, slice_get_within}
+use Rattle.std.proofs.lemmas.Option.{slice_get-get_or, slice_get-map, slice_get_past}
 use Rattle.std.specs.Option.{option_map}
 use Rattle.aeth_base.proofs.Lists.{same_list, slice_get-slice_set_other, slice_get-slice_set_same}
+use Rattle.aeth_base.proofs.Lists.{take-slice_get}
 use Rattle.aeth_base.specs.declared.ids.LinkId.{LinkId}
 use Rattle.aeth_clocked.specs.declared.flit.Flit.{Flit}
 use Rattle.aeth_clocked.specs.Resting.{HasNoFlit}
@@ -46,14 +46,6 @@ numbers_of-below links place count default are_links within =
     (is_among-at (numbers_of links) place (get_or links place default).0
     (numbers_of-at links place default within))
 
--- The numbers up to a place, and the one at it.
-take-at : (numbers : List ℕ) (place number : ℕ) → slice_get numbers place ≡ Some number
-    → take (place + 1) numbers ≡ take place numbers ++ number ∷ []
-take-at numbers place number at =
-    take_more numbers place number (slice_get_within numbers place number at)
-    ∙ ap (λ (last : ℕ). take place numbers ++ last ∷ [])
-    (get_or_from_slice_get numbers place number number at)
-
 -- One link more, and what a function makes of its number.
 pub numbers_of-more : (change : ℕ → ℕ) (links made : List LinkId) (place : ℕ)
     (default more : LinkId) → place < length links
@@ -64,7 +56,7 @@ numbers_of-more change links made place default more within is before =
     let number = (get_or links place default).0 in
     rw (
       map-append (λ (link : LinkId). link.0) made (more ∷ []),
-      take-at (numbers_of links) place number (numbers_of-at links place default within),
+      take-slice_get (numbers_of links) place number (numbers_of-at links place default within),
       map-append change (take place (numbers_of links)) (number ∷ []),
     ) (rw (before, is) refl)
 
@@ -74,6 +66,25 @@ pub record HasTaken (wires first : List (Option Flit)) (links : List ℕ) (place
   pub taken : (i : ℕ) → i < place → slice_get held i ≡ slice_get (map (flit_on wires) links) i
   pub rest : (i : ℕ) → place ≤ i → slice_get held i ≡ slice_get first i
   pub none : is_any ≡ false → held ≡ first
+
+-- Where nothing was held, nothing is at a place.
+pub free-at : (held : List (Option Flit)) (place : ℕ) → held ≡ replicate (length held) None
+    → place < length held → slice_get held place ≡ Some None
+free-at held place none within =
+    slice_get-get_or held place None within
+    ∙ ap (λ (list : List (Option Flit)). Some (get_or list place None)) none
+    ∙ ap (λ (there : Option Flit). Some there)
+    (get_or-replicate (length held) place None None within)
+
+-- There are as many places as links, and nothing is held where all were made empty.
+pub empty-places : (links : List LinkId) (held : List (Option Flit)) (count : ℕ)
+    → held ≡ replicate count None → count ≡ length links
+    → (length held ≡ length (numbers_of links)) × (held ≡ replicate (length held) None)
+empty-places links held count empty places =
+    let size : length held ≡ count = ap length empty ∙ length-replicate count None in (
+      size ∙ places ∙ sym (length-map links (λ (link : LinkId). link.0)),
+      empty ∙ ap (λ n. replicate n None) (sym size),
+    )
 
 -- What the wire of a place has.
 pub taken-at : (wires : List (Option Flit)) (links : List ℕ) (place link : ℕ)
@@ -148,7 +159,7 @@ is_among-more : (links : List ℕ) (place link other : ℕ) → slice_get links 
     → is_among (take (place + 1) links) other
     ≡ (is_among (take place links) other || eqb link other)
 is_among-more links place link other at =
-    rw (take-at links place link at)
+    rw (take-slice_get links place link at)
     (list_any-append (λ among. eqb among other) (take place links) (link ∷ [])
     ∙ grind (arith, nat_tests))
 

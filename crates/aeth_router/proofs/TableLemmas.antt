@@ -3,12 +3,13 @@ use Rattle.std.proofs.Common.{◌≡◌, ◌<◌, ◌≤◌, ◌∙◌, ◌+◌,
 use Rattle.std.proofs.Common.{inl, inr, arith, sym, true, false}
 use Rattle.std.proofs.Common.{Bool, List, [], ◌∷◌, length, map, replicate, get_or, slice_get}
 use Rattle.std.proofs.Common.{Option, Some, None}
-use Rattle.std.specs.Prelude.{◌==◌, ◌||◌, not, option_and_then, option_map, position}
+use Rattle.std.specs.Prelude.{◌==◌, not, option_and_then, option_map, position}
 use Rattle.std.specs.List.{list_any, prefix_len}
 use Rattle.std.proofs.lemmas.Bool.{cases_Bool, cases_lt}
-use Rattle.std.proofs.lemmas.List.{length-map}
+use Rattle.std.proofs.lemmas.List.{length-map, length-replicate}
 use Rattle.std.proofs.lemmas.List.Sums.{count_by-le-length}
 use Rattle.std.proofs.lemmas.Nat.{mul-add-lt}
+use Rattle.aeth_base.proofs.Lists.{list_any-map}
 use Rattle.aeth_base.specs.declared.ids.LinkId.{LinkId}
 use Rattle.aeth_chip.specs.declared.node.Link.{Link}
 use Rattle.aeth_chip.specs.Nodes.{numbers_from}
@@ -20,7 +21,7 @@ use Rattle.aeth_router.specs.Router.{AreDistinctLinks, is_among, numbers_of}
 use Rattle.aeth_router.specs.TableRouter.{TableRouterState, place_from, routed, sent_from, sent_on}
 use Rattle.aeth_router.specs.TableRouter.{table_emit, table_outputs}
 use Rattle.aeth_router.proofs.LinkLemmas.{is_among-at, position-at}
-use Rattle.aeth_router.proofs.Steps.{numbers_of-at}
+use Rattle.aeth_router.proofs.Steps.{numbers_of-got}
 
 -- The entries of a port are within a table.
 pub entry-within : (port slot ports slots : ℕ) → port < ports → slot < slots
@@ -29,28 +30,26 @@ entry-within port slot ports slots is_port is_slot =
     let within = mul-add-lt port slots slot ports is_port is_slot in
     omega arith
 
--- Of the links of a chip no more than all pass a test.
-pub few-passing : (test : Link → Bool) (all : List Link) (links : List LinkId)
-    → numbers_of links ≡ numbers_from 0 test all → length links ≤ length all
-few-passing test all links are =
+-- No more links of a chip than all pass a test, counted by their numbers,
+pub few-numbers : (test : Link → Bool) (all : List Link) (links : List LinkId)
+    → numbers_of links ≡ numbers_from 0 test all → length (numbers_of links) ≤ length all
+few-numbers test all links are =
     let size : length (numbers_of links) ≡ length (numbers_from 0 test all) = ap length are in
-    let numbers = length-map links (λ (link : LinkId). link.0) in
     let count = length-numbers_from test 0 all in
     let few = count_by-le-length test all in
     omega arith
 
--- A test that some element passes is passed by its image.
-list_any-map : {X Y : Type 0} (change : X → Y) (test : Y → Bool) (xs : List X)
-    → list_any test (map change xs) ≡ list_any (λ x. test (change x)) xs
-list_any-map change test [] = refl
-list_any-map change test (x ∷ xs) =
-    ap (λ (rest : Bool). test (change x) || rest) (list_any-map change test xs)
+-- or as links.
+pub few-passing : (test : Link → Bool) (all : List Link) (links : List LinkId)
+    → numbers_of links ≡ numbers_from 0 test all → length links ≤ length all
+few-passing test all links are =
+    rw (length-map links (λ (link : LinkId). link.0)) at (few-numbers test all links are)
 
 -- A link is among some just where its number is.
 pub is_among-numbers_of : (links : List LinkId) (link : LinkId)
     → is_among (numbers_of links) link.0 ≡ list_any (λ other. other.0 == link.0) links
 is_among-numbers_of links link =
-    list_any-map (λ (link : LinkId). link.0) (λ other. other == link.0) links
+    list_any-map (λ other. other == link.0) (λ (link : LinkId). link.0) links
 
 -- As many elements of a list are in front of the first that passes as of their images.
 prefix_len-map : {X Y : Type 0} (change : X → Y) (test : Y → Bool) (xs : List X)
@@ -82,6 +81,14 @@ pub get_or-same : {X : Type 0} (x : X) (count place : ℕ) → get_or (replicate
 get_or-same x zero place = refl
 get_or-same x (suc count) zero = refl
 get_or-same x (suc count) (suc place) = get_or-same x count place
+
+-- A table without entries has one for each slot of each port.
+pub length-entries : (links : List LinkId) (entries : List (Option ℕ)) (ports slots : ℕ)
+    → entries ≡ replicate (ports * slots) None → ports ≡ length links
+    → length entries ≡ length (numbers_of links) * slots
+length-entries links entries ports slots empty are =
+    ap length empty ∙ length-replicate (ports * slots) None
+    ∙ ap (λ n. n * slots) (are ∙ sym (length-map links (λ (link : LinkId). link.0)))
 
 -- Where no flit is held no entry sends any on.
 pub sent_from-idle : (held : List (Option Flit)) (entry : Option ℕ)
@@ -123,8 +130,7 @@ pub port-link : (router : TableRouterState) (links : List LinkId) (port : ℕ) (
     → link ≡ get_or links port link → slice_get router.outgoing port ≡ Some link.0
 port-link router links port link are within is =
     let ports = length-ports router links are in
-    rw (← are) (numbers_of-at links port link (omega arith)
-    ∙ ap (λ (there : LinkId). Some there.0) (sym is))
+    rw (← are) (numbers_of-got links port link (omega arith) is)
 
 -- It is one of so many, where all are.
 pub port-link-below : (router : TableRouterState) (links : List LinkId) (port count : ℕ)

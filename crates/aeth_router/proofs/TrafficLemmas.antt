@@ -45,19 +45,6 @@ is_any-push : (flits : List Flit) (flit : Flit) → is_any (flits ++ flit ∷ []
 is_any-push [] flit = refl
 is_any-push (first ∷ flits) flit = refl
 
--- A flit behind no other is the sole one.
-pub sole-push_first : (flits : List Flit) (flit : Flit) → false ≡ is_any flits
-    → sole (flits ++ flit ∷ []) ≡ Some flit
-sole-push_first [] flit none = refl
-sole-push_first (first ∷ flits) flit none = absurd (cc none)
-
--- One behind others is not.
-pub sole-push_more : (flits : List Flit) (flit : Flit) → true ≡ is_any flits
-    → sole (flits ++ flit ∷ []) ≡ None
-sole-push_more [] flit any = absurd (cc any)
-sole-push_more (first ∷ []) flit any = refl
-sole-push_more (first ∷ second ∷ flits) flit any = refl
-
 -- Before the first flit no port is named.
 pub AreNamed-first : AreNamed (replicate named_ports false) []
 AreNamed-first =

@@ -1,7 +1,8 @@
 -- What comes to wires within a cycle: flits, one after the other.
 --
 --   Arrival, arrived, carried      what has come to a wire, one flit more, and what the wire carries then
---   arrival_of, arrival_at      what has come by what is noted, and what has to the wire of a number
+--   arrival_of, arrivals_of, AreContended      what has come by what is noted of it, and what holds of the notes
+--   arrival_at      what has come to the wire of a number
 --   Adds, CameFrom      what is sent has come, and who sent it
 --
 -- That a wire to which two flits come carries neither: this project's own.
@@ -47,7 +48,6 @@ arrivals_of first marks =
 pub record AreContended (is_contended : Bool) (first : List (Option Flit)) (marks : List ℕ) : Type 0 where
   pub few : length first < 2 ^ 32
   pub room : length first < room_of marks
-  pub below : (wire : ℕ) → bit_of marks wire ≡ 1 → wire < length first
   pub flit : (wire : ℕ) → bit_of marks wire ≡ 1 → IsSome (flit_on first wire)
   pub none : is_contended ≡ false → (wire : ℕ) → bit_of marks wire ≡ 0
 

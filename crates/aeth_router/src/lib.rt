@@ -1,7 +1,8 @@
-//! Routers, where each flit that alone names a port moves on by one hop in a cycle, and the stages
-//! of links with a delay.
+//! Routers that read headers or look a table up, each of which sends a flit on by one hop in a cycle,
+//! and the stages of links with a delay; and what all of these pass on of the flits on their wires.
 #![tactic(auto)]
 
+mod entries;
 mod onward;
 mod part;
 mod router;

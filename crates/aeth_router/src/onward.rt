@@ -34,7 +34,10 @@ impl Model for Onward {
 }
 
 impl Onward {
-    /// For so many wires, to none of which a flit has come. Later calls take no memory.
+    /// For so many wires, to none of which a flit has come.
+    ///
+    /// Later calls take no memory. `add` takes a step, and `settle` one for each flit that comes or goes, and
+    /// for each 64 wires.
     pub fn new(alloc: Global, wires: u32) -> Result<Onward, NoMemory>
         ensures { IfOk result (λ made. made ≡ replicate wires Nothing) }
     {
@@ -45,7 +48,7 @@ impl Onward {
         })
     }
 
-    /// A flit comes to a wire.
+    /// A flit comes to a wire: one flit has come then, or several.
     pub fn add(&mut self, wire: LinkId, flit: Flit)
         requires { wire.0 < length self.old }
         ensures { self.new
@@ -59,7 +62,7 @@ impl Onward {
         }
     }
 
-    /// The wires carry what has come, and from then on nothing has.
+    /// The wires carry what has come, in place of what they had, and from then on nothing has come.
     pub fn settle(&mut self, wires: &mut Wires)
         requires { length wires.old ≡ length self.old }
         ensures wires { wires.new ≡ map carried self.old }

@@ -17,7 +17,7 @@ use aeth_base::LinkId;
 use aeth_clocked::{Clocked, Flit, Wires};
 use aeth_ni::Ni;
 
-/// A component of a network.
+/// A component of a network, of any kind.
 #[derive(Drop)]
 pub enum Part {
     /// A network interface.
@@ -31,10 +31,12 @@ pub enum Part {
 }
 
 impl Part {
-    /// Passes on what the component has from a wire in a cycle: the flit goes to each output on which it is
-    /// sent. An interface passes none on.
+    /// Passes on in a cycle a flit that was on a wire in the one before: it goes to each output on which the
+    /// component sends it. An interface passes none on.
     ///
     /// What a router or a stage drives, where it has latched wires, is what it passes on of their flits.
+    /// So whoever passes on each flit of its wires need not have it latch and drive: what it holds makes no
+    /// difference here, and stays.
     pub fn pass(&self, cycle: u32, wire: LinkId, flit: Flit, onward: &mut Onward)
         requires { AreLinks (outputs_of self.now) (length onward.old) }
         ensures { Adds (λ out. passed self.now cycle out wire.0 (Some flit)) onward.old onward.new }

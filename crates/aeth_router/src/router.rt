@@ -141,7 +141,7 @@ impl Clocked for Router {
     ghost absorb_agrees = { router_absorb-agrees };
 }
 
-// So many places, and a flit at none.
+// So many places, none of which has a flit.
 pub(crate) fn empty_places(alloc: Global, count: usize) -> Result<Vec<Option<Flit>>, NoMemory>
     ensures { IfOk result (λ held. held.items ≡ replicate count None) }
 {
@@ -199,7 +199,7 @@ pub(crate) fn are_empty(links: &[LinkId], wires: &Wires) -> bool
     true
 }
 
-// Whether there is a flit at no place.
+// Whether no place has a flit.
 pub(crate) fn are_none(held: &[Option<Flit>]) -> bool
     ensures { IsTrue result ↔ (held.now ≡ replicate (length held.now) None) }
 {
@@ -211,7 +211,7 @@ pub(crate) fn are_none(held: &[Option<Flit>]) -> bool
     true
 }
 
-// Takes out all flits. Where none is noted, there is none.
+// Takes out all flits. Where none is noted, no place has one.
 pub(crate) fn empty(held: &mut [Option<Flit>], is_holding: bool)
     requires { is_holding ≡ false → held.old ≡ replicate (length held.old) None }
     ensures { held.new ≡ replicate (length held.old) None }

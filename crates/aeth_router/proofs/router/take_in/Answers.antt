@@ -1,12 +1,9 @@
-use Rattle.std.proofs.Common.{◌≡◌, ◌∙◌, List, None, Option, Some, ap, arith, get_or, length}
-use Rattle.std.proofs.Common.{slice_get}
-use Rattle.std.proofs.lemmas.List.{get_or-replicate, length-map}
-use Rattle.std.proofs.lemmas.Option.{slice_get-get_or}
+use Rattle.std.proofs.Common.{◌≡◌, arith, get_or, length}
+use Rattle.std.proofs.lemmas.List.{length-map}
 use Rattle.aeth_base.specs.declared.ids.LinkId.{LinkId}
-use Rattle.aeth_clocked.specs.declared.flit.Flit.{Flit}
 use Rattle.aeth_router.specs.Router.{numbers_of}
 use Rattle.aeth_router.proofs.Steps.{HasTaken-all, HasTaken-none, HasTaken-some, numbers_of-at}
-use Rattle.aeth_router.proofs.Steps.{numbers_of-below}
+use Rattle.aeth_router.proofs.Steps.{free-at, numbers_of-below}
 use Rattle.aeth_router.proofs.router.take_in.Goals.{then-not-is_empty, else-not-is_empty}
 use Rattle.aeth_router.proofs.router.take_in.Goals as goal
 
@@ -34,11 +31,7 @@ loop-place-preserved c =
     let size : length held ≡ length first = c.loop-place.auto.held in
     let link = (get_or links place (record { 0 = 0 })).0 in
     let at = numbers_of-at links place (record { 0 = 0 }) within in
-    let free : slice_get first place ≡ Some None =
-    slice_get-get_or first place None (omega arith)
-    ∙ ap (λ (there : Option Flit). Some there)
-    (ap (λ (list : List (Option Flit)). get_or list place None) c.requires.none
-    ∙ get_or-replicate (length first) place None None (omega arith)) in
+    let free = free-at first place c.requires.none (omega arith) in
     elim c.if-not-is_empty.branch [
       | then-not-is_empty w ↦
           rw (w.held-is, w.is_any-is)

@@ -40,14 +40,9 @@ size c =
 -- Nothing is noted any more.
 pub invariant_of-self : goal.invariant_of-self
 invariant_of-self c =
-    let done = settled c in
-    let wires = size c in
-    let few = c.self.invariant.few in
-    let room = c.self.invariant.room in
-    let same = done.room in
-    AreContended-none c.if-self.self-inside.is_contended c.clear-2.new.self
-    c.if-self.self-inside.contended (omega (arith, wires, few)) (omega (arith, wires, room, same))
-    done.none
+    AreContended-none c.self.inside.is_contended c.if-self.self-inside.is_contended
+    c.self.inside.first c.clear-2.new.self c.self.inside.contended c.if-self.self-inside.contended
+    c.self.invariant (size c) (settled c).room (settled c).none
 
 -- The wires carry what has come.
 pub returns-clause-wires : goal.returns-clause-wires

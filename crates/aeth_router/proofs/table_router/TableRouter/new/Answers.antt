@@ -1,14 +1,12 @@
-use Rattle.std.proofs.Common.{◌≡◌, ◌*◌, ◌∙◌, ℕ, List, None, ap, arith, length, replicate, subst}
-use Rattle.std.proofs.Common.{sym}
+use Rattle.std.proofs.Common.{◌≡◌, ◌∙◌, ℕ, List, ap, arith, length, subst, sym}
 use Rattle.std.proofs.lemmas.Grind.{common_steps}
-use Rattle.std.proofs.lemmas.List.{length-map, length-replicate}
-use Rattle.aeth_base.specs.declared.ids.LinkId.{LinkId}
 use Rattle.aeth_chip.specs.Nodes.{begins_at, ends_at, receives_on}
 use Rattle.aeth_chip.specs.declared.node.Node.TheVariants.{Router}
 use Rattle.aeth_clocked.specs.Wires.{AreLinks}
 use Rattle.aeth_router.specs.Router.{is_among, numbers_of}
 use Rattle.aeth_router.proofs.LinkLemmas.{AreDistinctLinks-numbers_from, AreLinks-numbers_from}
-use Rattle.aeth_router.proofs.TableLemmas.{few-passing}
+use Rattle.aeth_router.proofs.Steps.{empty-places}
+use Rattle.aeth_router.proofs.TableLemmas.{few-numbers, few-passing, length-entries}
 use Rattle.aeth_router.proofs.table_router.TableRouter.new.Goals as goal
 
 -- The links on which a router receives are links of the chip.
@@ -46,27 +44,22 @@ invariant_of-result c =
     let incoming_size = incoming.ok.0 in
     let ports = c.len.ensures in
     let outgoing_size = outgoing.ok.0 in
-    let size : length held.items ≡ c.len-2.result =
-    ap length c.in_ok-held.ensures ∙ length-replicate c.len-2.result None in
+    let empty = empty-places incoming.items held.items c.len-2.result c.in_ok-held.ensures
+    (omega arith) in
     record {
       sound = record {
         some_slots = (let some = chip.some_slots in omega arith);
-        few = (let few = few-passing (ends_at (Router c.args.router)) c.args.chip.now.links
+        few = (let few = few-numbers (ends_at (Router c.args.router)) c.args.chip.now.links
             links.items c.in_ok-links.ensures in
             let most = chip.few_links in
-            let numbers = length-map links.items (λ (link : LinkId). link.0) in
             omega arith);
-        places = (let same : length held.items ≡ length incoming.items = omega arith in same)
-            ∙ sym (length-map incoming.items (λ (link : LinkId). link.0));
+        places = empty.0;
         apart = rw c.in_ok-outgoing.ensures
             (AreDistinctLinks-numbers_from 0 (begins_at (Router c.args.router))
             c.args.chip.now.links);
-        entries = ap length c.in_ok-entries.ensures
-            ∙ length-replicate (c.len.result * c.slots-slots.result) None
-            ∙ ap (λ (n : ℕ). n * c.slots-slots.result)
-            ((let same : c.len.result ≡ length outgoing.items = omega arith in same)
-            ∙ sym (length-map outgoing.items (λ (link : LinkId). link.0)));
+        entries = length-entries outgoing.items entries.items c.len.result c.slots-slots.result
+            c.in_ok-entries.ensures (omega arith);
       };
-      idle = λ _. c.in_ok-held.ensures ∙ ap (λ n. replicate n None) (sym size);
+      idle = λ _. empty.1;
       single = λ _. grind (arith, common_steps);
     }

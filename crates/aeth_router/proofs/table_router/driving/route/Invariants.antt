@@ -2,7 +2,7 @@ use Rattle.std.proofs.Common.{take}
 use Rattle.aeth_clocked.specs.Wires.{Drives}
 use Rattle.aeth_router.specs.Router.{is_among, numbers_of}
 use Rattle.aeth_router.specs.TableRouter.{entry_at, sent_from, sent_on}
-use Rattle.aeth_router.proofs.table_router.route.Given as goal
+use Rattle.aeth_router.proofs.table_router.driving.route.Given as goal
 
 -- The links so far are driven, and no other.
 abbrev pub invariant-loop-port : goal.invariant-loop-port

@@ -3,7 +3,7 @@ use Rattle.aeth_router.specs.Router.{numbers_of}
 use Rattle.aeth_router.specs.TableRouter.{entry_at, sent_from, sent_on}
 use Rattle.aeth_router.proofs.Steps.{Drives-more, numbers_of-at, numbers_of-below}
 use Rattle.aeth_router.proofs.TableLemmas.{entry-within, sent_on-port}
-use Rattle.aeth_router.proofs.table_router.route.Goals as goal
+use Rattle.aeth_router.proofs.table_router.driving.route.Goals as goal
 
 -- The entry is one of the table.
 pub entry_at-entry-requires : goal.entry_at-entry-requires

@@ -4,7 +4,7 @@ use Rattle.aeth_router.specs.Router.{is_among, numbers_of}
 use Rattle.aeth_router.specs.TableRouter.{TableRouterState, table_emit}
 use Rattle.aeth_router.proofs.IdleLemmas.{Drives-silent}
 use Rattle.aeth_router.proofs.TableLemmas.{table_emit-idle}
-use Rattle.aeth_router.proofs.table_router.TableRouterClocked.drive.Goals as goal
+use Rattle.aeth_router.proofs.table_router.driving.TableRouterClocked.drive.Goals as goal
 
 -- The outgoing links are links.
 pub route-requires-clause-links : goal.route-requires-clause-links

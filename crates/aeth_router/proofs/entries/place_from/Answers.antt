@@ -1,6 +1,6 @@
 use Rattle.std.proofs.Common.{sym, ◌∙◌}
 use Rattle.aeth_router.proofs.TableLemmas.{place_from-some}
-use Rattle.aeth_router.proofs.table_router.place_from.Goals as goal
+use Rattle.aeth_router.proofs.entries.place_from.Goals as goal
 
 -- A link that isn't there has no place.
 pub returns-in_err-place : goal.returns-in_err-place

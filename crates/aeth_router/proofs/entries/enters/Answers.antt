@@ -1,6 +1,6 @@
 use Rattle.std.proofs.Common.{sym, ◌∙◌}
 use Rattle.aeth_router.proofs.TableLemmas.{is_among-numbers_of}
-use Rattle.aeth_router.proofs.table_router.enters.Goals as goal
+use Rattle.aeth_router.proofs.entries.enters.Goals as goal
 
 -- A link enters the router where it is one of those that do.
 pub returns-in-Some : goal.returns-in-Some

@@ -2,7 +2,7 @@ use Rattle.std.proofs.Common.{◌≡◌, ◌∙◌, ℕ, List, ap, length, subst
 use Rattle.aeth_clocked.specs.Wires.{AreLinks}
 use Rattle.aeth_router.specs.Router.{is_among, numbers_of}
 use Rattle.aeth_router.specs.TableRouter.{TableRouterState}
-use Rattle.aeth_router.proofs.table_router.TableRouterClocked.latch.Goals as goal
+use Rattle.aeth_router.proofs.table_router.driving.TableRouterClocked.latch.Goals as goal
 
 -- The incoming links are links.
 pub take_in-self-inside-requires-clause-links : goal.take_in-self-inside-requires-clause-links

@@ -4,7 +4,7 @@ use Rattle.aeth_clocked.specs.Wires.{AreLinks}
 use Rattle.aeth_router.specs.Router.{is_among, numbers_of}
 use Rattle.aeth_router.specs.TableRouter.{TableRouterState}
 use Rattle.aeth_router.proofs.RestingLemmas.{RestsLatch-table}
-use Rattle.aeth_router.proofs.table_router.TableRouterClocked.rests_latch.Goals as goal
+use Rattle.aeth_router.proofs.table_router.driving.TableRouterClocked.rests_latch.Goals as goal
 
 -- The incoming links are links.
 pub are_empty-requires : goal.are_empty-requires
