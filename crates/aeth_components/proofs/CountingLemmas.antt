@@ -101,11 +101,6 @@ pub counted-none : (cycle : ℕ) (parts : List Part) (lane : Lane) → lane.hand
 counted-none cycle parts lane none =
     counted-still cycle parts lane (brings-none parts lane none)
 
-pub noted-none : (cycle : ℕ) (parts : List Part) (landings : List ℕ) (lane : Lane)
-    → lane.handed ≤ lane.landed → noted cycle parts landings lane ≡ landings
-noted-none cycle parts landings lane none =
-    noted-still cycle parts landings lane (brings-none parts lane none)
-
 -- And where the receiver's component got no words.
 pub brings-silent : (parts : List Part) (lane : Lane) (part : Part)
     → slice_get parts lane.receiver.ni.0 ≡ Some part

@@ -1,5 +1,5 @@
 -- What holds of components and channels in each phase of a cycle.
-use Rattle.std.proofs.Common.{ℕ, ◌≡◌, refl, sym, ◌∙◌, ap, subst, length, map, List, Option}
+use Rattle.std.proofs.Common.{ℕ, ◌≡◌, refl, sym, ◌∙◌, ap, length, map, List, Option}
 use Rattle.std.proofs.Common.{arith, fold}
 use Rattle.std.proofs.Common.{zero, suc, [], ◌∷◌, Some, slice_get}
 use Rattle.std.specs.Prelude.{slice_set}
@@ -23,7 +23,7 @@ use Rattle.aeth_components.specs.Components.{components_of, driven_from, frames_
 use Rattle.aeth_components.specs.Components.{wires_driven}
 use Rattle.aeth_components.specs.Components.{moment_of, ready_of}
 use Rattle.aeth_components.specs.Counting.{counted, flits_counted, noted}
-use Rattle.aeth_components.specs.Frames.{Frame, IsWired, frame_of}
+use Rattle.aeth_components.specs.Frames.{frame_of}
 use Rattle.aeth_components.specs.Lanes.{IsLane}
 use Rattle.aeth_components.specs.Phases.{Moment, in_turn, pulled, refilled}
 
@@ -101,11 +101,8 @@ module _ (events : List Event) (cycle : ℕ) (old : ComponentsState) (wires : Li
       let few = before.flits in
       let fewer = before.few in
       record {
-        wired = subst (λ n. IsWired (map frame_of latched.parts) n) (sym wire_count)
-            (subst (λ (frames : List Frame). IsWired frames (length old.wires)) (sym runs.frames)
-            before.wired);
-        lanes = subst (All (IsLane (length old.words) (length latched.parts))) (sym counts)
-            (All-map (IsLane (length old.words) (length latched.parts))
+        wired = rw (wire_count, runs.frames) before.wired;
+        lanes = rw counts (All-map (IsLane (length old.words) (length latched.parts))
             (counted cycle latched.parts) latched.lanes
             (λ place default within. IsLane-counted (length old.words) cycle
             (length latched.parts) latched.parts _ (sound place default within)));
@@ -125,9 +122,8 @@ IsComponents-framed others all framed before =
     let same = ap length framed in
     let count : length all.parts ≡ length others = omega arith in
     record {
-      wired = subst (λ (list : List Frame). IsWired list (length all.wires)) (sym framed)
-          before.wired;
-      lanes = subst (λ n. All (IsLane (length all.words) n) all.lanes) count before.lanes;
+      wired = rw framed before.wired;
+      lanes = rw (← count) before.lanes;
       landings = before.landings;
       flits = before.flits;
       few = before.few;
@@ -155,13 +151,3 @@ pub IsComponents-replaced : (number : ℕ) (part : Part) (all : ComponentsState)
 IsComponents-replaced number part all at =
     IsComponents-framed (slice_set all.parts number part) all
     (views-slice_set frame_of all.parts number part at)
-
--- Components whose lists are the same.
-pub components-same : (wires : List (Option Flit)) (lanes : List Lane) (parts parts_too : List Part)
-    (words words_too landings landings_too flits flits_too : List ℕ)
-    → parts ≡ parts_too → words ≡ words_too → landings ≡ landings_too → flits ≡ flits_too
-    → components_of parts wires lanes words landings flits
-    ≡ components_of parts_too wires lanes words_too landings_too flits_too
-components-same wires lanes parts parts_too words words_too landings landings_too flits flits_too
-    same_parts same_words same_landings same_flits =
-    rw (same_parts, same_words, same_landings, same_flits) refl

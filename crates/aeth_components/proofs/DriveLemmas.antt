@@ -2,7 +2,7 @@
 use Rattle.std.proofs.Common.{ℕ, ◌≡◌, ◌<◌, refl, sym, ◌∙◌, ap, arith, inl, inr, subst}
 use Rattle.std.proofs.Common.{[], ◌∷◌, ◌+◌, ap₂, cond, count_by}
 use Rattle.std.proofs.Common.{Bool, List, Option, Some, None, length, map, slice_get, true}
-use Rattle.std.proofs.lemmas.Bool.{cases_lt}
+use Rattle.std.proofs.lemmas.Bool.{cases_Bool, cases_lt}
 use Rattle.std.proofs.lemmas.List.{length-map}
 use Rattle.std.proofs.lemmas.List.Sums.{sum_by-cons}
 use Rattle.std.proofs.lemmas.Option.{slice_get-get_or, unwrap_or-slice_get}
@@ -18,7 +18,7 @@ use Rattle.aeth_router.specs.declared.part.Part.{Part}
 use Rattle.aeth_router.specs.declared.part.Part.TheVariants.{Interface, Router, Stage, TableRouter}
 use Rattle.aeth_components.proofs.FrameLemmas.{AreDisjoint-parts, from-map, is_output-parts}
 use Rattle.aeth_components.proofs.FrameLemmas.{outputs_of-frame, seen-at}
-use Rattle.aeth_components.proofs.OwnLemmas.{output-below}
+use Rattle.aeth_components.proofs.OwnLemmas.{emits-mute, mute-other, output-below}
 use Rattle.aeth_components.proofs.PassedLemmas.{passed-emits, passed-none}
 use Rattle.aeth_components.proofs.SeenLemmas.{frames-seen, outputs_of-seen}
 use Rattle.aeth_components.proofs.SeenCycle.{sends_own-seen}
@@ -59,7 +59,7 @@ module _ (parts : List Part) (wires : List (Option Flit)) (ends : Ends) (cycle :
       ∙ flit_on-carried arrivals wire (omega (arith, size, within))
 
   -- Nothing has come to what an interface sends on.
-  pub empty-outputs : (settled : List (Option Flit)) → settled ≡ map carried arrivals
+  empty-outputs : (settled : List (Option Flit)) → settled ≡ map carried arrivals
       → (i wire : ℕ) (part : Part) → slice_get parts i ≡ Some part → i < ends.interfaces
       → outputs_of part wire ≡ true → flit_on settled wire ≡ None
   empty-outputs settled is i wire part at less own =
@@ -70,7 +70,7 @@ module _ (parts : List Part) (wires : List (Option Flit)) (ends : Ends) (cycle :
 
   -- On each output is what the component emits, seen with what it holds.
   output-emits : (settled now : List (Option Flit)) → settled ≡ map carried arrivals
-      → Injects cycle ends.interfaces parts settled now → (i wire : ℕ) (part : Part)
+      → Injects cycle parts settled now → (i wire : ℕ) (part : Part)
       → slice_get parts i ≡ Some part → outputs_of part wire ≡ true
       → flit_on now wire ≡ emit_of (seen wires part) cycle wire
   output-emits settled now is injects i wire part at own =
@@ -78,18 +78,25 @@ module _ (parts : List Part) (wires : List (Option Flit)) (ends : Ends) (cycle :
       let framed = seen-at frame_of parts i part at in
       elim (cases_lt i ends.interfaces) [
         | inl less ↦
-            let same = seen-interface wires part (are.first i (frame_of part) framed less) in
-            injects.own i wire part at less own
-            ∙ ap (λ (part : Part). emit_of part cycle wire) (sym same)
+            let first = are.first i (frame_of part) framed less in
+            elim (cases_Bool (sends_own cycle part)) [
+              | inl sends ↦ injects.own i wire part at sends own
+              | inr mute ↦
+                  injects.other i wire part at mute own
+                  ∙ empty-outputs settled is i wire part at less own
+                  ∙ sym (emits-mute cycle part first mute wire)
+            ] ∙ ap (λ (part : Part). emit_of part cycle wire) (sym (seen-interface wires part first))
         | inr over ↦
-            injects.other i wire part at over own ∙ settled-at settled is wire within
+            injects.other i wire part at
+            (mute-other cycle part (are.others i (frame_of part) framed over)) own
+            ∙ settled-at settled is wire within
             ∙ passed-emits parts wires ends cycle wired are i wire part (arrival_at arrivals wire) at
             over own (came wire within)
       ]
 
   -- All that is on the wires is what the components drive.
   driven-at-wire : (settled now : List (Option Flit)) → settled ≡ map carried arrivals
-      → Injects cycle ends.interfaces parts settled now → (wire : ℕ) → wire < length wires
+      → Injects cycle parts settled now → (wire : ℕ) → wire < length wires
       → flit_on now wire ≡ driven outputs_of emit_of (all_seen wires parts) cycle wire
   driven-at-wire settled now is injects wire within =
       let (i, frame, there, sends) = wired.owned wire within in
@@ -103,7 +110,7 @@ module _ (parts : List Part) (wires : List (Option Flit)) (ends : Ends) (cycle :
       (ap (λ (outputs : ℕ → Bool). outputs wire) (outputs_of-seen wires part) ∙ own))
 
   pub wires-driven : (settled now : List (Option Flit)) → settled ≡ map carried arrivals
-      → Injects cycle ends.interfaces parts settled now
+      → Injects cycle parts settled now
       → now ≡ wires_driven (all_seen wires parts) (length wires) cycle
   wires-driven settled now is injects =
       let seen_parts = all_seen wires parts in

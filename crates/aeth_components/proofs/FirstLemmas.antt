@@ -87,7 +87,8 @@ module _ (chip : ChipData) (is_chip : IsChip chip) (rooms : List ℕ) where
 
   -- Nothing is marked, and nothing has been passed on.
   pub AreReady-new : (turns : Turns) → AreEndsOf chip turns.ends
-      → turns.ends.parts < room_of turns.telling → turns.ends.parts < room_of turns.spare
+      → turns.ends.interfaces < room_of turns.telling
+      → turns.ends.interfaces < room_of turns.spare
       → ((number : ℕ) → bit_of turns.telling number ≡ 0)
       → ((number : ℕ) → bit_of turns.spare number ≡ 0)
       → turns.onward ≡ replicate (wires_of chip.links) Nothing

@@ -1,6 +1,6 @@
 -- Laws of the walk over the interfaces in which each that sends something of its own drives it.
 use Rattle.std.proofs.Common.{ℕ, ◌≡◌, ◌≢◌, ◌<◌, ◌≤◌, ◌+◌, refl, sym, ap, ◌∙◌, arith, cond, false}
-use Rattle.std.proofs.Common.{true, inl, inr, List, length, length-set, map, None, Option, Some, take}
+use Rattle.std.proofs.Common.{true, inl, inr, [], List, length, length-set, map, Option, Some, take}
 use Rattle.std.proofs.Common.{count_by, get_or, slice_get}
 use Rattle.std.specs.Prelude.{slice_set}
 use Rattle.std.specs.Option.{option_map}
@@ -10,23 +10,23 @@ use Rattle.std.proofs.lemmas.List.Sums.{count_by_more_yes, sum_by-take-le}
 use Rattle.std.proofs.lemmas.Option.{get_or_from_slice_get, same_Some, slice_get-get_or}
 use Rattle.std.proofs.lemmas.Option.{slice_get-map, slice_get_within}
 use Rattle.aeth_base.proofs.Lists.{same_list, slice_get-slice_set_other, slice_get-slice_set_same}
+use Rattle.aeth_base.specs.Marks.{marked_from}
 use Rattle.aeth_clocked.specs.Wires.{Drives, flit_on}
 use Rattle.aeth_clocked.specs.declared.flit.Flit.{Flit}
 use Rattle.aeth_router.specs.Part.{after_of, emit_of, outputs_of}
 use Rattle.aeth_router.specs.declared.part.Part.{Part}
-use Rattle.aeth_components.specs.Ends.{is_interface}
-use Rattle.aeth_components.specs.Frames.{Frame, IsWired, frame_of}
+use Rattle.aeth_components.specs.Frames.{IsWired, frame_of}
 use Rattle.aeth_components.specs.Handing.{HasWaitingPlaces, Wakes}
 use Rattle.aeth_components.specs.Seen.{interfaces_driven}
 use Rattle.aeth_components.specs.Sending.{Injects, IsSending}
-use Rattle.aeth_components.specs.Turns.{sends_own}
+use Rattle.aeth_components.specs.Turns.{AreSendersMarked, sends_own}
 use Rattle.aeth_components.specs.declared.handing.Handing.{Handing}
-use Rattle.aeth_components.proofs.FrameLemmas.{AreDisjoint-parts, seen-at}
+use Rattle.aeth_components.proofs.FrameLemmas.{AreDisjoint-parts}
 use Rattle.aeth_components.proofs.OwnLemmas.{after-sends, flit_on-other, flit_on-own, option_map-still}
-use Rattle.aeth_components.proofs.OwnLemmas.{output-below, own_driven, still-mute, still-other}
+use Rattle.aeth_components.proofs.OwnLemmas.{mute-behind, output-below, own_driven, still-mute}
 use Rattle.aeth_components.proofs.WakingLemmas.{Wakes-more, Wakes-none, Wakes-same}
 
--- The interfaces below a number have driven what they send of their own, and who waits there is woken.
+-- The components below a number have driven what they send of their own, and who waits there is woken.
 pub record InjectedTo (cycle : ℕ) (parts : List Part) (wires : List (Option Flit)) (handing : Handing)
     (steps to : ℕ) (now_parts : List Part) (now_wires : List (Option Flit)) (now_handing : Handing)
     (now_steps : ℕ) : Type 0 where
@@ -34,7 +34,13 @@ pub record InjectedTo (cycle : ℕ) (parts : List Part) (wires : List (Option Fl
   pub driven : (number : ℕ) → number < to
       → slice_get now_parts number ≡ option_map (own_driven cycle) (slice_get parts number)
   pub behind : (number : ℕ) → to ≤ number → slice_get now_parts number ≡ slice_get parts number
-  pub sent : Injects cycle to parts wires now_wires
+  pub links : length now_wires ≡ length wires
+  pub own : (number wire : ℕ) (part : Part) → slice_get parts number ≡ Some part → number < to
+      → sends_own cycle part ≡ true → outputs_of part wire ≡ true
+      → flit_on now_wires wire ≡ emit_of part cycle wire
+  pub other : (number wire : ℕ) (part : Part) → slice_get parts number ≡ Some part
+      → (number < to → sends_own cycle part ≡ false) → outputs_of part wire ≡ true
+      → flit_on now_wires wire ≡ flit_on wires wire
   pub woken : Wakes (λ number. (number < to) × IsSending cycle parts number) handing now_handing
   pub few : now_steps ≤ steps + count_by (sends_own cycle) (take to parts)
 
@@ -46,11 +52,9 @@ InjectedTo-first cycle parts wires handing steps places = record {
   size = refl;
   driven = λ number below. absurd (omega (arith, below));
   behind = λ number past. refl;
-  sent = record {
-    size = refl;
-    own = λ number wire part at below. absurd (omega (arith, below));
-    other = λ number wire part at past is. refl;
-  };
+  links = refl;
+  own = λ number wire part at below. absurd (omega (arith, below));
+  other = λ number wire part at rest is. refl;
   woken = Wakes-none (λ number. (number < 0) × IsSending cycle parts number) handing places
       (λ number is. let below = is.0 in omega (arith, below));
   few = omega arith;
@@ -61,24 +65,12 @@ module _ {cycle : ℕ} {parts : List Part} {wires : List (Option Flit)} {handing
     {now_steps : ℕ}
     (injected : InjectedTo cycle parts wires handing steps to now_parts now_wires now_handing
     now_steps) where
-  -- Those that are passed over send nothing, and their outputs are empty.
-  pub InjectedTo-until : (interfaces next : ℕ) → to ≤ next → next ≤ interfaces
-      → ((number : ℕ) (frame : Frame) → slice_get (map frame_of parts) number ≡ Some frame
-      → number < interfaces → is_interface frame ≡ true)
-      → ((number wire : ℕ) (part : Part) → slice_get parts number ≡ Some part → number < interfaces
-      → outputs_of part wire ≡ true → flit_on wires wire ≡ None)
+  -- Those that are passed over send nothing.
+  pub InjectedTo-until : (next : ℕ) → to ≤ next
       → ((number : ℕ) (part : Part) → slice_get parts number ≡ Some part → to ≤ number
       → number < next → sends_own cycle part ≡ false)
       → InjectedTo cycle parts wires handing steps next now_parts now_wires now_handing now_steps
-  InjectedTo-until interfaces next further within first empty mute =
-      let still : (number : ℕ) (part : Part) → slice_get parts number ≡ Some part → to ≤ number
-      → number < next
-      → (own_driven cycle part ≡ part) × ((wire : ℕ) → emit_of part cycle wire ≡ None) =
-      λ number part at over below.
-      still-mute cycle part
-      (first number (frame_of part) (seen-at frame_of parts number part at)
-      (omega (arith, below, within)))
-      (mute number part at over below) in
+  InjectedTo-until next further mute =
       record {
         size = injected.size;
         driven = λ number below. elim (cases_lt number to) [
@@ -86,21 +78,16 @@ module _ {cycle : ℕ} {parts : List Part} {wires : List (Option Flit)} {handing
           | inr over ↦
               injected.behind number over
               ∙ sym (option_map-still (own_driven cycle) (slice_get parts number)
-              (λ part at. (still number part at over below).0))
+              (λ part at. still-mute cycle part (mute number part at over below)))
         ];
         behind = λ number past. injected.behind number (omega (arith, past, further));
-        sent = record {
-          size = injected.sent.size;
-          own = λ number wire part at below is. elim (cases_lt number to) [
-            | inl less ↦ injected.sent.own number wire part at less is
-            | inr over ↦
-                injected.sent.other number wire part at over is
-                ∙ empty number wire part at (omega (arith, below, within)) is
-                ∙ sym ((still number part at over below).1 wire)
-          ];
-          other = λ number wire part at past is.
-              injected.sent.other number wire part at (omega (arith, past, further)) is;
-        };
+        links = injected.links;
+        own = λ number wire part at below sends. elim (cases_lt number to) [
+          | inl less ↦ injected.own number wire part at less sends
+          | inr over ↦ absurd (cc (sym (mute number part at over below) ∙ sends))
+        ];
+        other = λ number wire part at rest.
+            injected.other number wire part at (λ less. rest (omega (arith, less, further)));
         woken = Wakes-same (λ number. (number < next) × IsSending cycle parts number)
             (λ number. (number < to) × IsSending cycle parts number) handing now_handing
             (λ number is. elim (cases_lt number to) [
@@ -141,7 +128,7 @@ module _ {cycle : ℕ} {parts : List Part} {wires : List (Option Flit)} {handing
       → outputs_of other wire ≡ true → wire < length now_wires =
       λ number wire other at own.
       let below = output-below parts (length wires) wired number other at wire own in
-      let same = injected.sent.size in
+      let same = injected.links in
       omega (arith, below, same) in
       let apart : (number wire : ℕ) (other : Part) → slice_get parts number ≡ Some other
       → outputs_of other wire ≡ true → number ≢ to → flit_on new_wires wire ≡ flit_on now_wires wire =
@@ -154,6 +141,9 @@ module _ {cycle : ℕ} {parts : List Part} {wires : List (Option Flit)} {handing
             there own both))
         | inr none ↦ none
       ]) in
+      let alike : (number : ℕ) (other : Part) → slice_get parts number ≡ Some other → number ≡ to
+      → other ≡ part =
+      λ number other at same. same_Some other part (sym at ∙ ap (slice_get parts) same ∙ there) in
       record {
         size = length-set now_parts to driven_part ∙ size;
         driven = λ number below. elim (cases_eq number to) [
@@ -170,24 +160,23 @@ module _ {cycle : ℕ} {parts : List Part} {wires : List (Option Flit)} {handing
             slice_get-slice_set_other now_parts to number driven_part
             (λ same. omega (arith, same, past))
             ∙ injected.behind number (omega (arith, past));
-        sent = record {
-          size = drives.links ∙ injected.sent.size;
-          own = λ number wire other at below own. elim (cases_eq number to) [
-            | inl same ↦
-                let one : other ≡ part =
-                same_Some other part (sym at ∙ ap (slice_get parts) same ∙ there) in
-                flit_on-own (outputs_of part) (emit_of part cycle) now_wires new_wires wire drives
-                (links number wire other at own)
-                (ap (λ (part : Part). outputs_of part wire) (sym one) ∙ own)
-                ∙ ap (λ (part : Part). emit_of part cycle wire) (sym one)
-            | inr away ↦
-                apart number wire other at own away
-                ∙ injected.sent.own number wire other at (omega (arith, below, away)) own
-          ];
-          other = λ number wire other at past own.
-              apart number wire other at own (λ same. omega (arith, same, past))
-              ∙ injected.sent.other number wire other at (omega (arith, past)) own;
-        };
+        links = drives.links ∙ injected.links;
+        own = λ number wire other at below is own. elim (cases_eq number to) [
+          | inl same ↦
+              let one = alike number other at same in
+              flit_on-own (outputs_of part) (emit_of part cycle) now_wires new_wires wire drives
+              (links number wire other at own)
+              (ap (λ (part : Part). outputs_of part wire) (sym one) ∙ own)
+              ∙ ap (λ (part : Part). emit_of part cycle wire) (sym one)
+          | inr away ↦
+              apart number wire other at own away
+              ∙ injected.own number wire other at (omega (arith, below, away)) is own
+        ];
+        other = λ number wire other at rest own.
+            apart number wire other at own (λ same.
+            cc (sym (rest (omega (arith, same)))
+            ∙ ap (sends_own cycle) (alike number other at same) ∙ sends))
+            ∙ injected.other number wire other at (λ less. rest (omega (arith, less))) own;
         woken = Wakes-more (λ number. (number < to + 1) × IsSending cycle parts number)
             (λ number. (number < to) × IsSending cycle parts number) to handing now_handing new_handing
             injected.woken wakes
@@ -202,15 +191,12 @@ module _ {cycle : ℕ} {parts : List Part} {wires : List (Option Flit)} {handing
             omega (arith, before, one, tick));
       }
 
-  -- Past all interfaces no other component is changed, nor sends.
-  module _
-      (others : (number : ℕ) (frame : Frame) → slice_get (map frame_of parts) number ≡ Some frame
-      → to ≤ number → is_interface frame ≡ false) where
-    left : (number : ℕ) (part : Part) → slice_get parts number ≡ Some part → to ≤ number
-        → (own_driven cycle part ≡ part) × (sends_own cycle part ≡ false)
-    left number part at past =
-        still-other cycle part
-        (others number (frame_of part) (seen-at frame_of parts number part at) past)
+  -- Where none is marked from there on, all is done.
+  module _ (marks : List ℕ) (senders : AreSendersMarked cycle parts marks)
+      (none : marked_from marks to ≡ []) where
+    mute : (number : ℕ) (part : Part) → slice_get parts number ≡ Some part → to ≤ number
+        → sends_own cycle part ≡ false
+    mute = mute-behind cycle parts marks senders none
 
     pub InjectedTo-parts : now_parts ≡ interfaces_driven cycle parts
     InjectedTo-parts = same_list now_parts (interfaces_driven cycle parts) (λ number.
@@ -219,15 +205,23 @@ module _ {cycle : ℕ} {parts : List Part} {wires : List (Option Flit)} {handing
           | inr past ↦
               injected.behind number past
               ∙ sym (option_map-still (own_driven cycle) (slice_get parts number)
-              (λ part at. (left number part at past).0))
+              (λ part at. still-mute cycle part (mute number part at past)))
         ] ∙ sym (slice_get-map (own_driven cycle) parts number))
+
+    pub InjectedTo-wires : Injects cycle parts wires now_wires
+    InjectedTo-wires = record {
+      size = injected.links;
+      own = λ number wire part at sends. elim (cases_lt number to) [
+        | inl less ↦ injected.own number wire part at less sends
+        | inr past ↦ absurd (cc (sym (mute number part at past) ∙ sends))
+      ];
+      other = λ number wire part at rest. injected.other number wire part at (λ less. rest);
+    }
 
     pub InjectedTo-woken : Wakes (IsSending cycle parts) handing now_handing
     InjectedTo-woken = Wakes-same (IsSending cycle parts)
         (λ number. (number < to) × IsSending cycle parts number) handing now_handing
         (λ number own. elim (cases_lt number to) [
           | inl less ↦ (less, own)
-          | inr past ↦
-              let mute = (left number own.0 own.1 past).1 in
-              absurd (cc (sym mute ∙ own.2))
+          | inr past ↦ absurd (cc (sym (mute number own.0 own.1 past) ∙ own.2))
         ]) injected.woken

@@ -11,7 +11,7 @@ use Rattle.aeth_base.specs.Marks.{bit_of, room_of}
 use Rattle.aeth_ni.specs.Component.{emitted_by}
 use Rattle.aeth_ni.specs.Interface.{InterfaceState}
 use Rattle.aeth_ni.specs.Queue.{QueueState}
-use Rattle.aeth_ni.specs.Writes.{written}
+use Rattle.aeth_ni.specs.Writes.{addressee, written}
 use Rattle.aeth_ni.specs.declared.write.Write.{Write}
 use Rattle.aeth_ni.specs.declared.write.Write.TheVariants.{ClearSlot, ClearRoute, SetRoute, SetSlot}
 use Rattle.aeth_router.specs.declared.part.Part.{Part}
@@ -22,8 +22,8 @@ use Rattle.aeth_components.specs.Changes.{event_done, happened, on_interface, wi
 use Rattle.aeth_components.specs.Events.{event_part}
 use Rattle.aeth_components.specs.Injecting.{AreInjecting, NotesWrite, entries_of, entry_at, mark_of}
 use Rattle.aeth_components.specs.Injecting.{marks_at, table_at}
-use Rattle.aeth_components.specs.Switching.{SlotWrite, Writes, entry_of, slot_write}
-use Rattle.aeth_components.specs.Turns.{sends_own}
+use Rattle.aeth_components.specs.Switching.{SlotWrite, Writes, entry_of, slot_write, slot_written}
+use Rattle.aeth_components.specs.Turns.{AreSendersMarked, sends_own}
 use Rattle.aeth_components.proofs.PartLemmas.{length-with_part}
 use Rattle.aeth_components.proofs.SlotLemmas.{entry_of-happened_other, entry_of-happened_own}
 use Rattle.aeth_components.proofs.FrameLemmas.{seen-at}
@@ -119,9 +119,31 @@ length-tables change kept (part ∷ parts) (suc number) zero = refl
 length-tables change kept (part ∷ parts) (suc number) (suc other) =
     length-tables change kept parts number other
 
+-- An event writes a slot of its own component.
+written-part : (write : Write) (slot : SlotWrite) → slot_written write ≡ Some slot
+    → slot.ni.0 ≡ (addressee write).0
+written-part (ClearSlot to slot) found is = sym (ap (λ (w : SlotWrite). w.ni.0) (same_Some _ found is))
+written-part (ClearRoute to queue) found is = absurd (cc is)
+written-part (SetRoute to queue route remote credits) found is = absurd (cc is)
+written-part (SetSlot to slot queue) found is =
+    sym (ap (λ (w : SlotWrite). w.ni.0) (same_Some _ found is))
+
+writes-part : (event : Event) (slot : SlotWrite) → slot_write event ≡ Some slot
+    → slot.ni.0 ≡ event_part event
+writes-part (Halt end) slot is = absurd (cc is)
+writes-part (Finish end) slot is = absurd (cc is)
+writes-part (Change write) slot is = written-part write slot is
+
 -- An event is done and noted.
 module _ (event : Event) (parts : List Part) (old new : List (List ℕ))
     (notes : NotesWrite event old new) (are : AreInjecting (map entries_of parts) old) where
+  -- As many tables are there as before.
+  count-happened : length (map entries_of (happened parts event)) ≡ length (map entries_of parts)
+  count-happened =
+      length-map (happened parts event) entries_of
+      ∙ length-with_part (event_part event) (on_interface (event_done event)) parts
+      ∙ sym (length-map parts entries_of)
+
   size-happened : (number : ℕ) → 0 < length (table_at (map entries_of (happened parts event)) number)
       → length (table_at (map entries_of (happened parts event)) number) ≡ length old
   size-happened number some =
@@ -171,22 +193,36 @@ module _ (event : Event) (parts : List Part) (old new : List (List ℕ))
         ]
       ]
 
-  pub AreInjecting-happened : AreInjecting (map entries_of (happened parts event)) new
-  AreInjecting-happened = record {
+  -- A marked number was marked before, or is that of the event's component.
+  below-happened : event_part event < length parts → (number slot : ℕ)
+      → bit_of (marks_at new slot) number ≡ 1 → number < length (map entries_of parts)
+  below-happened within number slot bit = elim (cases_eq number (event_part event)) [
+    | inl own ↦ let count = length-map parts entries_of in omega (arith, own, within, count)
+    | inr apart ↦
+        are.below number slot
+        (sym (notes.other number slot (λ writes.
+        apart (sym writes.at_ni ∙ writes-part event writes.write writes.is))) ∙ bit)
+  ]
+
+  pub AreInjecting-happened : event_part event < length parts
+      → AreInjecting (map entries_of (happened parts event)) new
+  AreInjecting-happened within = record {
     some = (let some = are.some in let size = notes.size in omega (arith, some, size));
-    room = λ slot default within.
+    room = λ slot default below.
         let size = notes.size in
-        let room = are.room slot [] (omega (arith, size, within)) in
+        let room = are.room slot [] (omega (arith, size, below)) in
         let same = notes.room slot in
-        let read = ap room_of (get_or_default new slot default [] within) in
-        let count = length-with_part (event_part event) (on_interface (event_done event)) parts in
-        let before = length-map parts entries_of in
-        let after = length-map (happened parts event) entries_of in
-        omega (arith, room, same, read, count, before, after);
+        let read = ap room_of (get_or_default new slot default [] below) in
+        let count = count-happened in
+        omega (arith, room, same, read, count);
     size = λ number some. size-happened number some ∙ sym notes.size;
     marked = λ number slot queue is.
         marked-happened (slot_write event) refl number slot queue
         (sym (entry_at-parts (happened parts event) number slot) ∙ is);
+    below = λ number slot bit.
+        let below = below-happened within number slot bit in
+        let count = count-happened in
+        omega (arith, below, count);
   }
 
 -- An interface that sends has an entry for the slot of the cycle.
@@ -216,9 +252,8 @@ length-sends cycle parts slots are number part at sends =
 
 -- And it is marked.
 pub AreInjecting-sends : (cycle : ℕ) (parts : List Part) (slots : List (List ℕ))
-    → AreInjecting (map entries_of parts) slots → (number : ℕ) (part : Part)
-    → slice_get parts number ≡ Some part → sends_own cycle part ≡ true
-    → bit_of (marks_at slots (cycle % length slots)) number ≡ 1
+    → AreInjecting (map entries_of parts) slots
+    → AreSendersMarked cycle parts (marks_at slots (cycle % length slots))
 AreInjecting-sends cycle parts slots are number part at sends =
     let entry = entry-sends cycle part sends in
     let same = length-sends cycle parts slots are number part at sends in
@@ -227,13 +262,11 @@ AreInjecting-sends cycle parts slots are number part at sends =
     (table_at-parts parts number part at)
     ∙ ap (λ n. slice_index_or (entries_of part) (cycle % n) None) (sym same) ∙ entry.1)
 
--- There are marks for every component in each slot.
-pub marks-room : (cycle : ℕ) (parts : List Part) (slots : List (List ℕ))
-    → AreInjecting (map entries_of parts) slots
-    → length parts < room_of (marks_at slots (cycle % length slots))
-marks-room cycle parts slots are =
+-- A marked number is that of a component.
+pub AreInjecting-below : (cycle : ℕ) (parts : List Part) (slots : List (List ℕ))
+    → AreInjecting (map entries_of parts) slots → (number : ℕ)
+    → bit_of (marks_at slots (cycle % length slots)) number ≡ 1 → number < length parts
+AreInjecting-below cycle parts slots are number bit =
+    let below = are.below number (cycle % length slots) bit in
     let count = length-map parts entries_of in
-    let some = are.some in
-    let within : cycle % length slots < length slots = omega (arith, some) in
-    let room = are.room (cycle % length slots) [] within in
-    omega (arith, count, room)
+    omega (arith, below, count)

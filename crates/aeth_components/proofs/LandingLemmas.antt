@@ -4,8 +4,7 @@ use Rattle.std.proofs.Common.{inl, inr, List, [], ◌∷◌, ◌++◌, drop, get
 use Rattle.std.proofs.Common.{Option, Some, slice_get}
 use Rattle.std.proofs.lemmas.Bool.{cases_lt}
 use Rattle.std.proofs.lemmas.List.{append-nil, drop_all, set_past, take_all}
-use Rattle.aeth_base.specs.Marks.{bit_of, is_marked, marked_from, room_of}
-use Rattle.aeth_base.proofs.MarkedLemmas.{NextPassing, is_marked-zero, none-passing}
+use Rattle.aeth_base.specs.Marks.{bit_of, marked_from}
 use Rattle.aeth_clocked.specs.declared.flit.Flit.{Flit}
 use Rattle.aeth_clocked.proofs.UsedLemmas.{NextUsed}
 use Rattle.aeth_ni.specs.Queue.{capped}
@@ -15,14 +14,15 @@ use Rattle.aeth_components.specs.Turns.{marks_below}
 use Rattle.aeth_components.proofs.CountingLemmas.{flits_counted-found, flits_counted-until}
 use Rattle.aeth_components.proofs.CountingLemmas.{flits_counted-whole, length-flits_counted}
 use Rattle.aeth_components.proofs.CountingLemmas.{map-ahead, map-more}
+use Rattle.aeth_components.proofs.MarkLemmas.{NextMarked, unmarked-behind}
 use Rattle.aeth_components.proofs.MarkedLemmas.{marks_below-gap}
 
 -- The next wire with a flit is counted, where it is a link's first.
-pub flits_counted-next : (wires : List (Option Flit)) (counts now new : List ℕ) (from wire : ℕ)
-    (rest : List ℕ) → NextUsed wires from wire rest → now ≡ flits_counted (take from wires) counts
+pub flits_counted-next : {wires : List (Option Flit)} (counts : List ℕ) {now new : List ℕ}
+    {from wire : ℕ} {rest : List ℕ} → NextUsed wires from wire rest → now ≡ flits_counted (take from wires) counts
     → new ≡ set now wire (capped (get_or now wire 0 + 1))
     → new ≡ flits_counted (take (wire + 1) wires) counts
-flits_counted-next wires counts now new from wire rest next so_far is =
+flits_counted-next {wires} counts {now} {new} {from} {wire} next so_far is =
     let below = next.below in
     let size = ap length so_far ∙ length-flits_counted (take from wires) counts in
     let upto = flits_counted-until wires counts now from wire next.after (omega (arith, below))
@@ -56,80 +56,66 @@ map-until f (x ∷ xs) (suc from) (suc to) within rest =
     (map-until f xs from to (omega (arith, within))
     (λ i x after below. rest (suc i) x (omega (arith, after)) (omega (arith, below))))
 
-module _ (change : Part → Part) (all : List Part) (marks : List ℕ) where
-  -- The marked components before one have changed, and each is a step.
-  pub record TurnedTo (before : ℕ) (now : List Part) (after to : ℕ) : Type 0 where
-    pub parts : now ≡ map change (take to all) ++ drop to all
-    pub steps : after ≡ before + marks_below marks to
+-- The marked components before one have changed, and each is a step.
+pub record TurnedTo (change : Part → Part) (all : List Part) (marks : List ℕ) (before : ℕ)
+    (now : List Part) (after to : ℕ) : Type 0 where
+  pub parts : now ≡ map change (take to all) ++ drop to all
+  pub steps : after ≡ before + marks_below marks to
 
-  -- None has yet.
-  pub TurnedTo-first : (before : ℕ) → TurnedTo before all before 0
-  TurnedTo-first before = record { parts = refl; steps = omega arith }
-
-  -- Those that aren't marked rest.
-  pub TurnedTo-until : (before : ℕ) (now : List Part) (after from to : ℕ)
-      → ((number : ℕ) (part : Part) → slice_get all number ≡ Some part → bit_of marks number ≡ 0
-      → change part ≡ part)
-      → from ≤ to → ((number : ℕ) → from ≤ number → number < to → bit_of marks number ≡ 0)
-      → TurnedTo before now after from → TurnedTo before now after to
-  TurnedTo-until before now after from to rest within none turned =
-      let there : from + (to - from) ≡ to = omega (arith, within) in
-      let same = ap (marks_below marks) (sym there)
-      ∙ marks_below-gap marks from (to - from)
-      (λ number behind below. none number behind (omega (arith, below, within))) in
-      let count = turned.steps in
-      record {
-        parts = turned.parts ∙ map-until change all from to within (λ number part behind below at.
-            rest number part at (none number behind below));
-        steps = omega (arith, count, same);
-      }
-
-  -- So do those up to the next marked one, which is as it was.
-  pub TurnedTo-next : (before : ℕ) (now : List Part) (after from number : ℕ) (left : List ℕ)
-      → ((number : ℕ) (part : Part) → slice_get all number ≡ Some part → bit_of marks number ≡ 0
-      → change part ≡ part)
-      → NextPassing (is_marked marks) from (room_of marks) number left
-      → TurnedTo before now after from → TurnedTo before now after number
-  TurnedTo-next before now after from number left rest next =
-      TurnedTo-until before now after from number rest next.after
-      (λ other behind below. is_marked-zero marks other (next.none other behind below))
-
-  pub TurnedTo-ahead : (before : ℕ) (now : List Part) (after number : ℕ) (default : Part)
-      → number < length all → TurnedTo before now after number
-      → get_or now number default ≡ get_or all number default
-  TurnedTo-ahead before now after number default within turned =
-      map-ahead change all now number default within turned.parts
+module _ {change : Part → Part} {all : List Part} {marks : List ℕ} {before : ℕ} {now : List Part}
+    {after from : ℕ} (turned : TurnedTo change all marks before now after from) where
+  -- One is as it was.
+  pub TurnedTo-ahead : (default : Part) → from < length all
+      → get_or now from default ≡ get_or all from default
+  TurnedTo-ahead default within = map-ahead change all now from default within turned.parts
 
   -- It changes.
-  pub TurnedTo-more : (before : ℕ) (now : List Part) (after number : ℕ) (default new : Part)
-      → number < length all → bit_of marks number ≡ 1
-      → TurnedTo before now after number → new ≡ change (get_or now number default)
-      → TurnedTo before (set now number new) (after + 1) (number + 1)
-  TurnedTo-more before now after number default new within is turned to =
-      let next : marks_below marks (number + 1) ≡ marks_below marks (suc number) =
-      ap (marks_below marks) (let same : number + 1 ≡ suc number = omega arith in same) in
+  pub TurnedTo-more : (default new : Part) → from < length all → bit_of marks from ≡ 1
+      → new ≡ change (get_or now from default)
+      → TurnedTo change all marks before (set now from new) (after + 1) (from + 1)
+  TurnedTo-more default new within is to =
+      let next : marks_below marks (from + 1) ≡ marks_below marks (suc from) =
+      ap (marks_below marks) (let same : from + 1 ≡ suc from = omega arith in same) in
       let count = turned.steps in
       record {
-        parts = map-more change all now number default new within turned.parts to;
+        parts = map-more change all now from default new within turned.parts to;
         steps = omega (arith, count, next, is);
       }
 
-  -- Where none is marked from one on, all have changed.
-  pub TurnedTo-all : (before : ℕ) (now : List Part) (after from : ℕ)
-      → ((number : ℕ) (part : Part) → slice_get all number ≡ Some part → bit_of marks number ≡ 0
-      → change part ≡ part)
-      → length all ≤ room_of marks → from ≤ length all → marked_from marks from ≡ []
-      → TurnedTo before now after from
-      → (now ≡ map change all) × (after ≡ before + marks_below marks (length all))
-  TurnedTo-all before now after from rest room within none turned =
-      let last = TurnedTo-until before now after from (length all) rest within
-      (λ number behind below.
-      is_marked-zero marks number
-      (none-passing (is_marked marks) from (room_of marks) none number behind
-      (omega (arith, below, room)))) turned in
-      let whole : length all ≤ length all = omega arith in (
-        last.parts
-            ∙ rw (take_all (length all) all whole, drop_all (length all) all whole)
-            (append-nil (map change all)),
-        last.steps,
-      )
+  -- Those that aren't marked rest.
+  module _
+      (rest : (number : ℕ) (part : Part) → slice_get all number ≡ Some part → bit_of marks number ≡ 0
+      → change part ≡ part) where
+    TurnedTo-until : (to : ℕ) → from ≤ to
+        → ((number : ℕ) → from ≤ number → number < to → bit_of marks number ≡ 0)
+        → TurnedTo change all marks before now after to
+    TurnedTo-until to within none =
+        let there : from + (to - from) ≡ to = omega (arith, within) in
+        let same = ap (marks_below marks) (sym there)
+        ∙ marks_below-gap marks from (to - from)
+        (λ number behind below. none number behind (omega (arith, below, within))) in
+        let count = turned.steps in
+        record {
+          parts = turned.parts
+              ∙ map-until change all from to within (λ number part behind below at.
+              rest number part at (none number behind below));
+          steps = omega (arith, count, same);
+        }
+
+    -- So do those up to the next marked one.
+    pub TurnedTo-next : {number : ℕ} {left : List ℕ} → NextMarked marks from number left
+        → TurnedTo change all marks before now after number
+    TurnedTo-next {number} next = TurnedTo-until number next.after next.none
+
+    -- Behind the last all have changed.
+    pub TurnedTo-all : from ≤ length all → marked_from marks from ≡ []
+        → (now ≡ map change all) × (after ≡ before + marks_below marks (length all))
+    TurnedTo-all within none =
+        let last = TurnedTo-until (length all) within
+        (λ number behind below. unmarked-behind marks from none number behind) in
+        let whole : length all ≤ length all = omega arith in (
+          last.parts
+              ∙ rw (take_all (length all) all whole, drop_all (length all) all whole)
+              (append-nil (map change all)),
+          last.steps,
+        )

@@ -1,6 +1,9 @@
 pub mod AloneLemmas
+mod AmongLemmas
 mod CameLemmas
 mod CarriedLemmas
+mod CountedCycle
+mod CountedLemmas
 pub mod CountingLemmas
 mod CycleLemmas
 mod DriveLemmas
@@ -26,6 +29,7 @@ mod OwnLemmas
 pub mod PartLemmas
 mod PassedLemmas
 pub mod QueueLemmas
+mod ReadLemmas
 mod ReadyLemmas
 mod ReceivedLemmas
 mod ReceiverLemmas
@@ -43,3 +47,4 @@ pub mod TurnLemmas
 mod TurnsAlone
 mod WaitingLemmas
 mod WakingLemmas
+mod WalkedLemmas

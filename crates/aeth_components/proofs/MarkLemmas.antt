@@ -1,11 +1,11 @@
 -- Laws of the masks that mark channels.
-use Rattle.std.proofs.Common.{ℕ, ◌≡◌, ◌≢◌, ◌<◌, ◌/◌, ◌%◌, ◌∙◌}
+use Rattle.std.proofs.Common.{ℕ, ◌≡◌, ◌∷◌, ◌+◌, ◌≢◌, ◌<◌, ◌≤◌, ◌/◌, ◌%◌, ◌∙◌, []}
 use Rattle.std.proofs.Common.{sym, ap, arith}
 use Rattle.std.proofs.Common.{inl, inr, subst, List, get_or, length}
 use Rattle.std.proofs.Common.{length-set, set, Some, slice_get}
 use Rattle.std.specs.Int.{bit_at}
 use Rattle.std.specs.Prelude.{slice_index}
-use Rattle.std.proofs.lemmas.Bool.{cases_eq, cases_lt}
+use Rattle.std.proofs.lemmas.Bool.{cases_Bool, cases_eq, cases_lt}
 use Rattle.std.proofs.lemmas.List.{get_or_past}
 use Rattle.std.proofs.lemmas.Nat.Bits.{bit_at-zero}
 use Rattle.std.proofs.lemmas.Option.{same_Some}
@@ -13,7 +13,9 @@ use Rattle.std.proofs.lemmas.Option.{slice_get-get_or, slice_get_within}
 use Rattle.aeth_base.proofs.Lists.{slice_get-slice_set_other, slice_get-slice_set_same}
 use Rattle.aeth_router.specs.declared.part.Part.{Part}
 use Rattle.aeth_components.specs.declared.lane.Lane.{Lane}
-use Rattle.aeth_base.specs.Marks.{bit_of, room_of}
+use Rattle.aeth_base.specs.Marks.{bit_of, is_marked, marked_from, room_of}
+use Rattle.aeth_base.proofs.MarkedLemmas.{is_marked-one, is_marked-zero, next-passing}
+use Rattle.aeth_base.proofs.MarkedLemmas.{none-passing}
 use Rattle.aeth_components.specs.Busy.{AreMarked}
 use Rattle.aeth_components.specs.Phases.{Moment, turned_by}
 
@@ -101,7 +103,7 @@ AreMarked-all masks lanes size all =
     }
 
 -- A marked number is one that there is room for.
-pub marked-within : (masks : List ℕ) (number : ℕ) → bit_of masks number ≡ 1 → number < room_of masks
+marked-within : (masks : List ℕ) (number : ℕ) → bit_of masks number ≡ 1 → number < room_of masks
 marked-within masks number bit = elim (cases_lt number (room_of masks)) [
   | inl within ↦ within
   | inr past ↦
@@ -110,6 +112,16 @@ marked-within masks number bit = elim (cases_lt number (room_of masks)) [
       let none : bit_of masks number ≡ 0 =
       ap (λ mask. bit_at mask (number % 64)) mask ∙ bit_at-zero (number % 64) in
       absurd (omega (arith, bit, none))
+]
+
+-- Where the walk over the marked numbers ends, none is marked from there on.
+pub unmarked-behind : (masks : List ℕ) (from : ℕ) → marked_from masks from ≡ [] → (number : ℕ)
+    → from ≤ number → bit_of masks number ≡ 0
+unmarked-behind masks from none number over = elim (cases_Bool (is_marked masks number)) [
+  | inl is ↦
+      let within = marked-within masks number (is_marked-one masks number is) in
+      absurd (cc (sym is ∙ none-passing (is_marked masks) from (room_of masks) none number over within))
+  | inr isnt ↦ is_marked-zero masks number isnt
 ]
 
 -- A turn keeps what it leaves alone.
@@ -131,3 +143,22 @@ AreMarked-turned {IsStill = IsStill} turn kept masks now number lane done at did
     (λ still. subst IsStill (sym (ap (λ (pair : List Part × Lane). pair.1) did))
     (kept now.parts lane still))
     marked
+
+-- The next marked number, of those from one on, and the ones behind it.
+pub record NextMarked (marks : List ℕ) (from next : ℕ) (rest : List ℕ) : Type 0 where
+  pub after : from ≤ next
+  pub is : bit_of marks next ≡ 1
+  pub none : (number : ℕ) → from ≤ number → number < next → bit_of marks number ≡ 0
+  pub behind : rest ≡ marked_from marks (next + 1)
+
+-- It is the first of the list.
+pub next-marked : {marks : List ℕ} {from next : ℕ} {rest : List ℕ}
+    → marked_from marks from ≡ next ∷ rest → NextMarked marks from next rest
+next-marked {marks} {from} {next} {rest} list =
+    let passing = next-passing (is_marked marks) from (room_of marks) next rest list in
+    record {
+      after = passing.after;
+      is = is_marked-one marks next passing.is;
+      none = λ number over below. is_marked-zero marks number (passing.none number over below);
+      behind = passing.behind;
+    }

@@ -3,9 +3,9 @@ use Rattle.std.proofs.Common.{ℕ, ◌≡◌, ◌<◌, ◌≤◌, ◌∙◌, ref
 use Rattle.std.proofs.Common.{map, None, Option, Some, slice_get, arith, inl, inr}
 use Rattle.std.specs.Prelude.{unwrap_or}
 use Rattle.std.specs.Option.{option_map}
-use Rattle.std.proofs.lemmas.Bool.{cases_Bool}
+use Rattle.std.proofs.lemmas.Bool.{cases_Bool, cases_lt}
 use Rattle.std.proofs.lemmas.Option.{get_or_from_slice_get, slice_get_within}
-use Rattle.aeth_base.specs.Marks.{bit_of}
+use Rattle.aeth_base.specs.Marks.{bit_of, marked_from}
 use Rattle.aeth_clocked.specs.Wires.{Drives, flit_on}
 use Rattle.aeth_clocked.specs.declared.flit.Flit.{Flit}
 use Rattle.aeth_ni.proofs.RestingLemmas.{RestsDrive-interface}
@@ -16,26 +16,36 @@ use Rattle.aeth_router.specs.declared.part.Part.{Part}
 use Rattle.aeth_router.specs.declared.part.Part.TheVariants.{Interface, Router, Stage, TableRouter}
 use Rattle.aeth_components.specs.Changes.{on_interface}
 use Rattle.aeth_components.specs.Ends.{is_interface}
+use Rattle.aeth_components.specs.First.{HasSender}
 use Rattle.aeth_components.specs.Frames.{IsWired, frame_of}
 use Rattle.aeth_components.specs.Turns.{AreSendersMarked, sends_own}
 use Rattle.aeth_components.proofs.FrameLemmas.{AreLinks-outputs, none-unless}
+use Rattle.aeth_components.proofs.MarkLemmas.{NextMarked, unmarked-behind}
 
 -- A component once it has driven, where it is an interface.
 abbrev pub own_driven : ℕ → Part → Part
 own_driven cycle part = on_interface (λ ni. interface_after ni cycle) part
 
 module _ (cycle : ℕ) where
-  -- An interface that doesn't send is then as it was, and emits nothing.
-  pub still-mute : (part : Part) → is_interface (frame_of part) ≡ true → sends_own cycle part ≡ false
-      → (own_driven cycle part ≡ part) × ((wire : ℕ) → emit_of part cycle wire ≡ None)
-  still-mute (Interface ni) is mute =
-      let flit = emitted_by (queue_at_cycle ni.entries cycle) ni.queues in
-      let none : flit ≡ None = none-unless flit (λ some. cc (sym some ∙ mute)) in
-      let rests = (RestsDrive-interface ni [] cycle).0 (refl, none) in
-      (ap (λ (ni : InterfaceState). Interface ni) rests.still, λ wire. none)
-  still-mute (Router router) is mute = absurd (cc is)
-  still-mute (TableRouter router) is mute = absurd (cc is)
-  still-mute (Stage stage) is mute = absurd (cc is)
+  -- An interface that doesn't send emits nothing.
+  pub emits-mute : (part : Part) → is_interface (frame_of part) ≡ true → sends_own cycle part ≡ false
+      → (wire : ℕ) → emit_of part cycle wire ≡ None
+  emits-mute (Interface ni) is mute wire =
+      none-unless (emitted_by (queue_at_cycle ni.entries cycle) ni.queues)
+      (λ some. cc (sym some ∙ mute))
+  emits-mute (Router router) is mute wire = absurd (cc is)
+  emits-mute (TableRouter router) is mute wire = absurd (cc is)
+  emits-mute (Stage stage) is mute wire = absurd (cc is)
+
+  -- A component that doesn't send is then as it was.
+  pub still-mute : (part : Part) → sends_own cycle part ≡ false → own_driven cycle part ≡ part
+  still-mute (Interface ni) mute =
+      let none = emits-mute (Interface ni) refl mute 0 in
+      ap (λ (ni : InterfaceState). Interface ni)
+      ((RestsDrive-interface ni [] cycle).0 (refl, none)).still
+  still-mute (Router router) mute = refl
+  still-mute (TableRouter router) mute = refl
+  still-mute (Stage stage) mute = refl
 
   -- A component that sends is an interface, and is then as behind the drive.
   pub after-sends : (part : Part) → sends_own cycle part ≡ true
@@ -45,28 +55,46 @@ module _ (cycle : ℕ) where
   after-sends (TableRouter router) sends = absurd (cc sends)
   after-sends (Stage stage) sends = absurd (cc sends)
 
-  -- No other component changes, nor sends.
-  pub still-other : (part : Part) → is_interface (frame_of part) ≡ false
-      → (own_driven cycle part ≡ part) × (sends_own cycle part ≡ false)
-  still-other (Interface ni) is = absurd (cc is)
-  still-other (Router router) is = (refl, refl)
-  still-other (TableRouter router) is = (refl, refl)
-  still-other (Stage stage) is = (refl, refl)
+  -- No other component sends.
+  pub mute-other : (part : Part) → is_interface (frame_of part) ≡ false
+      → sends_own cycle part ≡ false
+  mute-other (Interface ni) is = absurd (cc is)
+  mute-other (Router router) is = refl
+  mute-other (TableRouter router) is = refl
+  mute-other (Stage stage) is = refl
 
--- Where senders are marked, none is among those that are passed over.
-pub mute-passed : (cycle interfaces : ℕ) (parts : List Part) (marks : List ℕ) (from to : ℕ)
-    → to ≤ interfaces → AreSendersMarked cycle interfaces parts marks
-    → ((number : ℕ) → from ≤ number → number < to → bit_of marks number ≡ 0)
-    → (number : ℕ) (part : Part) → slice_get parts number ≡ Some part → from ≤ number → number < to
-    → sends_own cycle part ≡ false
-mute-passed cycle interfaces parts marks from to within senders none number part at over below =
-    elim (cases_Bool (sends_own cycle part)) [
-      | inl is ↦
-          let one = senders number part (omega (arith, below, within)) at is in
-          let no = none number over below in
-          absurd (omega (arith, one, no))
-      | inr mute ↦ mute
-    ]
+-- Where senders are marked, who isn't marked doesn't send.
+module _ (cycle : ℕ) (parts : List Part) (marks : List ℕ)
+    (senders : AreSendersMarked cycle parts marks) where
+  mute-unmarked : (number : ℕ) (part : Part) → slice_get parts number ≡ Some part
+      → bit_of marks number ≡ 0 → sends_own cycle part ≡ false
+  mute-unmarked number part at none =
+      elim (cases_Bool (sends_own cycle part)) [
+        | inl is ↦ let one = senders number part at is in absurd (omega (arith, one, none))
+        | inr mute ↦ mute
+      ]
+
+  -- So none sends from a number up to the next marked one, nor behind the last.
+  pub mute-passed : {from next : ℕ} {rest : List ℕ} → NextMarked marks from next rest
+      → (number : ℕ) (part : Part) → slice_get parts number ≡ Some part → from ≤ number
+      → number < next → sends_own cycle part ≡ false
+  mute-passed passing number part at over below =
+      mute-unmarked number part at (passing.none number over below)
+
+  pub mute-behind : {from : ℕ} → marked_from marks from ≡ [] → (number : ℕ) (part : Part)
+      → slice_get parts number ≡ Some part → from ≤ number → sends_own cycle part ≡ false
+  mute-behind {from} none number part at over =
+      mute-unmarked number part at (unmarked-behind marks from none number over)
+
+  -- Who sends is at the next marked number or behind it.
+  pub sender-since : {from next : ℕ} {rest : List ℕ} → NextMarked marks from next rest
+      → (sender : HasSender parts cycle) → from ≤ sender.number → next ≤ sender.number
+  sender-since {from} {next} passing sender over = elim (cases_lt sender.number next) [
+    | inl before ↦
+        let mute = mute-passed passing sender.number sender.part sender.at over before in
+        absurd (cc (sym mute ∙ sender.sends))
+    | inr past ↦ past
+  ]
 
 -- A change that leaves what there is.
 pub option_map-still : {X : Type 0} (change : X → X) (o : Option X)

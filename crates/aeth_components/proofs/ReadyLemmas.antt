@@ -1,5 +1,5 @@
 -- What holds between cycles, from one phase of a cycle to the next.
-use Rattle.std.proofs.Common.{ℕ, ◌≡◌, sym, subst, List, map, Option}
+use Rattle.std.proofs.Common.{ℕ, ◌≡◌, List, map, Option}
 use Rattle.std.specs.Prelude.{slice_set, slice_get, Some}
 use Rattle.aeth_clocked.specs.declared.flit.Flit.{Flit}
 use Rattle.aeth_router.specs.declared.part.Part.{Part}
@@ -10,20 +10,12 @@ use Rattle.aeth_components.specs.declared.injecting.Injecting.{Injecting}
 use Rattle.aeth_components.specs.declared.turns.Turns.{Turns}
 use Rattle.aeth_components.proofs.CycleLemmas.{views-slice_set}
 
--- With the same frames, and interfaces that tell of the same, the components are as ready.
-pub AreReady-same : (frames others : List Frame) (lasts told : List (Option (ℕ × ℕ)))
-    (wires : List (Option Flit)) (turns : Turns) → others ≡ frames → told ≡ lasts
-    → AreReady frames lasts wires turns → AreReady others told wires turns
-AreReady-same frames others lasts told wires turns framed tells ready =
-    subst (λ (list : List (Option (ℕ × ℕ))). AreReady others list wires turns) (sym tells)
-    (subst (λ (list : List Frame). AreReady list lasts wires turns) (sym framed) ready)
-
 -- The interfaces that may inject say nothing of it.
-pub AreReady-noted : (frames : List Frame) (lasts : List (Option (ℕ × ℕ)))
-    (wires : List (Option Flit)) (turns : Turns) (injecting : Injecting)
+pub AreReady-noted : {frames : List Frame} {lasts : List (Option (ℕ × ℕ))}
+    {wires : List (Option Flit)} {turns : Turns} {injecting : Injecting}
     → AreReady frames lasts wires turns
     → AreReady frames lasts wires (record turns { injecting = injecting })
-AreReady-noted frames lasts wires turns injecting ready = record {
+AreReady-noted ready = record {
   ends = ready.ends;
   telling_room = ready.telling_room;
   spare_room = ready.spare_room;
@@ -40,8 +32,5 @@ pub AreReady-replaced : (number : ℕ) (part : Part) (parts : List Part) (wires 
     → AreReady (map frame_of parts) (map last_of parts) wires turns
     → AreReady (map frame_of (slice_set parts number part))
     (map last_of (slice_set parts number part)) wires turns
-AreReady-replaced number part parts wires turns framed told =
-    AreReady-same (map frame_of parts) (map frame_of (slice_set parts number part))
-    (map last_of parts) (map last_of (slice_set parts number part)) wires turns
-    (views-slice_set frame_of parts number part framed)
-    (views-slice_set last_of parts number part told)
+AreReady-replaced number part parts wires turns framed told ready =
+    rw (views-slice_set frame_of parts number part framed, views-slice_set last_of parts number part told) ready

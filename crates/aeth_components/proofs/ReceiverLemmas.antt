@@ -1,10 +1,9 @@
 -- Who receives on each wire of a chip, noted link by link and wire by wire.
 use Rattle.std.proofs.Common.{ℕ, ◌≡◌, ◌+◌, ◌≤◌, ◌<◌, refl, sym, ap, ◌∙◌, arith, inl, inr}
-use Rattle.std.proofs.Common.{List, length, length-set, replicate, set, Some, slice_get}
+use Rattle.std.proofs.Common.{List, length, length-set, set, Some, slice_get}
 use Rattle.std.specs.List.{All}
 use Rattle.std.proofs.lemmas.Bool.{cases_eq}
-use Rattle.std.proofs.lemmas.List.{length-replicate}
-use Rattle.std.proofs.lemmas.List.Elements.{All-replicate, All-set}
+use Rattle.std.proofs.lemmas.List.Elements.{All-set}
 use Rattle.std.proofs.lemmas.Option.{same_Some, slice_get_within}
 use Rattle.aeth_base.proofs.Lists.{slice_get-slice_set_same, slice_get-slice_set_other}
 use Rattle.aeth_chip.specs.Chip.{ChipData, IsChip}
@@ -74,14 +73,6 @@ module _ (chip : ChipData) (is_chip : IsChip chip) where
         → slice_get receivers (wire_at chip.links number place)
         ≡ Some (receiver_for chip number place link)
     pub below : All (λ number. number < part_count chip) receivers
-
-  pub ReceiversTo-first : ReceiversTo (replicate (wires_of chip.links) 0) 0
-  ReceiversTo-first = record {
-    size = length-replicate (wires_of chip.links) 0;
-    at = λ number place link below. absurd (omega arith);
-    below = All-replicate (λ number. number < part_count chip) (wires_of chip.links) 0
-        (let some = is_chip.some_nis in omega arith);
-  }
 
   pub ReceiversTo-more : (now new : List ℕ) (to : ℕ) (link : Link) → ReceiversTo now to
       → slice_get chip.links to ≡ Some link → NotedTo chip to link now new link.delay

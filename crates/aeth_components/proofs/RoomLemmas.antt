@@ -153,11 +153,7 @@ IsFull-entered rows parts =
 -- A component that sends nothing of its own keeps its rooms when it drives.
 rooms-driven : (cycle : ℕ) (part : Part) → sends_own cycle part ≡ false
     → rooms_of (on_interface (λ ni. interface_after ni cycle) part) ≡ rooms_of part
-rooms-driven cycle (Interface ni) mute =
-    ap rooms_of (still-mute cycle (Interface ni) refl mute).0
-rooms-driven cycle (Router router) mute = refl
-rooms-driven cycle (TableRouter router) mute = refl
-rooms-driven cycle (Stage stage) mute = refl
+rooms-driven cycle part mute = ap rooms_of (still-mute cycle part mute)
 
 found-driven : (cycle queue : ℕ) (found : Option Part)
     → ((part : Part) → found ≡ Some part → sends_own cycle part ≡ true → ⊥)

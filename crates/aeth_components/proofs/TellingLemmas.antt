@@ -77,23 +77,13 @@ flit_on-among (first ∷ wires) (suc to) zero below some = some
 flit_on-among (first ∷ wires) (suc to) (suc wire) below some =
     flit_on-among wires to wire (omega (arith, below)) some
 
-module _ (interfaces : ℕ) (ends : List ℕ) (wires : List (Option Flit)) (old : List ℕ) where
-  -- No wire marks none.
-  pub MarkTold-first : MarkTold interfaces ends (take 0 wires) old old
-  MarkTold-first = record {
-    room = refl;
-    at = λ wire number some. absurd (cc some);
-    kept = λ number is. is;
-    below = λ number is. inl is;
-    few = λ count. omega arith;
-  }
-
+module _ {interfaces : ℕ} {ends : List ℕ} {wires : List (Option Flit)} {old : List ℕ} where
   -- Where the wires from one on are empty, those before it mark all.
-  pub MarkTold-all : (now : List ℕ) (from : ℕ) → from ≤ length wires
+  pub MarkTold-all : {now : List ℕ} {from : ℕ} → from ≤ length wires
       → ((wire : ℕ) → from ≤ wire → wire < length wires → flit_on wires wire ≡ None)
       → MarkTold interfaces ends (take from wires) old now
       → MarkTold interfaces ends wires old now
-  MarkTold-all now from within empty told = record {
+  MarkTold-all {now} {from} within empty told = record {
     room = told.room;
     at = λ wire number some. told.at wire number (elim (cases_lt wire from) [
       | inl below ↦ flit_on-among wires from wire below some
@@ -110,9 +100,9 @@ module _ (interfaces : ℕ) (ends : List ℕ) (wires : List (Option Flit)) (old 
         omega (arith, few, more, all);
   }
 
-  module _ (now : List ℕ) (from wire : ℕ) (rest : List ℕ)
+  module _ {now : List ℕ} {from wire : ℕ} {rest : List ℕ}
       (told : MarkTold interfaces ends (take from wires) old now)
-      (next : NextUsed wires from wire rest) (read : List ℕ) (same : read ≡ ends)
+      (next : NextUsed wires from wire rest) {read : List ℕ} (same : read ≡ ends)
       (size : length ends ≡ length wires) where
     -- Who is at the end of the next wire with a flit.
     abbrev end : ℕ
@@ -149,11 +139,11 @@ module _ (interfaces : ℕ) (ends : List ℕ) (wires : List (Option Flit)) (old 
         omega (arith, more, fewer)
 
     -- The interface at the end of one wire more is marked.
-    pub MarkTold-mark : (new : List ℕ) → end < interfaces → room_of new ≡ room_of now
+    pub MarkTold-mark : {new : List ℕ} → end < interfaces → room_of new ≡ room_of now
         → bit_of new end ≡ 1
         → ((other : ℕ) → other ≢ end → bit_of new other ≡ bit_of now other)
         → MarkTold interfaces ends (take (wire + 1) wires) old new
-    MarkTold-mark new below room here away = record {
+    MarkTold-mark {new} below room here away = record {
       room = room ∙ told.room;
       at = λ other number some at less. elim (before-next other number some at) [
         | inl same ↦ ap (bit_of new) same ∙ here

@@ -20,9 +20,9 @@ use Rattle.aeth_components.specs.Phases.{Moment, turned, turned_at, turned_by}
 use Rattle.aeth_components.specs.View.{HasQueue, queue_of}
 use Rattle.aeth_ni.specs.Queue.{QueueState}
 
-module _ (turn : List Part → Lane → List Part × Lane) (active : Lane → Bool)
-    (end_of : Lane → ChannelEnd) (change : Lane → QueueState → QueueState)
-    (tells : Lane → QueueState → ℕ) (counted : Lane → ℕ → Lane)
+module _ {turn : List Part → Lane → List Part × Lane} {active : Lane → Bool}
+    {end_of : Lane → ChannelEnd} {change : Lane → QueueState → QueueState}
+    {tells : Lane → QueueState → ℕ} {counted : Lane → ℕ → Lane}
     (so : Acts turn active end_of change tells counted) where
   -- A lane keeps its end, and stays active or not.
   active-turn : (parts : List Part) (lane : Lane)

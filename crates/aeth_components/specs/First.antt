@@ -1,11 +1,10 @@
 -- The first cycle of a stretch.
 --
 --   IsFirst      the first cycle in which something holds
---   HasSender, AreSendersAmong      components send something of their own
+--   HasSender      a component sends something of its own
 --
 -- This project's own.
 use Rattle.std.specs.Prelude.{◌≡◌, ◌≤◌, ◌<◌, ℕ, List, Some, slice_get, true}
-use Rattle.aeth_base.specs.Marks.{bit_of}
 use Rattle.aeth_router.specs.declared.part.Part.{Part}
 use Rattle.aeth_components.specs.Turns.{sends_own}
 
@@ -23,8 +22,3 @@ pub record HasSender (parts : List Part) (cycle : ℕ) : Type 0 where
   pub part : Part
   pub at : slice_get parts number ≡ Some part
   pub sends : sends_own cycle part ≡ true
-
--- Each component that does is one of the first so many, and marked.
-abbrev pub AreSendersAmong : List Part → ℕ → List ℕ → ℕ → Type 0
-AreSendersAmong parts to marks cycle =
-    (sender : HasSender parts cycle) → (sender.number < to) × (bit_of marks sender.number ≡ 1)

@@ -2,7 +2,7 @@
 --
 --   home_at, home_count        the place of a queue
 --   AreHomes                   what is noted of channels
---   AreTold, AreBrought        the channels of which marked components got words
+--   AreBrought                 which components got words
 --
 -- This project's own.
 use Rattle.std.specs.Prelude.{◌≡◌, ◌<◌, ◌+◌, ◌*◌, ◌%◌, ◌^◌, ℕ, true, List, Some, length, slice_get}
@@ -31,13 +31,6 @@ pub record AreHomes (homes : Homes) (lanes : List Lane) : Type 0 where
   pub at : homes.is_apart ≡ true → (number : ℕ) (lane : Lane) → slice_get lanes number ≡ Some lane
       → lane.landed < lane.accepted
       → slice_get homes.numbers.items (home_at lane.receiver.ni.0 lane.receiver.queue) ≡ Some number
-
--- Of the marked components the channels are marked, among so many, of which they got words.
-abbrev pub AreTold : List ℕ → List Part → List ℕ → ℕ → List ℕ → Type 0
-AreTold numbers parts telling count told =
-    (i queue number : ℕ) (part : Part) → bit_of telling i ≡ 1 → slice_get parts i ≡ Some part
-    → 0 < brought_by queue part → slice_get numbers (home_at i queue) ≡ Some number
-    → number < count → bit_of told number ≡ 1
 
 -- Each component that got words is marked.
 abbrev pub AreBrought : List Part → List ℕ → Type 0

@@ -32,7 +32,7 @@ abbrev pub marks_at : List (List ℕ) → ℕ → List ℕ
 marks_at slots slot = slice_index_or slots slot []
 
 -- There are slots, as many as in each table that isn't empty, with marks for every table. Each number
--- whose table has an entry for a slot is marked there.
+-- whose table has an entry for a slot is marked there, and just numbers of tables are.
 pub record AreInjecting (tables : List (List (Option ℕ))) (slots : List (List ℕ)) : Type 0 where
   pub some : 0 < length slots
   pub room : All (λ marks. length tables < room_of marks) slots
@@ -40,6 +40,7 @@ pub record AreInjecting (tables : List (List (Option ℕ))) (slots : List (List 
       → length (table_at tables number) ≡ length slots
   pub marked : (number slot queue : ℕ) → entry_at tables number slot ≡ Some queue
       → bit_of (marks_at slots slot) number ≡ 1
+  pub below : (number slot : ℕ) → bit_of (marks_at slots slot) number ≡ 1 → number < length tables
 
 -- The bit that stands for an entry: 1 where there is one.
 abbrev pub mark_of : Option ℕ → ℕ

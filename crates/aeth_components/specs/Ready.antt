@@ -15,8 +15,8 @@ use Rattle.aeth_components.specs.declared.turns.Turns.{Turns}
 pub record AreReady (frames : List Frame) (lasts : List (Option (ℕ × ℕ))) (wires : List (Option Flit))
     (turns : Turns) : Type 0 where
   pub ends : AreEnds frames (length wires) turns.ends
-  pub telling_room : turns.ends.parts < room_of turns.telling
-  pub spare_room : turns.ends.parts < room_of turns.spare
+  pub telling_room : turns.ends.interfaces < room_of turns.telling
+  pub spare_room : turns.ends.interfaces < room_of turns.spare
   pub telling : AreTelling turns.ends.interfaces lasts turns.telling
   pub few : marks_below turns.telling turns.ends.parts ≤ flits_on wires
   pub spare : (number : ℕ) → bit_of turns.spare number ≡ 0

@@ -4,7 +4,7 @@
 --   Injects      what is on the wires then
 --
 -- This project's own.
-use Rattle.std.specs.Prelude.{◌≡◌, ◌≤◌, ◌<◌, ℕ, List, Option, Some, length, slice_get, true}
+use Rattle.std.specs.Prelude.{◌≡◌, ℕ, List, Option, Some, false, length, slice_get, true}
 use Rattle.aeth_clocked.specs.Wires.{flit_on}
 use Rattle.aeth_clocked.specs.declared.flit.Flit.{Flit}
 use Rattle.aeth_router.specs.Part.{emit_of, outputs_of}
@@ -16,11 +16,13 @@ abbrev pub IsSending : ℕ → List Part → ℕ → Type 0
 IsSending cycle parts number =
     (part : Part) × (slice_get parts number ≡ Some part) × (sends_own cycle part ≡ true)
 
--- On the output of each of the first so many components is what it emits, and those of the others are as
--- they were.
-pub record Injects (cycle to : ℕ) (parts : List Part) (old new : List (Option Flit)) : Type 0 where
+-- On the output of each component that does is what it emits, and the outputs of the others are as they
+-- were.
+pub record Injects (cycle : ℕ) (parts : List Part) (old new : List (Option Flit)) : Type 0 where
   pub size : length new ≡ length old
-  pub own : (number wire : ℕ) (part : Part) → slice_get parts number ≡ Some part → number < to
-      → outputs_of part wire ≡ true → flit_on new wire ≡ emit_of part cycle wire
-  pub other : (number wire : ℕ) (part : Part) → slice_get parts number ≡ Some part → to ≤ number
-      → outputs_of part wire ≡ true → flit_on new wire ≡ flit_on old wire
+  pub own : (number wire : ℕ) (part : Part) → slice_get parts number ≡ Some part
+      → sends_own cycle part ≡ true → outputs_of part wire ≡ true
+      → flit_on new wire ≡ emit_of part cycle wire
+  pub other : (number wire : ℕ) (part : Part) → slice_get parts number ≡ Some part
+      → sends_own cycle part ≡ false → outputs_of part wire ≡ true
+      → flit_on new wire ≡ flit_on old wire

@@ -5,7 +5,7 @@
 --   sends_own, AreSendersMarked      who sends something of its own in a cycle
 --
 -- This project's own.
-use Rattle.std.specs.Prelude.{◌≡◌, ℕ, zero, suc, ◌+◌, ◌<◌, List, Option, Some}
+use Rattle.std.specs.Prelude.{◌≡◌, ℕ, zero, suc, ◌+◌, List, Option, Some}
 use Rattle.std.specs.Prelude.{Bool, count_by, false, is_some, slice_get, true}
 use Rattle.aeth_base.specs.Marks.{bit_of}
 use Rattle.aeth_clocked.specs.declared.flit.Flit.{Flit}
@@ -33,8 +33,8 @@ sends_own cycle (Router router) = false
 sends_own cycle (TableRouter router) = false
 sends_own cycle (Stage stage) = false
 
--- Of the first so many components each is marked that sends something of its own in a cycle.
-abbrev pub AreSendersMarked : ℕ → ℕ → List Part → List ℕ → Type 0
-AreSendersMarked cycle to parts marks =
-    (number : ℕ) (part : Part) → number < to → slice_get parts number ≡ Some part
-    → sends_own cycle part ≡ true → bit_of marks number ≡ 1
+-- Each component is marked that sends something of its own in a cycle.
+abbrev pub AreSendersMarked : ℕ → List Part → List ℕ → Type 0
+AreSendersMarked cycle parts marks =
+    (number : ℕ) (part : Part) → slice_get parts number ≡ Some part → sends_own cycle part ≡ true
+    → bit_of marks number ≡ 1

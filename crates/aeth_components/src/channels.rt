@@ -12,9 +12,9 @@ ghost use Rattle.aeth_components.specs.Lanes.{IsLane, with_lane};
 ghost use Rattle.aeth_components.specs.Phases.{in_turn, pulled, refilled, turned};
 ghost use Rattle.aeth_components.specs.Handing.{AreHanding};
 
-use crate::counting::{count_one, count_told};
+use crate::counting::{count_one, count_telling};
 use crate::handing::Handing;
-use crate::homes::{Homes, tell};
+use crate::homes::Homes;
 use crate::lane::Lane;
 use crate::phases::{refill_one, rest, settle, take_one};
 use aeth_base::{Marks, NoMemory};
@@ -31,9 +31,8 @@ pub(crate) struct Channels {
     // Marks of the channels that may not be idle, and of those whose receivers may take words.
     busy: Marks,
     taking: Marks,
-    // At which queues the words of channels land, and marks of those that may get words in a cycle.
+    // At which queues the words of channels land.
     homes: Homes,
-    told: Marks,
 }
 
 impl Model for Channels {
@@ -44,8 +43,7 @@ impl Model for Channels {
 
     ghost view = { λ all. record { lanes = all.lanes.items; words = all.words.items } };
 
-    ghost invariant = { λ all. AreNoted all.busy all.taking all.told all.homes
-        all.lanes.items };
+    ghost invariant = { λ all. AreNoted all.busy all.taking all.homes all.lanes.items };
 }
 
 impl Channels {
@@ -59,7 +57,6 @@ impl Channels {
     {
         let busy = Marks::all(alloc, lanes.len())?;
         let taking = Marks::all(alloc, lanes.len())?;
-        let told = Marks::none(alloc, lanes.len())?;
         let homes = Homes::new(alloc, &lanes)?;
         Ok(Channels {
             lanes,
@@ -67,7 +64,6 @@ impl Channels {
             busy,
             taking,
             homes,
-            told,
         })
     }
 
@@ -144,13 +140,12 @@ impl Channels {
         ensures landings { landings.new ≡ fold (noted cycle parts.now) landings.old self.old.lanes }
     {
         if self.homes.is_apart {
-            let count = self.lanes.len();
-            tell(&mut self.told, &self.homes, parts, telling, count);
-            count_told(
+            count_telling(
                 &mut self.lanes,
                 &mut self.taking,
-                &mut self.told,
+                &self.homes,
                 parts,
+                telling,
                 landings,
                 cycle,
             );

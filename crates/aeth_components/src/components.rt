@@ -172,13 +172,7 @@ impl Components {
         requires { from ≤ to }
         ensures { IsFirst (HasSender self.now.parts) from to result }
     {
-        next_among(
-            &self.parts,
-            &self.turns.injecting,
-            self.turns.ends.interfaces,
-            from,
-            to,
-        )
+        next_among(&self.parts, &self.turns.injecting, from, to)
     }
 
     /// The first channel from `from` on whose receiver may take words as it stands: of those before it
@@ -341,13 +335,5 @@ fn run<L: Ledger>(
     channels.refill(handing, parts, cycle);
     drive(parts, turns, cycle, wires, handing, steps);
     channels.take(parts, cycle);
-    land(
-        parts,
-        &turns.ends,
-        &mut turns.telling,
-        &mut turns.spare,
-        wires,
-        flits,
-        steps,
-    );
+    land(parts, turns, wires, flits, steps);
 }

@@ -1,18 +1,19 @@
-// What is counted behind a cycle: the words that have landed, and the flits on links.
+// What is counted behind a cycle: the words that have landed.
 
-ghost use Rattle.std.specs.Prelude.{◌≡◌, ◌<◌, ◌≤◌, ◌+◌, ◌^◌, ℕ, All, List, None, Some, false, fold};
-ghost use Rattle.std.specs.Prelude.{length, map, slice_get, take};
+ghost use Rattle.std.specs.Prelude.{◌≡◌, ◌<◌, ◌≤◌, ◌+◌, ◌^◌, ◌==◌, ℕ, All, List, None, Some};
+ghost use Rattle.std.specs.Prelude.{false, fold, length, map, slice_get, take, true};
+ghost use Rattle.aeth_base.specs.Marks.{bit_of};
 ghost use Rattle.aeth_components.specs.Busy.{AreMarked, TakesNothing};
-ghost use Rattle.aeth_base.specs.Marks.{room_of};
 ghost use Rattle.aeth_components.specs.Channels.{OfLane};
-ghost use Rattle.aeth_components.specs.Counting.{brings, counted, flits_counted, noted};
-ghost use Rattle.aeth_components.specs.Counting.{written_over};
+ghost use Rattle.aeth_components.specs.Counting.{counted, counted_among, noted};
+ghost use Rattle.aeth_components.specs.Counting.{noted_among, written_over};
+ghost use Rattle.aeth_components.specs.Homes.{AreBrought, AreHomes};
 ghost use Rattle.aeth_components.specs.Lanes.{IsLane, with_lane};
 
+use crate::homes::{Homes, channel_of};
 use crate::lane::Lane;
 use crate::parts::{brought, is_silent};
-use aeth_base::{LinkId, Marks};
-use aeth_clocked::Wires;
+use aeth_base::Marks;
 use aeth_router::Part;
 
 // Counts what has landed of one channel, and tells whether any has.
@@ -64,31 +65,59 @@ fn count_at(
     }
 }
 
-// Counts what has landed of the marked channels, where no words come to any other. None is marked
-// behind it.
-pub(crate) fn count_told(
+// Counts what has landed of the channels that receive at one interface.
+fn count_received(
     lanes: &mut [Lane],
     taking: &mut Marks,
-    told: &mut Marks,
+    homes: &Homes,
     parts: &[Part],
+    number: usize,
     landings: &mut [u32],
     cycle: u32,
 )
     requires cycle { cycle + 1 < 2 ^ 32 }
-    requires few { length lanes.old < 2 ^ 63 }
+    requires number { number < length parts.now }
+    requires few { length parts.now < 2 ^ 32 }
     requires lanes { All (IsLane (length landings.old) (length parts.now)) lanes.old }
+    requires homes { AreHomes homes.now lanes.old }
+    requires apart { homes.now.is_apart ≡ true }
     requires taking { AreMarked TakesNothing taking.old lanes.old }
-    requires told { AreMarked (λ lane. brings parts.now lane ≡ 0) told.old lanes.old }
+    ensures lanes { lanes.new
+        ≡ map (counted_among (λ i. i == number) cycle parts.now) lanes.old }
+    ensures landings { landings.new
+        ≡ fold (noted_among (λ i. i == number) cycle parts.now) landings.old lanes.old }
+    ensures taking { AreMarked TakesNothing taking.new lanes.new }
+{
+    if let Some(channel) = channel_of(homes, lanes, &parts[number], number as u32) {
+        count_at(lanes, taking, parts, channel, landings, cycle);
+    }
+}
+
+// Counts what has landed of the channels that receive at the marked interfaces, where words came to
+// no other.
+pub(crate) fn count_telling(
+    lanes: &mut [Lane],
+    taking: &mut Marks,
+    homes: &Homes,
+    parts: &[Part],
+    telling: &Marks,
+    landings: &mut [u32],
+    cycle: u32,
+)
+    requires cycle { cycle + 1 < 2 ^ 32 }
+    requires below { (number : ℕ) → bit_of telling.now number ≡ 1 → number < length parts.now }
+    requires few { length parts.now < 2 ^ 32 }
+    requires brought { AreBrought parts.now telling.now }
+    requires lanes { All (IsLane (length landings.old) (length parts.now)) lanes.old }
+    requires homes { AreHomes homes.now lanes.old }
+    requires apart { homes.now.is_apart ≡ true }
+    requires taking { AreMarked TakesNothing taking.old lanes.old }
     ensures lanes { lanes.new ≡ map (counted cycle parts.now) lanes.old }
     ensures landings { landings.new ≡ fold (noted cycle parts.now) landings.old lanes.old }
     ensures taking { AreMarked TakesNothing taking.new lanes.new }
-    ensures room { room_of told.new ≡ room_of told.old }
 {
-    let mut number = told.next(0, lanes.len());
-    'turns: while number < lanes.len() {
-        count_at(lanes, taking, parts, number, landings, cycle);
-        told.unmark(number);
-        number = told.next(number + 1, lanes.len());
+    for number in telling.iter() {
+        count_received(lanes, taking, homes, parts, number, landings, cycle);
     }
 }
 
@@ -99,18 +128,5 @@ fn note(landings: &mut [u32], from: usize, count: u32, cycle: u32)
 {
     for place in 0..count as usize {
         landings[from + place] = cycle;
-    }
-}
-
-// Counts one flit more of each link whose first wire carries one.
-pub(crate) fn tally(flits: &mut [u32], wires: &Wires)
-    requires wires { length flits.old ≤ length wires.now }
-    requires few { length flits.old < 2 ^ 32 }
-    ensures { flits.new ≡ flits_counted wires.now flits.old }
-{
-    for link in wires.used() {
-        if link < flits.len() {
-            flits[link] = flits[link].saturating_add(1);
-        }
     }
 }

@@ -52,8 +52,7 @@ pub(crate) fn drive<L: Ledger>(
     pass_on(parts, &turns.ends, wires, cycle, &mut turns.onward, steps);
     turns.onward.settle(wires);
     let injecting = turns.injecting.at(cycle);
-    let interfaces = turns.ends.interfaces;
-    inject(parts, injecting, interfaces, cycle, wires, handing, steps);
+    inject(parts, injecting, cycle, wires, handing, steps);
 }
 
 // Passes on what is on the wires that end at routers and stages, and counts a step for each flit of it.

@@ -48,7 +48,7 @@ impl Handing {
         } else if lane.is_open(cycle) {
             let place = place_of(lane.sender.ni.0, lane.sender.queue);
             let is_own = self.numbers[place] == number;
-            if is_own || self.waiting.next(place, place + 1) > place {
+            if is_own || !self.waiting.has(place) {
                 self.waiting.mark(place);
                 self.numbers[place] = number;
                 self.marks.unmark(number);

@@ -1,14 +1,13 @@
 // Which channel the words are of that land in a queue.
 
-ghost use Rattle.std.specs.Prelude.{◌≡◌, ◌≤◌, ◌<◌, ◌^◌, ℕ, IfOk, List, Some, length, slice_get};
-ghost use Rattle.std.specs.Prelude.{slice_set, true};
-ghost use Rattle.aeth_base.specs.Marks.{bit_of, room_of};
-ghost use Rattle.aeth_components.specs.Homes.{AreHomes, AreTold, home_at, home_count};
+ghost use Rattle.std.specs.Prelude.{◌≡◌, ◌≤◌, ◌<◌, ◌^◌, ℕ, IfOk, IfSome, List, Some, length};
+ghost use Rattle.std.specs.Prelude.{slice_get, slice_set, true};
+ghost use Rattle.aeth_components.specs.Channels.{OfLane};
+ghost use Rattle.aeth_components.specs.Homes.{AreHomes, home_at, home_count};
 ghost use Rattle.aeth_components.specs.Queues.{brought_by};
-ghost use Rattle.aeth_components.specs.Turns.{StayMarked};
 
 use crate::lane::Lane;
-use aeth_base::{Marks, NoMemory};
+use aeth_base::NoMemory;
 use aeth_router::Part;
 use std::alloc::Global;
 
@@ -88,36 +87,24 @@ fn come_to(numbers: &mut [usize], place: usize, number: usize) -> bool
     numbers[place] == number
 }
 
-// Marks of so many channels those of which the marked components got words by their last flits.
-pub(crate) fn tell(told: &mut Marks, homes: &Homes, parts: &[Part], telling: &Marks, count: usize)
-    requires size { length homes.now.numbers.items ≡ home_count }
-    requires below { (number : ℕ) → bit_of telling.now number ≡ 1 → number < length parts.now }
-    requires few { length parts.now < 2 ^ 32 }
-    requires room { count < room_of told.old }
-    ensures room { room_of told.new ≡ room_of told.old }
-    ensures told { AreTold homes.now.numbers.items parts.now telling.now count told.new }
+// A channel that receives at an interface: the one of which the last flit there brought words, if it
+// brought any of one. A place may name a channel that receives elsewhere by now.
+pub(crate) fn channel_of(homes: &Homes, lanes: &[Lane], part: &Part, number: u32) -> Option<usize>
+    requires homes { AreHomes homes.now lanes.now }
+    requires apart { homes.now.is_apart ≡ true }
+    ensures within { IfSome result (λ channel. channel < length lanes.now) }
+    ensures at { IfSome result
+        (λ channel. OfLane lanes.now channel (λ lane. lane.receiver.ni.0 ≡ number)) }
+    ensures own { (channel : ℕ) (lane : Lane) → slice_get lanes.now channel ≡ Some lane
+        → lane.receiver.ni.0 ≡ number → lane.landed < lane.accepted
+        → 0 < brought_by lane.receiver.queue part.now → result ≡ Some channel }
 {
-    for number in telling.iter() {
-        tell_one(told, homes, &parts[number], number as u32, count);
+    let queue = told_queue(part)?;
+    let channel = homes.numbers[place_of(number, queue)];
+    if channel < lanes.len() && lanes[channel].receiver.ni.0 == number {
+        return Some(channel);
     }
-}
-
-// Marks the channel to which the last flit of one component may have brought words.
-fn tell_one(told: &mut Marks, homes: &Homes, part: &Part, number: u32, count: usize)
-    requires size { length homes.now.numbers.items ≡ home_count }
-    requires room { count < room_of told.old }
-    ensures room { room_of told.new ≡ room_of told.old }
-    ensures kept { StayMarked told.old told.new }
-    ensures own { (queue channel : ℕ) → 0 < brought_by queue part.now
-        → slice_get homes.now.numbers.items (home_at number queue) ≡ Some channel
-        → channel < count → bit_of told.new channel ≡ 1 }
-{
-    if let Some(queue) = told_queue(part) {
-        let channel = homes.numbers[place_of(number, queue)];
-        if channel < count {
-            told.mark(channel);
-        }
-    }
+    None
 }
 
 // The queue to which the last flit brought words, if to any.

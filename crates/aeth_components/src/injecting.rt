@@ -1,15 +1,10 @@
 // Which interfaces may inject in a slot, and marks of those that do.
 
-ghost use Rattle.std.specs.Prelude.{◌≡◌, ◌≢◌, ◌<◌, ◌≤◌, ◌+◌, ◌%◌, ℕ, All, IfOk, IsTrue, None, Some, count_by};
-ghost use Rattle.std.specs.Prelude.{false, length, map, slice_get, true};
+ghost use Rattle.std.specs.Prelude.{◌≡◌, ◌<◌, ◌≤◌, ◌+◌, ◌%◌, ◌^◌, ℕ, All, IfOk, count_by, length, map};
 ghost use Rattle.aeth_base.specs.Marks.{bit_of, room_of};
 ghost use Rattle.aeth_ni.specs.Writes.{addressee};
-ghost use Rattle.aeth_clocked.specs.Wires.{flit_on};
-ghost use Rattle.aeth_router.specs.Part.{outputs_of};
-ghost use Rattle.aeth_router.specs.declared.part.Part.{Part as PartState};
-ghost use Rattle.aeth_components.specs.Ends.{is_interface};
 ghost use Rattle.aeth_components.specs.Events.{event_part};
-ghost use Rattle.aeth_components.specs.Frames.{Frame, IsWired, frame_of};
+ghost use Rattle.aeth_components.specs.Frames.{IsWired, frame_of};
 ghost use Rattle.aeth_components.specs.Handing.{HasWaitingPlaces, Wakes};
 ghost use Rattle.aeth_components.specs.Injecting.{NotesWrite, marks_at};
 ghost use Rattle.aeth_components.specs.Seen.{interfaces_driven};
@@ -89,43 +84,33 @@ impl Injecting {
     }
 }
 
-// Each of the interfaces, which are the first so many components, that sends something of its own in a
-// cycle drives it, and the channels that wait for room there may hand words on. Each that sends is
-// marked to have an entry for the slot, and others are passed over. It counts a step for each that sends.
+// Each interface that sends something of its own in a cycle drives it, and the channels that wait for
+// room there may hand words on. Each that sends is marked to have an entry for the slot, and others are
+// passed over. It counts a step for each that sends.
 pub(crate) fn inject<L: Ledger>(
     parts: &mut [Part],
     injecting: &Marks,
-    interfaces: u32,
     cycle: u32,
     wires: &mut Wires,
     handing: &mut Handing,
     steps: &mut Steps<L>,
 )
-    requires within { interfaces ≤ length parts.old }
-    requires room { interfaces < room_of injecting.now }
-    requires senders { AreSendersMarked cycle interfaces parts.old injecting.now }
+    requires few { length parts.old < 2 ^ 32 }
+    requires below { (number : ℕ) → bit_of injecting.now number ≡ 1 → number < length parts.old }
+    requires senders { AreSendersMarked cycle parts.old injecting.now }
     requires wired { IsWired (map frame_of parts.old) (length wires.old) }
-    requires first { (number : ℕ) (frame : Frame) → slice_get (map frame_of parts.old) number ≡ Some frame
-        → number < interfaces → is_interface frame ≡ true }
-    requires others { (number : ℕ) (frame : Frame) → slice_get (map frame_of parts.old) number ≡ Some frame
-        → interfaces ≤ number → is_interface frame ≡ false }
-    requires empty { (number wire : ℕ) (part : PartState) → slice_get parts.old number ≡ Some part
-        → number < interfaces → outputs_of part wire ≡ true → flit_on wires.old wire ≡ None }
     requires waiting { HasWaitingPlaces handing.old }
     ensures parts { parts.new ≡ interfaces_driven cycle parts.old }
-    ensures wires { Injects cycle interfaces parts.old wires.old wires.new }
+    ensures wires { Injects cycle parts.old wires.old wires.new }
     ensures handing { Wakes (IsSending cycle parts.old) handing.old handing.new }
     ensures steps { steps.new ≤ steps.old + count_by (sends_in cycle) parts.old }
 {
-    let end = interfaces as usize;
-    let mut number = injecting.next(0, end);
-    'interfaces: while number < end {
+    for number in injecting.iter() {
         if sends_own(&parts[number], cycle) {
             let part = &mut parts[number];
             part.drive(u64::from(cycle), wires);
             handing.wake(number as u32);
             steps.tick();
         }
-        number = injecting.next(number + 1, end);
     }
 }

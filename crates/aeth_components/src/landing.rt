@@ -16,6 +16,7 @@ ghost use Rattle.aeth_ni.specs.Queue.{capped};
 ghost use Rattle.aeth_router.specs.Part.{inputs_of};
 
 use crate::ends::Ends;
+use crate::turns::Turns;
 use aeth_base::{Marks, Steps};
 use aeth_clocked::{Clocked, Wires};
 use aeth_router::Part;
@@ -25,30 +26,40 @@ use std::sync::ledger::Ledger;
 // Marked are before it those that tell of one, and behind it those to which one came.
 pub(crate) fn land<L: Ledger>(
     parts: &mut [Part],
-    ends: &Ends,
-    telling: &mut Marks,
-    spare: &mut Marks,
+    turns: &mut Turns,
     wires: &Wires,
     flits: &mut [u32],
     steps: &mut Steps<L>,
 )
     requires wired { IsWired (map frame_of parts.old) (length wires.now) }
-    requires ends { AreEnds (map frame_of parts.old) (length wires.now) ends.now }
-    requires telling { AreTelling ends.now.interfaces (map last_of parts.old) telling.old }
-    requires room { ends.now.parts < room_of telling.old }
-    requires spare_room { ends.now.parts < room_of spare.old }
-    requires spare { (number : ℕ) → bit_of spare.old number ≡ 0 }
+    requires ends { AreEnds (map frame_of parts.old) (length wires.now) turns.old.ends }
+    requires telling { AreTelling turns.old.ends.interfaces (map last_of parts.old)
+        turns.old.telling }
+    requires room { turns.old.ends.interfaces < room_of turns.old.telling }
+    requires spare_room { turns.old.ends.interfaces < room_of turns.old.spare }
+    requires spare { (number : ℕ) → bit_of turns.old.spare number ≡ 0 }
     requires flits { length flits.old ≤ length wires.now }
     ensures parts { parts.new ≡ interfaces_latched wires.now parts.old }
-    ensures telling { AreTelling ends.now.interfaces (map last_of parts.new) telling.new }
-    ensures few { marks_below telling.new ends.now.parts ≤ flits_on wires.now }
-    ensures room { ends.now.parts < room_of telling.new }
-    ensures spare_room { ends.now.parts < room_of spare.new }
-    ensures spare { (number : ℕ) → bit_of spare.new number ≡ 0 }
+    ensures turns { turns.new ≡ record turns.old {
+      telling = turns.new.telling;
+      spare = turns.new.spare;
+    } }
+    ensures telling { AreTelling turns.old.ends.interfaces (map last_of parts.new)
+        turns.new.telling }
+    ensures few { marks_below turns.new.telling turns.old.ends.parts ≤ flits_on wires.now }
+    ensures room { turns.old.ends.interfaces < room_of turns.new.telling }
+    ensures spare_room { turns.old.ends.interfaces < room_of turns.new.spare }
+    ensures spare { (number : ℕ) → bit_of turns.new.spare number ≡ 0 }
     ensures flits { flits.new ≡ flits_counted wires.now flits.old }
-    ensures steps { steps.new
-        ≤ steps.old + marks_below telling.old ends.now.parts + flits_on wires.now }
+    ensures steps { steps.new ≤ steps.old + marks_below turns.old.telling turns.old.ends.parts
+        + flits_on wires.now }
 {
+    let Turns {
+        ends,
+        telling,
+        spare,
+        ..
+    } = turns;
     mark_told(telling, spare, ends, wires, flits);
     latch(parts, telling, wires, steps);
     std::mem::swap(telling, spare);
@@ -94,7 +105,6 @@ fn count_flit(flits: &mut [u32], wire: usize)
 fn latch<L: Ledger>(parts: &mut [Part], marks: &Marks, wires: &Wires, steps: &mut Steps<L>)
     requires links { All (λ part. AreLinks (inputs_of part) (length wires.now)) parts.old }
     requires few { length parts.old < 2 ^ 32 }
-    requires room { length parts.old ≤ room_of marks.now }
     requires marked { (number : ℕ) → bit_of marks.now number ≡ 1 → number < length parts.old }
     requires rest { (number : ℕ) (part : Part) → slice_get parts.old number ≡ Some part
         → bit_of marks.now number ≡ 0

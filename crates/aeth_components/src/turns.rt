@@ -42,13 +42,13 @@ impl Turns {
     {
         let slots = chip.slots();
         let ends = Ends::of(alloc, chip)?;
-        let count = ends.parts as usize;
+        let interfaces = ends.interfaces as usize;
         let injecting = Injecting::none(alloc, slots, ends.parts)?;
         Ok(Turns {
             ends,
             injecting,
-            telling: Marks::none(alloc, count)?,
-            spare: Marks::none(alloc, count)?,
+            telling: Marks::none(alloc, interfaces)?,
+            spare: Marks::none(alloc, interfaces)?,
             onward: Onward::new(alloc, chip.wires())?,
         })
     }

@@ -179,7 +179,7 @@ fn put_fresh(alloc: Global, chip: &Chip, pair: &mut Components, by_table: bool) 
 fn empty_wire(pair: &mut Components) -> bool
     ensures { frames_of pair.new ≡ frames_of pair.old }
 {
-    let count = pair.parts.len();
+    let count = pair.turns.ends.interfaces as usize;
     if pair.turns.telling.next(0, count) < count {
         return false;
     }

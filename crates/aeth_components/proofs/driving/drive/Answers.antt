@@ -1,15 +1,14 @@
-use Rattle.std.proofs.Common.{◌≡◌, ◌∙◌, ap, arith, length, List, map, subst, sym, ℕ}
+use Rattle.std.proofs.Common.{◌≡◌, ◌∙◌, ap, arith, length, sym}
 use Rattle.std.proofs.lemmas.List.{length-map}
-use Rattle.aeth_base.specs.Marks.{bit_of, room_of}
 use Rattle.aeth_router.specs.Onward.{carried}
 use Rattle.aeth_components.proofs.driving.drive.Given as given
 use Rattle.aeth_components.proofs.driving.drive.Goals as goal
 use Rattle.aeth_components.proofs.driving.drive.Goals.{After-settle}
-use Rattle.aeth_components.proofs.DriveLemmas.{empty-outputs, sending-seen, wires-driven}
-use Rattle.aeth_components.proofs.InjectingLemmas.{AreInjecting-sends, marks-room}
+use Rattle.aeth_components.proofs.DriveLemmas.{sending-seen, wires-driven}
+use Rattle.aeth_components.proofs.InjectingLemmas.{AreInjecting-below, AreInjecting-sends}
 use Rattle.aeth_components.proofs.SeenLemmas.{frames-seen}
 use Rattle.aeth_components.proofs.SendingLemmas.{sending-few}
-use Rattle.aeth_components.specs.Frames.{Frame, IsWired, frame_of}
+use Rattle.aeth_components.specs.Frames.{frame_of}
 use Rattle.aeth_components.specs.Seen.{all_seen}
 use Rattle.aeth_components.specs.Turns.{flits_on}
 
@@ -22,40 +21,28 @@ sized g c =
 pub settle-requires : goal.settle-requires
 settle-requires g c = sym c.pass_on.ensures.size
 
--- The interfaces are components, and have marks.
-pub inject-requires-clause-within : goal.inject-requires-clause-within
-inject-requires-clause-within g c =
-    let few = c.requires.ready.ends.fits.interfaces in
+-- Just components are marked.
+pub inject-requires-clause-few : goal.inject-requires-clause-few
+inject-requires-clause-few g c =
+    let few = c.requires.ready.ends.fits.few_parts in
     let count = c.requires.ready.ends.count ∙ length-map c.args.parts.now frame_of in
     omega (arith, few, count)
 
-pub inject-requires-clause-room : goal.inject-requires-clause-room
-inject-requires-clause-room g c =
-    let few = c.requires.ready.ends.fits.interfaces in
-    let count = c.requires.ready.ends.count ∙ length-map c.args.parts.now frame_of in
-    let room = marks-room c.args.cycle c.args.parts.now c.args.turns.now.injecting.slots.items
-    c.requires.injecting in
-    let same = ap room_of c.at-injecting.ensures in
-    omega (arith, few, count, room, same)
+pub inject-requires-clause-below : goal.inject-requires-clause-below
+inject-requires-clause-below g c = λ number bit.
+    AreInjecting-below c.args.cycle c.args.parts.now c.args.turns.now.injecting.slots.items
+    c.requires.injecting number (rw c.at-injecting.ensures at bit)
 
 -- An interface that sends has an entry for the slot of the cycle, so it is marked there.
 pub inject-requires-clause-senders : goal.inject-requires-clause-senders
-inject-requires-clause-senders g c = λ number part below at sends.
-    ap (λ (marks : List ℕ). bit_of marks number) c.at-injecting.ensures
-    ∙ AreInjecting-sends c.args.cycle c.args.parts.now c.args.turns.now.injecting.slots.items
-    c.requires.injecting number part at sends
+inject-requires-clause-senders g c =
+    rw c.at-injecting.ensures
+    (AreInjecting-sends c.args.cycle c.args.parts.now c.args.turns.now.injecting.slots.items
+    c.requires.injecting)
 
 pub inject-requires-clause-wired : goal.inject-requires-clause-wired
 inject-requires-clause-wired g c =
-    subst (IsWired (map frame_of c.args.parts.now))
-    (sym (sized g ((goal.at.inject-requires-clause-wired g c).After-settle))) c.requires.wired
-
--- Nothing was passed on to what interfaces send on.
-pub inject-requires-clause-empty : goal.inject-requires-clause-empty
-inject-requires-clause-empty g c = λ number wire part at below own.
-    empty-outputs c.args.parts.now c.args.wires.now c.args.turns.now.ends c.args.cycle c.requires.wired
-    c.requires.ready.ends c.pass_on.new.onward c.pass_on.ensures.size c.pass_on.ensures.came
-    c.settle.new.wires c.settle.ensures.wires number wire part at below own
+    rw (sized g ((goal.at.inject-requires-clause-wired g c).After-settle)) c.requires.wired
 
 -- On the wires is what all components drive, seen with what they hold.
 pub returns-clause-wires : goal.returns-clause-wires
@@ -70,8 +57,7 @@ returns-clause-steps g c =
     let parts = c.args.parts.now in
     let wires = c.args.wires.now in
     let sending = sending-few c.args.cycle (length wires) (all_seen wires parts)
-    (subst (λ (frames : List Frame). IsWired frames (length wires)) (sym (frames-seen wires parts))
-    c.requires.wired) in
+    (rw (frames-seen wires parts) c.requires.wired) in
     let seen = sending-seen wires c.args.cycle parts in
     let driven = ap flits_on (returns-clause-wires g c) in
     omega (arith, sending, seen, driven, c.pass_on.ensures.steps, c.inject.ensures.steps)

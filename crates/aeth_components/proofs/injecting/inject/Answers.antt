@@ -1,105 +1,133 @@
-use Rattle.std.proofs.Common.{◌≡◌, ◌+◌, ◌∙◌, ap, arith, get_or, inl, inr, Some, slice_get, subst}
-use Rattle.std.proofs.Common.{length, sym}
-use Rattle.std.proofs.lemmas.Bool.{cases_eq}
+use Rattle.std.proofs.Common.{◌≡◌, ◌<◌, ◌+◌, ◌∙◌, ap, arith, get_or, length, Some, slice_get, sym}
 use Rattle.std.proofs.lemmas.Option.{same_Some}
-use Rattle.aeth_clocked.specs.Wires.{Drives}
-use Rattle.aeth_router.specs.Part.{after_of, emit_of, outputs_of}
+use Rattle.aeth_router.specs.Part.{after_of}
 use Rattle.aeth_router.specs.declared.part.Part.{Part}
 use Rattle.aeth_components.specs.Turns.{sends_own}
-use Rattle.aeth_components.proofs.InjectLemmas.{InjectedTo-first, InjectedTo-more}
+use Rattle.aeth_components.proofs.InjectLemmas.{InjectedTo, InjectedTo-first, InjectedTo-more}
 use Rattle.aeth_components.proofs.InjectLemmas.{InjectedTo-next, InjectedTo-parts, InjectedTo-until}
-use Rattle.aeth_components.proofs.InjectLemmas.{InjectedTo-woken}
+use Rattle.aeth_components.proofs.InjectLemmas.{InjectedTo-wires, InjectedTo-woken}
+use Rattle.aeth_components.proofs.MarkLemmas.{NextMarked, next-marked}
 use Rattle.aeth_components.proofs.OwnLemmas.{mute-passed, output-below}
+use Rattle.aeth_components.proofs.injecting.inject.Given as given
 use Rattle.aeth_components.proofs.injecting.inject.Goals as goal
-use Rattle.aeth_components.proofs.injecting.inject.Goals.{else-sends_own, then-sends_own}
+use Rattle.aeth_components.proofs.injecting.inject.Goals.{After-sends_own, In-Some}
 
--- None of those before the first that may inject sends.
-pub interfaces-init : goal.interfaces-init
-interfaces-init g c =
-    let next = c.next-number.ensures in
-    let parts = c.args.parts.now in
-    record {
-      within = next.end;
-      injected = InjectedTo-until
-          (InjectedTo-first c.args.cycle parts c.args.wires.now c.args.handing.now c.args.steps.now
-          c.requires.waiting) c.args.interfaces c.next-number.result next.from next.end
-          c.requires.first c.requires.empty
-          (mute-passed c.args.cycle c.args.interfaces parts c.args.injecting.now 0
-          c.next-number.result next.end c.requires.senders next.none);
-    }
+-- None has driven yet.
+pub loop-number-init : goal.loop-number-init
+loop-number-init g c = record {
+  from = 0;
+  left = c.into_iter-number-iterator.ensures.into_iter_gives ∙ c.iter-number-items.ensures;
+  injected = InjectedTo-first c.args.cycle c.args.parts.now c.args.wires.now c.args.handing.now
+      c.args.steps.now c.requires.waiting;
+}
 
--- The outputs of the next are wires.
+-- The next marked number is that of a component.
+next : (g : given.Over) (c : goal.In-Some g)
+    → NextMarked c.args.injecting.now c.loop-number.invariant.from c.in-Some.number c.next.new.self
+next g c = next-marked (sym c.loop-number.invariant.left ∙ c.in-Some.ensures.steps)
+
+within : (g : given.Over) (c : goal.In-Some g) → c.in-Some.number < length c.args.parts.now
+within g c = c.requires.below c.in-Some.number (next g c).is
+
+-- None of those up to it sends.
+upto : (g : given.Over) (c : goal.In-Some g) → InjectedTo c.args.cycle c.args.parts.now
+    c.args.wires.now c.args.handing.now c.args.steps.now c.in-Some.number c.loop-number.parts
+    c.loop-number.wires c.loop-number.handing c.loop-number.steps
+upto g c =
+    InjectedTo-until c.loop-number.invariant.injected c.in-Some.number (next g c).after
+    (mute-passed c.args.cycle c.args.parts.now c.args.injecting.now c.requires.senders (next g c))
+
+pub offset_bounds-parts-number : goal.offset_bounds-parts-number
+offset_bounds-parts-number g c =
+    omega (arith, within g ((goal.at.offset_bounds-parts-number g c).In-Some), c.requires.few)
+
+pub bounds-parts-number : goal.bounds-parts-number
+bounds-parts-number g c =
+    rw c.loop-number.auto.parts (within g ((goal.at.bounds-parts-number g c).In-Some))
+
+pub offset_bounds-parts-number-then-sends_own : goal.offset_bounds-parts-number-then-sends_own
+offset_bounds-parts-number-then-sends_own g c =
+    let some = (goal.at.offset_bounds-parts-number-then-sends_own g c).In-Some in
+    omega (arith, within g some, c.requires.few)
+
+pub bounds-parts-number-then-sends_own : goal.bounds-parts-number-then-sends_own
+bounds-parts-number-then-sends_own g c =
+    rw c.loop-number.auto.parts (within g ((goal.at.bounds-parts-number-then-sends_own g c).In-Some))
+
+pub overflow_cast-number : goal.overflow_cast-number
+overflow_cast-number g c =
+    omega (arith, within g ((goal.at.overflow_cast-number g c).In-Some), c.requires.few)
+
+-- Its outputs are wires.
 pub drive-requires : goal.drive-requires
-drive-requires g c =
-    let injected = c.interfaces.invariant.injected in
-    let test = c.interfaces-test.true in
-    let within = c.requires.within in
-    let size = injected.sent.size in
-    λ wire is.
-    let below = output-below c.args.parts.now (length c.args.wires.now) c.requires.wired
-    c.interfaces.number _
-    (InjectedTo-next injected c.index-parts-number-then-sends_own.result
-    (omega (arith, test, within))) wire is in
-    omega (arith, below, size)
+drive-requires g c = λ wire is.
+    let some = (goal.at.drive-requires g c).In-Some in
+    rw (upto g some).links (output-below c.args.parts.now (length c.args.wires.now) c.requires.wired
+    c.in-Some.number _
+    (InjectedTo-next (upto g some) c.index-parts-number-then-sends_own.result (within g some)) wire is)
 
--- One more, which drives what it sends, and those up to the next that may inject.
-pub interfaces-preserved : goal.interfaces-preserved
-interfaces-preserved g c =
-    let cycle = c.args.cycle in
-    let parts = c.args.parts.now in
-    let now = c.interfaces.parts in
-    let number = c.interfaces.number in
-    let injected = c.interfaces.invariant.injected in
-    let test = c.interfaces-test.true in
-    let within = c.requires.within in
-    let next = c.next-number-in-interfaces in
-    let after = next.ensures.from in
-    let end = next.ensures.end in
-    let mute = mute-passed cycle c.args.interfaces parts c.args.injecting.now (number + 1) next.result
-    end c.requires.senders next.ensures.none in
-    let at : (read : Part) → slice_get parts number ≡ Some (get_or now number read) =
-    λ read. InjectedTo-next injected read (omega (arith, test, within)) in
-    let asked : (part : Part) → slice_get parts number ≡ Some part
-    → sends_own cycle part ≡ c.sends_own.result =
-    λ part there. let read = c.index-parts-number.result in
-    ap (sends_own cycle) (same_Some part (get_or now number read) (sym there ∙ at read))
-    ∙ sym c.sends_own.ensures in
+-- It was asked as it was before.
+asked : (g : given.Over) (c : goal.After-sends_own g) (part : Part)
+    → slice_get c.args.parts.now c.in-Some.number ≡ Some part
+    → sends_own c.args.cycle part ≡ c.sends_own.result
+asked g c part there =
+    let read = c.index-parts-number.result in
+    let some = (goal.at-After-sends_own g c).In-Some in
+    ap (sends_own c.args.cycle)
+    (same_Some part (get_or c.loop-number.parts c.in-Some.number read)
+    (sym there ∙ InjectedTo-next (upto g some) read (within g some)))
+    ∙ sym c.sends_own.ensures
+
+-- One more, which drives what it sends.
+pub loop-number-preserved-then-sends_own : goal.loop-number-preserved-then-sends_own
+loop-number-preserved-then-sends_own g c =
+    let number = c.in-Some.number in
+    let some = (goal.at.loop-number-preserved-then-sends_own g c).In-Some in
+    let after = (goal.at.loop-number-preserved-then-sends_own g c).After-sends_own in
+    let injected = upto g some in
+    let read = c.index-parts-number-then-sends_own.result in
+    let part = get_or c.loop-number.parts number read in
+    let at = InjectedTo-next injected read (within g some) in
     record {
-      within = end;
-      injected = elim c.if-sends_own.branch [
-        | then-sends_own w ↦
-            let read = w.index-parts-number-then-sends_own.result in
-            let part = get_or now number read in
-            rw (w.parts-is, w.wires-is, w.handing-is, w.steps-is)
-            (InjectedTo-until
-            (InjectedTo-more injected c.requires.wired (at read)
-            (asked part (at read) ∙ w.if-sends_own.true)
-            (w.drive.ensures.after ∙ ap (after_of part) w.from.ensures)
-            (subst (λ n. Drives (outputs_of part) (emit_of part n) c.interfaces.wires w.drive.new.wires)
-            w.from.ensures w.drive.ensures.wires) w.wake.ensures w.tick.ensures)
-            c.args.interfaces next.result after end c.requires.first c.requires.empty mute)
-        | else-sends_own w ↦
-            rw (w.parts-is, w.wires-is, w.handing-is, w.steps-is)
-            (InjectedTo-until injected c.args.interfaces next.result (omega (arith, after)) end
-            c.requires.first c.requires.empty
-            (λ other part there over below. elim (cases_eq other number) [
-              | inl same ↦
-                  asked part (sym (ap (slice_get parts) same) ∙ there) ∙ w.if-sends_own.false
-              | inr apart ↦ mute other part there (omega (arith, over, apart)) below
-            ]))
-      ];
+      from = number + 1;
+      left = (next g some).behind;
+      injected = InjectedTo-more injected c.requires.wired at
+          (asked g after part at ∙ c.if-sends_own.true)
+          (c.drive.ensures.after ∙ ap (after_of part) c.from.ensures)
+          (rw c.from.ensures at c.drive.ensures.wires) c.wake.ensures c.tick.ensures;
     }
 
--- All interfaces have, and no other component changes.
+-- One more, which sends nothing.
+pub loop-number-preserved : goal.loop-number-preserved
+loop-number-preserved g c =
+    let number = c.in-Some.number in
+    let some = (goal.at.loop-number-preserved g c).In-Some in
+    let after = (goal.at.loop-number-preserved g c).After-sends_own in
+    record {
+      from = number + 1;
+      left = (next g some).behind;
+      injected = InjectedTo-until (upto g some) (number + 1) (omega arith)
+          (λ other part there over below.
+          let same : other ≡ number = omega (arith, over, below) in
+          asked g after part (sym (ap (slice_get c.args.parts.now) same) ∙ there)
+          ∙ c.if-sends_own.false);
+    }
+
+-- All have, and no other component sends.
 pub returns-clause-parts : goal.returns-clause-parts
 returns-clause-parts g c =
-    let over = c.interfaces-test.false in
-    InjectedTo-parts c.interfaces.invariant.injected
-    (λ number frame at past. c.requires.others number frame at (omega (arith, past, over)))
+    let done = c.loop-number.invariant in
+    InjectedTo-parts done.injected c.args.injecting.now c.requires.senders
+    (sym done.left ∙ c.in-None.ensures.steps.0)
 
--- No other component sends, so who waits at one that does is woken.
+pub returns-clause-wires : goal.returns-clause-wires
+returns-clause-wires g c =
+    let done = c.loop-number.invariant in
+    InjectedTo-wires done.injected c.args.injecting.now c.requires.senders
+    (sym done.left ∙ c.in-None.ensures.steps.0)
+
 pub returns-clause-handing : goal.returns-clause-handing
 returns-clause-handing g c =
-    let over = c.interfaces-test.false in
-    InjectedTo-woken c.interfaces.invariant.injected
-    (λ number frame at past. c.requires.others number frame at (omega (arith, past, over)))
+    let done = c.loop-number.invariant in
+    InjectedTo-woken done.injected c.args.injecting.now c.requires.senders
+    (sym done.left ∙ c.in-None.ensures.steps.0)

@@ -12,20 +12,20 @@ latch-requires-clause-links g c =
 -- Who told of no flit, and to whom none comes, rests.
 pub latch-requires-clause-rest : goal.latch-requires-clause-rest
 latch-requires-clause-rest g c =
-    rests-unmarked c.args.parts.now c.args.wires.now c.args.ends.now c.requires.ends
-    c.args.telling.now c.mark_told.new.telling c.mark_told.ensures.telling c.requires.telling
+    rests-unmarked c.args.parts.now c.args.wires.now c.args.turns.now.ends c.requires.ends
+    c.args.turns.now.telling c.mark_told.new.telling c.mark_told.ensures.telling c.requires.telling
 
 -- Then those tell to whom one came.
 pub returns-clause-telling : goal.returns-clause-telling
 returns-clause-telling g c =
-    let ends = c.args.ends.now in
+    let ends = c.args.turns.now.ends in
     let latched = AreTelling-latched c.args.parts.now c.args.wires.now ends c.requires.ends
-    c.args.spare.now c.mark_told.new.spare c.mark_told.ensures.spare c.requires.spare in
+    c.args.turns.now.spare c.mark_told.new.spare c.mark_told.ensures.spare c.requires.spare in
     rw (c.swap.ensures.x_after, c.latch.ensures.parts) latched
 
 pub returns-clause-few : goal.returns-clause-few
 returns-clause-few g c =
-    let count = c.args.ends.now.parts in
-    let none = marks_below-none c.args.spare.now count (λ number below. c.requires.spare number) in
+    let count = c.args.turns.now.ends.parts in
+    let none = marks_below-none c.args.turns.now.spare count (λ number below. c.requires.spare number) in
     let few = c.mark_told.ensures.spare.few count in
     rw c.swap.ensures.x_after (omega (arith, none, few))

@@ -1,88 +1,67 @@
-use Rattle.std.proofs.Common.{◌≡◌, ◌+◌, ◌∙◌, arith, length, subst, sym}
-use Rattle.aeth_base.proofs.MarkedLemmas.{is_marked-one, next-passing}
-use Rattle.aeth_base.specs.Marks.{is_marked, room_of}
-use Rattle.aeth_clocked.specs.Wires.{AreLinks}
+use Rattle.std.proofs.Common.{◌≡◌, ◌<◌, ◌+◌, ◌∙◌, arith, length, map, sym}
 use Rattle.aeth_ni.specs.Component.{interface_absorb}
-use Rattle.aeth_router.specs.Part.{inputs_of}
-use Rattle.aeth_router.specs.declared.part.Part.{Part}
 use Rattle.aeth_components.specs.Changes.{on_interface}
-use Rattle.aeth_components.proofs.LandingLemmas.{TurnedTo-ahead, TurnedTo-all, TurnedTo-more}
-use Rattle.aeth_components.proofs.LandingLemmas.{TurnedTo-next}
+use Rattle.aeth_components.specs.Turns.{marks_below}
+use Rattle.aeth_components.proofs.LandingLemmas.{TurnedTo, TurnedTo-ahead, TurnedTo-all}
+use Rattle.aeth_components.proofs.LandingLemmas.{TurnedTo-more, TurnedTo-next}
+use Rattle.aeth_components.proofs.MarkLemmas.{NextMarked, next-marked}
+use Rattle.aeth_components.proofs.landing.latch.Given as given
 use Rattle.aeth_components.proofs.landing.latch.Goals as goal
+use Rattle.aeth_components.proofs.landing.latch.Goals.{In-None, In-Some}
 
--- A marked number is a component's.
+-- The next marked number is that of a component.
+next : (g : given.Over) (c : goal.In-Some g)
+    → NextMarked c.args.marks.now c.loop-number.invariant.from c.in-Some.number c.next.new.self
+next g c = next-marked (sym c.loop-number.invariant.left ∙ c.in-Some.ensures.steps)
+
+within : (g : given.Over) (c : goal.In-Some g) → c.in-Some.number < length c.args.parts.now
+within g c = c.requires.marked c.in-Some.number (next g c).is
+
+-- Those up to it rest.
+upto : (g : given.Over) (c : goal.In-Some g)
+    → TurnedTo (on_interface (λ ni. interface_absorb ni c.args.wires.now)) c.args.parts.now
+    c.args.marks.now c.args.steps.now c.loop-number.parts c.loop-number.steps c.in-Some.number
+upto g c = TurnedTo-next c.loop-number.invariant.turned c.requires.rest (next g c)
+
 pub offset_bounds-parts-number : goal.offset_bounds-parts-number
 offset_bounds-parts-number g c =
-    let marks = c.args.marks.now in
-    let next = next-passing (is_marked marks) c.loop-number.invariant.from (room_of marks)
-    c.in-Some.number c.next.new.self (sym c.loop-number.invariant.left ∙ c.in-Some.ensures.steps) in
-    let within = c.requires.marked c.in-Some.number (is_marked-one marks c.in-Some.number next.is) in
-    let few = c.requires.few in
-    omega (arith, within, few)
+    omega (arith, within g ((goal.at.offset_bounds-parts-number g c).In-Some), c.requires.few)
 
 pub bounds-parts-number : goal.bounds-parts-number
 bounds-parts-number g c =
-    let marks = c.args.marks.now in
-    let next = next-passing (is_marked marks) c.loop-number.invariant.from (room_of marks)
-    c.in-Some.number c.next.new.self (sym c.loop-number.invariant.left ∙ c.in-Some.ensures.steps) in
-    let within = c.requires.marked c.in-Some.number (is_marked-one marks c.in-Some.number next.is) in
-    let size : length c.loop-number.parts ≡ length c.args.parts.now = c.loop-number.auto.parts in
-    omega (arith, within, size)
+    rw c.loop-number.auto.parts (within g ((goal.at.bounds-parts-number g c).In-Some))
 
 -- It receives on wires, as before.
 pub latch_one-requires : goal.latch_one-requires
 latch_one-requires g c =
-    let wires = c.args.wires.now in
-    let marks = c.args.marks.now in
-    let number = c.in-Some.number in
-    let done = c.loop-number.invariant in
-    let next = next-passing (is_marked marks) done.from (room_of marks) number c.next.new.self
-    (sym done.left ∙ c.in-Some.ensures.steps) in
-    let within = c.requires.marked number (is_marked-one marks number next.is) in
-    let change = on_interface (λ ni. interface_absorb ni wires) in
-    let upto = TurnedTo-next change c.args.parts.now marks c.args.steps.now c.loop-number.parts
-    c.loop-number.steps done.from number c.next.new.self c.requires.rest next done.turned in
+    let some = (goal.at.latch_one-requires g c).In-Some in
     let default = c.index-parts-number.result in
-    subst (λ (part : Part). AreLinks (inputs_of part) (length wires))
-    (sym (TurnedTo-ahead change c.args.parts.now marks c.args.steps.now c.loop-number.parts
-    c.loop-number.steps number default within upto))
-    (c.requires.links number default within)
+    rw (TurnedTo-ahead (upto g some) default (within g some))
+    (c.requires.links c.in-Some.number default (within g some))
 
 -- One marked component more latches.
 pub loop-number-preserved : goal.loop-number-preserved
 loop-number-preserved g c =
-    let parts = c.args.parts.now in
-    let marks = c.args.marks.now in
-    let number = c.in-Some.number in
-    let done = c.loop-number.invariant in
-    let next = next-passing (is_marked marks) done.from (room_of marks) number c.next.new.self
-    (sym done.left ∙ c.in-Some.ensures.steps) in
-    let one = is_marked-one marks number next.is in
-    let within = c.requires.marked number one in
-    let change = on_interface (λ ni. interface_absorb ni c.args.wires.now) in
-    let upto = TurnedTo-next change parts marks c.args.steps.now c.loop-number.parts
-    c.loop-number.steps done.from number c.next.new.self c.requires.rest next done.turned in
-    let tick = c.tick.ensures in
+    let some = (goal.at.loop-number-preserved g c).In-Some in
+    let below = within g some in
     record {
-      from = number + 1;
-      left = next.behind;
-      within = omega (arith, within);
-      turned = rw tick (TurnedTo-more change parts marks c.args.steps.now c.loop-number.parts
-          c.loop-number.steps number c.index-parts-number.result c.latch_one.new.part within one upto
-          c.latch_one.ensures);
+      from = c.in-Some.number + 1;
+      left = (next g some).behind;
+      within = omega (arith, below);
+      turned = rw c.tick.ensures (TurnedTo-more (upto g some) c.index-parts-number.result
+          c.latch_one.new.part below (next g some).is c.latch_one.ensures);
     }
 
 -- All others rest.
-pub returns-clause-parts : goal.returns-clause-parts
-returns-clause-parts g c =
+all : (g : given.Over) (c : goal.In-None g) → (c.loop-number.parts
+    ≡ map (on_interface (λ ni. interface_absorb ni c.args.wires.now)) c.args.parts.now)
+    × (c.loop-number.steps ≡ c.args.steps.now + marks_below c.args.marks.now (length c.args.parts.now))
+all g c =
     let done = c.loop-number.invariant in
-    (TurnedTo-all (on_interface (λ ni. interface_absorb ni c.args.wires.now)) c.args.parts.now
-    c.args.marks.now c.args.steps.now c.loop-number.parts c.loop-number.steps done.from c.requires.rest
-    c.requires.room done.within (sym done.left ∙ c.in-None.ensures.steps.0) done.turned).0
+    TurnedTo-all done.turned c.requires.rest done.within (sym done.left ∙ c.in-None.ensures.steps.0)
+
+pub returns-clause-parts : goal.returns-clause-parts
+returns-clause-parts g c = (all g ((goal.at.returns-clause-parts g c).In-None)).0
 
 pub returns-clause-steps : goal.returns-clause-steps
-returns-clause-steps g c =
-    let done = c.loop-number.invariant in
-    (TurnedTo-all (on_interface (λ ni. interface_absorb ni c.args.wires.now)) c.args.parts.now
-    c.args.marks.now c.args.steps.now c.loop-number.parts c.loop-number.steps done.from c.requires.rest
-    c.requires.room done.within (sym done.left ∙ c.in-None.ensures.steps.0) done.turned).1
+returns-clause-steps g c = (all g ((goal.at.returns-clause-steps g c).In-None)).1

@@ -39,38 +39,21 @@ acts-pulled cycle = record {
 pub returns-clause-refilling : goal.returns-clause-refilling
 returns-clause-refilling c = λ words cycle moment. record {
   own = λ number lane at opened has alone.
-      let within = slice_get_within moment.lanes number lane at in
-      Done-turns (refilled words cycle) (λ s. is_open s cycle) (λ s. s.sender)
-      (λ s. filled (left_of words s)) (λ s. fits (left_of words s))
-      (λ s n. record s { handed = s.handed + n }) (acts-refilled words cycle)
-      (length moment.lanes) 0 moment number lane (omega arith) (omega arith) at opened has
-      alone;
-  closed = λ number lane there closed.
-      kept-turns (refilled words cycle) (λ s. is_open s cycle) (λ s. s.sender)
-      (λ s. filled (left_of words s)) (λ s. fits (left_of words s))
-      (λ s n. record s { handed = s.handed + n }) (acts-refilled words cycle)
-      (range_with_len 0 (length moment.lanes)) moment number lane there closed;
+      Done-turns (acts-refilled words cycle) (length moment.lanes) 0 moment number lane (omega arith)
+      (omega (arith, slice_get_within moment.lanes number lane at)) at opened has alone;
+  closed = kept-turns (acts-refilled words cycle) (range_with_len 0 (length moment.lanes)) moment;
   other = λ ni queue alone.
-      Stays-turns (refilled words cycle) (λ s. is_open s cycle) (λ s. s.sender)
-      (λ s. filled (left_of words s)) (λ s. fits (left_of words s))
-      (λ s n. record s { handed = s.handed + n }) (acts-refilled words cycle)
-      (length moment.lanes) 0 moment (length moment.lanes) ni queue (inr (omega arith)) alone;
+      Stays-turns (acts-refilled words cycle) (length moment.lanes) 0 moment (length moment.lanes) ni
+      queue (inr (omega arith)) alone;
 }
 
 pub returns-clause-taking : goal.returns-clause-taking
 returns-clause-taking c = λ cycle moment. record {
   own = λ number lane at opened has alone.
-      let within = slice_get_within moment.lanes number lane at in
-      Done-turns (pulled cycle) (λ s. is_open s cycle) (λ s. s.receiver) (λ s. drawn (asked_of s))
-      (λ s. draws (asked_of s)) (λ s n. record s { taken = s.taken + n }) (acts-pulled cycle)
-      (length moment.lanes) 0 moment number lane (omega arith) (omega arith) at opened has
-      alone;
-  closed = λ number lane there closed.
-      kept-turns (pulled cycle) (λ s. is_open s cycle) (λ s. s.receiver) (λ s. drawn (asked_of s))
-      (λ s. draws (asked_of s)) (λ s n. record s { taken = s.taken + n }) (acts-pulled cycle)
-      (range_with_len 0 (length moment.lanes)) moment number lane there closed;
+      Done-turns (acts-pulled cycle) (length moment.lanes) 0 moment number lane (omega arith)
+      (omega (arith, slice_get_within moment.lanes number lane at)) at opened has alone;
+  closed = kept-turns (acts-pulled cycle) (range_with_len 0 (length moment.lanes)) moment;
   other = λ ni queue alone.
-      Stays-turns (pulled cycle) (λ s. is_open s cycle) (λ s. s.receiver) (λ s. drawn (asked_of s))
-      (λ s. draws (asked_of s)) (λ s n. record s { taken = s.taken + n }) (acts-pulled cycle)
-      (length moment.lanes) 0 moment (length moment.lanes) ni queue (inr (omega arith)) alone;
+      Stays-turns (acts-pulled cycle) (length moment.lanes) 0 moment (length moment.lanes) ni queue
+      (inr (omega arith)) alone;
 }

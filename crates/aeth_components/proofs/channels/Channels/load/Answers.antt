@@ -1,4 +1,4 @@
-use Rattle.std.proofs.Common.{ap, arith, length, length-set}
+use Rattle.std.proofs.Common.{ap, arith, length}
 use Rattle.aeth_components.specs.Channels.{ChannelsState}
 use Rattle.aeth_components.proofs.channels.Channels.load.Goals as goal
 use Rattle.aeth_components.proofs.MarkLemmas.{AreMarked-marked}
@@ -9,9 +9,7 @@ invariant_of-self c =
     let all = c.self.inside in
     let lanes = all.lanes.items in
     let size = ap (λ (all : ChannelsState). length all.lanes) c.self.view_is in
-    let set = length-set lanes c.args.number c.args.lane in
     let number = c.requires in
-    let room = c.self.invariant.room in
     record {
       idle = AreMarked-marked all.busy c.mark.new.self lanes c.args.number c.args.lane
           c.mark.ensures.room c.mark.ensures.here c.mark.ensures.away c.self.invariant.idle;
@@ -19,5 +17,4 @@ invariant_of-self c =
           c.mark-2.ensures.room c.mark-2.ensures.here c.mark-2.ensures.away
           c.self.invariant.takes;
       places = c.note.ensures lanes c.self.invariant.places (omega (arith, size, number));
-      room = omega (arith, set, room);
     }

@@ -16,5 +16,4 @@ invariant_of-result c =
           (let count = c.len-2.ensures in let room = c.in_ok-taking.ensures.room in omega arith)
           c.in_ok-taking.ensures.marked;
       places = subst (AreHomes c.in_ok-homes.homes) c.deref.ensures.value c.in_ok-homes.ensures;
-      room = (let count = c.len-3.ensures in let room = c.in_ok-told.ensures.room in omega arith);
     }

@@ -1,16 +1,15 @@
-use Rattle.std.proofs.Common.{◌≡◌, ◌≤◌, ◌<◌, ◌-◌, fold, length}
-use Rattle.std.specs.List.{range_with_len}
+use Rattle.std.proofs.Common.{◌≡◌, ◌≤◌, ◌<◌, ◌-◌, length}
 use Rattle.aeth_base.specs.Marks.{bit_of}
 use Rattle.aeth_components.proofs.channels.Channels.refill.Given as goal
-use Rattle.aeth_components.specs.Phases.{refilled, turned}
+use Rattle.aeth_components.proofs.SkipLemmas.{HaveTurned}
+use Rattle.aeth_components.specs.Phases.{refilled}
 use Rattle.aeth_components.specs.Handing.{AreHanding}
 
 -- The channels so far have had their turns.
 abbrev pub invariant-turns : goal.invariant-turns
 invariant-turns l = record {
-  turns : record { parts = l.parts; lanes = l.self.lanes }
-      ≡ fold (turned (refilled l.fn.self.words l.cycle))
-      (record { parts = l.fn.parts; lanes = l.fn.self.lanes }) (range_with_len 0 l.number);
+  turns : HaveTurned (refilled l.fn.self.words l.cycle) (record { parts = l.fn.parts; lanes = l.fn.self.lanes })
+      (record { parts = l.parts; lanes = l.self.lanes }) l.number;
   words : l.self.words ≡ l.fn.self.words;
   within : l.number ≤ length l.self.lanes;
   handing : AreHanding l.parts l.self.lanes l.handing;

@@ -1,14 +1,13 @@
-use Rattle.std.proofs.Common.{◌≡◌, ◌≤◌, ◌-◌, fold, length}
-use Rattle.std.specs.List.{range_with_len}
+use Rattle.std.proofs.Common.{◌≡◌, ◌≤◌, ◌-◌, length}
 use Rattle.aeth_components.proofs.channels.Channels.take.Given as goal
-use Rattle.aeth_components.specs.Phases.{pulled, turned}
+use Rattle.aeth_components.proofs.SkipLemmas.{HaveTurned}
+use Rattle.aeth_components.specs.Phases.{pulled}
 
 -- The channels so far have had their turns.
 abbrev pub invariant-turns : goal.invariant-turns
 invariant-turns l = record {
-  turns : record { parts = l.parts; lanes = l.self.lanes }
-      ≡ fold (turned (pulled l.cycle))
-      (record { parts = l.fn.parts; lanes = l.fn.self.lanes }) (range_with_len 0 l.number);
+  turns : HaveTurned (pulled l.cycle) (record { parts = l.fn.parts; lanes = l.fn.self.lanes })
+      (record { parts = l.parts; lanes = l.self.lanes }) l.number;
   words : l.self.words ≡ l.fn.self.words;
   within : l.number ≤ length l.self.lanes;
 }

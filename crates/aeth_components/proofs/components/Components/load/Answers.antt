@@ -1,12 +1,10 @@
-use Rattle.std.proofs.Common.{ap, arith, length, subst, sym}
+use Rattle.std.proofs.Common.{ap, arith, length}
 use Rattle.std.proofs.lemmas.List.{length-map}
 use Rattle.std.proofs.lemmas.List.Elements.{All-set}
 use Rattle.aeth_components.proofs.components.Components.load.Goals as goal
 use Rattle.aeth_components.proofs.WaitingLemmas.{AreHanding-marked}
-use Rattle.aeth_components.specs.Channels.{ChannelsState}
-use Rattle.aeth_components.specs.Components.{ComponentsState, IsComponents, components_of}
+use Rattle.aeth_components.specs.Components.{ComponentsState}
 use Rattle.aeth_components.specs.Lanes.{IsLane}
-use Rattle.aeth_components.specs.Handing.{AreHanding}
 use Rattle.aeth_components.specs.Seen.{seen}
 
 -- The channel has a mark.
@@ -24,24 +22,18 @@ invariant_of-self c =
     let state = c.self.invariant.0 in
     let P = IsLane (length all.channels.words) (length all.parts.items) in
     let sound : P c.args.lane =
-    subst (λ n. IsLane (length all.channels.words) n c.args.lane)
-    (length-map all.parts.items (seen all.wires))
-    (subst (λ (all : ComponentsState). IsLane (length all.words) (length all.parts) c.args.lane)
-    (sym c.self.view_is) c.requires.lane) in (
-      subst (λ (channels : ChannelsState). IsComponents (components_of all.parts.items all.wires
-          channels.lanes channels.words all.landings.items all.flits.items)) (sym c.load.ensures)
-          (record {
-            wired = state.wired;
-            lanes = All-set P all.channels.lanes c.args.channel c.args.lane sound state.lanes;
-            landings = state.landings;
-            flits = state.flits;
-            few = state.few;
-          }),
+    rw (← length-map all.parts.items (seen all.wires)) (rw (← c.self.view_is) at c.requires.lane) in
+    rw c.load.ensures (
+      record {
+        wired = state.wired;
+        lanes = All-set P all.channels.lanes c.args.channel c.args.lane sound state.lanes;
+        landings = state.landings;
+        flits = state.flits;
+        few = state.few;
+      },
       c.self.invariant.1,
       c.self.invariant.2,
-      subst (λ (channels : ChannelsState). AreHanding all.parts.items channels.lanes
-          (record all.handing { marks = c.mark.new.self })) (sym c.load.ensures)
-          (AreHanding-marked all.parts.items all.channels.lanes c.args.channel c.args.lane all.handing
+      AreHanding-marked all.parts.items all.channels.lanes c.args.channel c.args.lane all.handing
           c.mark.new.self c.mark.ensures.room c.mark.ensures.here c.mark.ensures.away
-          c.self.invariant.3),
+          c.self.invariant.3,
     )

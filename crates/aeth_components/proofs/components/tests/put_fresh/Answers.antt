@@ -1,4 +1,4 @@
-use Rattle.std.proofs.Common.{◌≡◌, ◌∙◌, ap, refl, subst, sym, List, Option, None, Some, ℕ}
+use Rattle.std.proofs.Common.{◌≡◌, ◌∙◌, ap, refl, sym, List, Option, None, Some, ℕ}
 use Rattle.std.proofs.Common.{set, slice_get, map}
 use Rattle.aeth_router.specs.Router.{new_router}
 use Rattle.aeth_router.specs.declared.part.Part.{Part}
@@ -15,7 +15,6 @@ use Rattle.aeth_components.specs.Changes.{told_by}
 use Rattle.aeth_components.specs.Components.{components_of, frames_of}
 use Rattle.aeth_components.specs.Frames.{Frame, RouterFrame, frame_of}
 use Rattle.aeth_components.specs.Handing.{room_left}
-use Rattle.aeth_components.specs.Injecting.{AreInjecting}
 use Rattle.aeth_components.specs.Telling.{last_of}
 
 -- A router tells of no flit, and has no room.
@@ -53,9 +52,7 @@ invariant_of-pair c =
       IsComponents-replaced 2 router (components_of parts all.wires all.channels.lanes
           all.channels.words all.landings.items all.flits.items) framed c.pair.invariant.0,
       AreReady-replaced 2 router parts all.wires all.turns framed told c.pair.invariant.1,
-      subst (λ (tables : List (List (Option ℕ))). AreInjecting tables
-          all.turns.injecting.slots.items)
-          (sym (tables-replaced parts 2 router made.incoming made.outgoing c.in-Some.ensures framed))
+      rw (tables-replaced parts 2 router made.incoming made.outgoing c.in-Some.ensures framed)
           c.pair.invariant.2,
       AreHanding-kept parts (set parts 2 router) all.channels.lanes all.handing
           (λ end. IsFull-replaced 2 router

@@ -1,9 +1,12 @@
 use Rattle.std.proofs.Common.{◌∙◌, ap, arith, inl, inr, refl, Some, sym}
+use Rattle.std.proofs.lemmas.Bool.{ne_eqb}
 use Rattle.std.proofs.lemmas.Option.{slice_get-get_or}
+use Rattle.aeth_base.specs.Marks.{bit_of}
+use Rattle.aeth_base.proofs.MarkedLemmas.{is_marked-zero}
 use Rattle.aeth_components.proofs.WakingLemmas.{Settles-waits}
 use Rattle.aeth_components.proofs.handing.Handing.settle.Goals as goal
 use Rattle.aeth_components.proofs.handing.Handing.settle.Goals.{then-is_own-via-then-is_own}
-use Rattle.aeth_components.proofs.handing.Handing.settle.Goals.{then-is_own-via-else-is_own+then-next-place}
+use Rattle.aeth_components.proofs.handing.Handing.settle.Goals.{then-is_own-via-else-is_own+then-not-has}
 
 -- The channel waits at a place that is free, or its own.
 pub returns-then-is_own : goal.returns-then-is_own
@@ -19,6 +22,8 @@ returns-then-is_own c =
       | then-is_own-via-then-is_own w ↦
           inr (slice_get-get_or c.args.self.now.numbers.items place c.index.result.now
           (omega (arith, size, below)) ∙ ap (λ n. Some n) (sym c.index.ensures ∙ w.if-is_own.true))
-      | then-is_own-via-else-is_own+then-next-place w ↦
-          inl (w.next.ensures.none place (omega arith) w.if-next-place.true)
+      | then-is_own-via-else-is_own+then-not-has w ↦
+          let waiting = c.args.self.now.waiting in
+          inl (is_marked-zero waiting place
+          (ne_eqb (bit_of waiting place) 1 (λ one. cc (w.has.ensures.1 one))))
     ])
