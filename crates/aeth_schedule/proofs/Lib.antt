@@ -1,3 +1,4 @@
+mod EnteringLemmas
 mod GoingLemmas
 pub mod LineLemmas
 pub mod Places

@@ -1,5 +1,5 @@
 -- The rooms for what the channels of all groups need are those for the channels of all use cases.
-use Rattle.std.proofs.Common.{◌≡◌, ◌∙◌, ◌<◌, ◌≤◌, ◌*◌, ◌==◌, ℕ, true, List, [], ◌∷◌, All, Contains, ap, arith}
+use Rattle.std.proofs.Common.{◌≡◌, ◌∙◌, ◌<◌, ◌*◌, ◌==◌, ℕ, true, List, [], ◌∷◌, All, Contains, ap, arith}
 use Rattle.std.proofs.Common.{filter, inl, inr, length, map, refl, subst, sym}
 use Rattle.std.specs.Prelude.{flat_map}
 use Rattle.std.specs.List.{range_with_len}
@@ -11,7 +11,6 @@ use Rattle.aeth_base.proofs.Members.{flat_map-Contains, map-Contains}
 use Rattle.aeth_base.proofs.Ranges.{Contains-range, range-Contains}
 use Rattle.aeth_base.specs.declared.ids.Side.{Side}
 use Rattle.aeth_base.specs.declared.ids.Side.TheVariants.{Back, Fwd}
-use Rattle.aeth_slots.specs.SlotSet.{greatest}
 use Rattle.aeth_chip.specs.Chip.{ChipData}
 use Rattle.aeth_app.specs.App.{AppData}
 use Rattle.aeth_group.specs.Members.{groups_of}
@@ -23,19 +22,12 @@ use Rattle.aeth_tables.specs.declared.buffering.Buffer.{Buffer}
 use Rattle.aeth_tables.proofs.BufferLaws.{buffer-granted, granted-buffer}
 use Rattle.aeth_tables.proofs.ListLaws.{all_from_places, all_has, has_place}
 use Rattle.aeth_accepted.specs.Inputs.{AreAccepted, Inputs}
+use Rattle.aeth_accepted.proofs.SoundRuns.{greatest-above}
 use Rattle.aeth_schedule.specs.Lines.{all_lines, line_with, lines_of, lines_with}
 use Rattle.aeth_schedule.specs.Rooms.{landing_number, queue_number, room_at, rooms_in}
 use Rattle.aeth_schedule.specs.declared.lines.Line.{Line}
 use Rattle.aeth_schedule.proofs.RoomLemmas.{need_at, needs_in}
 use Rattle.aeth_schedule.proofs.ScheduleLemmas.{Fits, all-fit, greatest-below}
-
--- One of a list is at most the greatest.
-greatest-has : (xs : List ℕ) (x : ℕ) → Contains xs x → x ≤ greatest xs
-greatest-has [] x has = Contains-nil has
-greatest-has (y ∷ ys) x has = elim (Contains-cases y ys x has) [
-  | inl here ↦ omega arith
-  | inr later ↦ let rest = greatest-has ys x later in omega arith
-]
 
 -- The lines of a connection's two channels.
 abbrev lines_on : ChipData → AppData → Granted → List Line
@@ -178,7 +170,7 @@ module _ (inputs : Inputs) (accepted : AreAccepted inputs) where
       let (is_in, here) = filter-Contains lands needed one passes in
       let (line, there, needs) = has-line one is_in in
       let test : comes line ≡ true = ap (λ (n : ℕ). n == k) needs.number ∙ here in
-      let most = greatest-has (map credits (filter comes everything)) line.row.credits
+      let most = greatest-above (map credits (filter comes everything)) line.row.credits
       (Contains-map credits (filter comes everything) line (Contains-filter comes everything line there test)) in
       omega (arith, most, is, needs.words)) in
       let least = greatest-below (map credits (filter comes everything)) (need_at needed k) (λ x has.
@@ -186,7 +178,7 @@ module _ (inputs : Inputs) (accepted : AreAccepted inputs) where
       let (is_in, here) = filter-Contains comes everything line passes in
       let (one, there, needs) = has-buffer line is_in in
       let test : lands one ≡ true = ap (λ (n : ℕ). n == k) (sym needs.number) ∙ here in
-      let most = greatest-has (map words (filter lands needed)) one.words
+      let most = greatest-above (map words (filter lands needed)) one.words
       (Contains-map words (filter lands needed) one (Contains-filter lands needed one there test)) in
       omega (arith, most, is, needs.words)) in
       omega (arith, most, least)

@@ -210,11 +210,6 @@ module _ (inputs : Inputs) (accepted : AreAccepted inputs) where
   unfolding spans_of
   spans-are = refl
 
-  -- There are lines for each use case.
-  pub lines-are : length (all_lines inputs) ≡ length (groups_of inputs.app).uses
-  lines-are = length-map-range_with_len (lines_of inputs) 0 (length inputs.app.uses)
-      ∙ sym (length-groups_of inputs.app)
-
   -- The switches are rows between known use cases.
   pub rows-are : AreRows (length (groups_of inputs.app).uses) inputs.switches
   rows-are = record {

@@ -4,6 +4,7 @@ pub mod Lines
 pub mod Made
 pub mod Rooms
 pub mod Schedule
+pub mod Staying
 pub mod Switching
 pub mod Tasks
 pub mod Timed

@@ -1,19 +1,21 @@
 // The sessions of all channels, in the order in which they go.
 
-ghost use Rattle.std.specs.Prelude.{◌≡◌, ◌≤◌, ◌<◌, ◌++◌, ◌∷◌, ◌^◌, [], None, Some, All, OnOk, IfOk, length};
+ghost use Rattle.std.specs.Prelude.{◌≡◌, ◌<◌, ◌++◌, ◌∷◌, [], None, Some, All, OnOk, IfOk, length};
 ghost use Rattle.std.specs.Prelude.{map};
-ghost use Rattle.aeth_report.specs.Flows.{close_at};
 ghost use Rattle.aeth_schedule.specs.Goings.{going_by, going_in, going_within, goings_behind};
-ghost use Rattle.aeth_schedule.specs.Goings.{goings_from, session_by};
+ghost use Rattle.aeth_schedule.specs.Goings.{goings_from};
 ghost use Rattle.aeth_schedule.specs.Lines.{changed_lines, end_of, lines_at};
 ghost use Rattle.aeth_schedule.specs.Made.{AreRows};
+ghost use Rattle.aeth_schedule.specs.Staying.{AreEntered};
 
+use crate::closing::close_in;
+use crate::entering::{Entering, uses_of};
 use crate::lines::{Line, end_of, lines_in};
 use crate::placing::{before, start};
 use crate::task::Task;
-use aeth_base::{Channel, ConnId, MAX_PATH_DELAY, NoMemory, UseId};
+use aeth_base::{Channel, NoMemory, UseId};
 use aeth_components::Lane;
-use aeth_reconf::{Close, close_by, go_by};
+use aeth_reconf::go_by;
 use aeth_server::ChannelShape;
 use aeth_trace::SwitchRow;
 use std::alloc::Global;
@@ -48,72 +50,73 @@ pub(crate) fn goings_of(
         task.now.words.now task.now.cycles rows.now)) }
 {
     let mut list = Vec::new(alloc);
-    if let [first, later @ ..] = rows {
-        push_first(&mut list, task, first.to, later)?;
-        push_later(&mut list, task, first.to, later)?;
+    if let [row, later @ ..] = rows {
+        let entered = uses_of(alloc, rows)?;
+        let first = Entering {
+            row,
+            later,
+            entered: &entered,
+        };
+        push_first(&mut list, task, &first)?;
+        push_later(&mut list, task, &first)?;
     }
     Ok(list)
 }
 
 // Appends the sessions of a use case that is loaded before the first cycle, if there is one.
-fn push_first(
-    list: &mut Vec<Going>,
-    task: &Task,
-    to: UseId,
-    later: &[SwitchRow],
-) -> Result<(), NoMemory>
-    requires to { to.0 < length task.now.groups.now.uses }
-    requires rows { AreRows (length task.now.groups.now.uses) later.now }
+fn push_first(list: &mut Vec<Going>, task: &Task, first: &Entering) -> Result<(), NoMemory>
+    requires { AreEntered (length task.now.groups.now.uses) first.now.entered.now
+        (first.now.row.now ∷ first.now.later.now) }
     ensures { OnOk result (list.new.items ≡ list.old.items ++ going_within task.now.cycles
         (map (going_by task.now.groups.now task.now.spans.now
-        task.now.all.now task.now.words.now task.now.cycles None to.0 later.now)
-        (lines_at task.now.all.now to.0))) }
+        task.now.all.now task.now.words.now task.now.cycles None first.now.row.now.to.0
+        first.now.later.now) (lines_at task.now.all.now first.now.row.now.to.0))) }
 {
     if task.cycles == 0 {
         return Ok(());
     }
-    push_each(list, task, lines_in(task.all, to), 0, to, later)
+    push_each(list, task, lines_in(task.all, first.row.to), 0, first)
 }
 
-// Appends the sessions of channels that go in a cycle with a use case.
+// Appends the sessions of channels that go in a cycle with a row's use case.
 fn push_each(
     list: &mut Vec<Going>,
     task: &Task,
     lines: &[Line],
     go: u32,
-    to: UseId,
-    later: &[SwitchRow],
+    entering: &Entering,
 ) -> Result<(), NoMemory>
     requires lines { All (λ line. line.row.channel.conn.0 < length task.now.starts.now) lines.now }
-    requires to { to.0 < length task.now.groups.now.uses }
-    requires rows { AreRows (length task.now.groups.now.uses) later.now }
+    requires rows { AreEntered (length task.now.groups.now.uses) entering.now.entered.now
+        (entering.now.row.now ∷ entering.now.later.now) }
     ensures { OnOk result (list.new.items ≡ list.old.items ++ map
         (going_in task.now.groups.now task.now.spans.now task.now.words.now
-        task.now.cycles go to.0 later.now) lines.now) }
+        task.now.cycles go entering.now.row.now.to.0 entering.now.later.now) lines.now) }
 {
     for line in lines {
-        push_going(list, task, line, go, to, later)?;
+        push_going(list, task, line, go, entering)?;
     }
     Ok(())
 }
 
-// Appends the sessions that switches open, the first of which leaves this use case.
-fn push_later(
-    list: &mut Vec<Going>,
-    task: &Task,
-    first: UseId,
-    rows: &[SwitchRow],
-) -> Result<(), NoMemory>
-    requires first { first.0 < length task.now.groups.now.uses }
-    requires rows { AreRows (length task.now.groups.now.uses) rows.now }
+// Appends the sessions that the switches behind the first row open.
+fn push_later(list: &mut Vec<Going>, task: &Task, first: &Entering) -> Result<(), NoMemory>
+    requires { AreEntered (length task.now.groups.now.uses) first.now.entered.now
+        (first.now.row.now ∷ first.now.later.now) }
     ensures { OnOk result (list.new.items ≡ list.old.items ++ going_within task.now.cycles
         (goings_behind task.now.groups.now task.now.spans.now
-        task.now.all.now task.now.words.now task.now.cycles first.0 rows.now)) }
+        task.now.all.now task.now.words.now task.now.cycles first.now.row.now.to.0
+        first.now.later.now)) }
 {
-    let mut from = first;
-    for place in 0..rows.len() {
-        let row = &rows[place];
-        push_opened(list, task, from, row, &rows[place + 1..])?;
+    let mut from = first.row.to;
+    for place in 0..first.later.len() {
+        let row = &first.later[place];
+        let entering = Entering {
+            row,
+            later: &first.later[place + 1..],
+            entered: first.entered,
+        };
+        push_opened(list, task, from, &entering)?;
         from = row.to;
     }
     Ok(())
@@ -124,25 +127,25 @@ fn push_opened(
     list: &mut Vec<Going>,
     task: &Task,
     from: UseId,
-    row: &SwitchRow,
-    later: &[SwitchRow],
+    entering: &Entering,
 ) -> Result<(), NoMemory>
     requires from { from.0 < length task.now.groups.now.uses }
-    requires to { row.now.to.0 < length task.now.groups.now.uses }
-    requires rows { AreRows (length task.now.groups.now.uses) later.now }
+    requires rows { AreEntered (length task.now.groups.now.uses) entering.now.entered.now
+        (entering.now.row.now ∷ entering.now.later.now) }
     ensures { OnOk result (list.new.items ≡ list.old.items ++ going_within task.now.cycles
         (map (going_by task.now.groups.now task.now.spans.now
         task.now.all.now task.now.words.now task.now.cycles
-        (Some (record { leaves = from.0; row = row.now })) row.now.to.0 later.now)
-        (changed_lines task.now.groups.now from.0 row.now.to.0
-        (lines_at task.now.all.now row.now.to.0)))) }
+        (Some (record { leaves = from.0; row = entering.now.row.now })) entering.now.row.now.to.0
+        entering.now.later.now)
+        (changed_lines task.now.groups.now from.0 entering.now.row.now.to.0
+        (lines_at task.now.all.now entering.now.row.now.to.0)))) }
 {
-    let go = go_by(task.spans, from, row);
+    let go = go_by(task.spans, from, entering.row);
     if go >= u64::from(task.cycles) {
         return Ok(());
     }
-    let lines = lines_in(task.all, row.to);
-    push_changed(list, task, from, lines, go as u32, row.to, later)
+    let lines = lines_in(task.all, entering.row.to);
+    push_changed(list, task, from, lines, go as u32, entering)
 }
 
 // Appends the sessions of those channels that a switch doesn't keep.
@@ -152,43 +155,42 @@ fn push_changed(
     from: UseId,
     lines: &[Line],
     go: u32,
-    to: UseId,
-    later: &[SwitchRow],
+    entering: &Entering,
 ) -> Result<(), NoMemory>
     requires from { from.0 < length task.now.groups.now.uses }
     requires lines { All (λ line. line.row.channel.conn.0 < length task.now.starts.now) lines.now }
-    requires to { to.0 < length task.now.groups.now.uses }
-    requires rows { AreRows (length task.now.groups.now.uses) later.now }
+    requires rows { AreEntered (length task.now.groups.now.uses) entering.now.entered.now
+        (entering.now.row.now ∷ entering.now.later.now) }
     ensures { OnOk result (list.new.items ≡ list.old.items ++ map
         (going_in task.now.groups.now task.now.spans.now task.now.words.now
-        task.now.cycles go to.0 later.now)
-        (changed_lines task.now.groups.now from.0 to.0 lines.now)) }
+        task.now.cycles go entering.now.row.now.to.0 entering.now.later.now)
+        (changed_lines task.now.groups.now from.0 entering.now.row.now.to.0 lines.now)) }
 {
+    let to = entering.row.to;
     for line in lines {
         if !task.groups.kept(from, to, line.row.channel.conn) {
-            push_going(list, task, line, go, to, later)?;
+            push_going(list, task, line, go, entering)?;
         }
     }
     Ok(())
 }
 
-// Appends the session of a channel that goes in a cycle with a use case.
+// Appends the session of a channel that goes in a cycle with a row's use case.
 fn push_going(
     list: &mut Vec<Going>,
     task: &Task,
     line: &Line,
     go: u32,
-    to: UseId,
-    later: &[SwitchRow],
+    entering: &Entering,
 ) -> Result<(), NoMemory>
     requires line { line.now.row.channel.conn.0 < length task.now.starts.now }
-    requires to { to.0 < length task.now.groups.now.uses }
-    requires rows { AreRows (length task.now.groups.now.uses) later.now }
+    requires rows { AreEntered (length task.now.groups.now.uses) entering.now.entered.now
+        (entering.now.row.now ∷ entering.now.later.now) }
     ensures { OnOk result (list.new.items ≡ list.old.items
         ++ going_in task.now.groups.now task.now.spans.now task.now.words.now
-        task.now.cycles go to.0 later.now line.now ∷ []) }
+        task.now.cycles go entering.now.row.now.to.0 entering.now.later.now line.now ∷ []) }
 {
-    let close = close_in(task, line.row.channel.conn, to, later);
+    let close = close_in(task, line.row.channel.conn, entering);
     let channel = line.row.channel;
     let until = close.until as u32;
     let before_it = before(task.words, channel, go);
@@ -235,31 +237,5 @@ fn fresh_lane(line: &Line, go: u32, fin: u32, first: u32) -> Lane
         handed: 0,
         landed: 0,
         taken: 0,
-    }
-}
-
-// How the sessions of a connection close that come with a use case, over the switches that follow.
-fn close_in(task: &Task, conn: ConnId, to: UseId, rows: &[SwitchRow]) -> Close
-    requires to { to.0 < length task.now.groups.now.uses }
-    requires rows { AreRows (length task.now.groups.now.uses) rows.now }
-    ensures close { result ≡ close_at task.now.cycles (session_by task.now.groups.now
-        task.now.spans.now None to.0 rows.now conn.0) }
-    ensures until { result.until < 2 ^ 32 }
-    ensures fin { result.fin < 2 ^ 32 }
-{
-    let mut from = to;
-    let mut rest = rows;
-    'rows: while let [row, more @ ..] = rest {
-        if !task.groups.kept(from, row.to, conn) {
-            return close_by(task.spans, from, row);
-        }
-        from = row.to;
-        rest = more;
-    }
-    let end = u64::from(task.cycles);
-    Close {
-        until: end,
-        stop: end,
-        fin: end + u64::from(MAX_PATH_DELAY),
     }
 }

@@ -2,7 +2,9 @@
 //! first cycle.
 #![tactic(auto)]
 
+mod closing;
 mod durations;
+mod entering;
 mod going;
 mod lines;
 mod placing;

@@ -7,5 +7,6 @@ use Rattle.aeth_schedule.proofs.going.push_changed.Given as goal
 abbrev pub invariant-loop-line : goal.invariant-loop-line
 invariant-loop-line l = l.list.items ≡ l.fn.list.items ++ map
     (going_in l.task.groups.now l.task.spans.now l.task.words.now l.task.cycles l.go
-    l.to.0 l.later)
-    (changed_lines l.task.groups.now l.from.0 l.to.0 (take l.line-index l.lines))
+    l.entering.row.now.to.0 l.entering.later.now)
+    (changed_lines l.task.groups.now l.from.0 l.entering.row.now.to.0
+    (take l.line-index l.lines))

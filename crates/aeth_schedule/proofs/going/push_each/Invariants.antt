@@ -6,4 +6,4 @@ use Rattle.aeth_schedule.proofs.going.push_each.Given as goal
 abbrev pub invariant-loop-line : goal.invariant-loop-line
 invariant-loop-line l = l.list.items ≡ l.fn.list.items ++ map
     (going_in l.task.groups.now l.task.spans.now l.task.words.now l.task.cycles l.go
-    l.to.0 l.later) (take l.line-index l.lines)
+    l.entering.row.now.to.0 l.entering.later.now) (take l.line-index l.lines)

@@ -10,10 +10,12 @@ use Rattle.aeth_schedule.proofs.going.push_first.Goals as goal
 pub returns-then-task-eq0 : goal.returns-then-task-eq0
 returns-then-task-eq0 c =
     let task = c.args.task.now in
+    let to = c.args.first.now.row.now.to.0 in
+    let later = c.args.first.now.later.now in
     rw (
       going-late (going_by task.groups.now task.spans.now task.all.now
-          task.words.now task.cycles None c.args.to.0 c.args.later.now) task.cycles 0
-          (lines_at task.all.now c.args.to.0) (λ line. refl) (omega arith),
+          task.words.now task.cycles None to later) task.cycles 0
+          (lines_at task.all.now to) (λ line. refl) (omega arith),
       append-nil c.args.list.now.items,
     ) refl
 
@@ -21,7 +23,9 @@ returns-then-task-eq0 c =
 pub returns : goal.returns
 returns c =
     let task = c.args.task.now in
+    let to = c.args.first.now.row.now.to.0 in
+    let later = c.args.first.now.later.now in
     rw (going-early (going_by task.groups.now task.spans.now task.all.now
-    task.words.now task.cycles None c.args.to.0 c.args.later.now) task.cycles 0
-    (lines_at task.all.now c.args.to.0) (λ line. refl) (omega arith))
+    task.words.now task.cycles None to later) task.cycles 0
+    (lines_at task.all.now to) (λ line. refl) (omega arith))
     (rw c.lines_in.ensures at c.push_each.ensures)

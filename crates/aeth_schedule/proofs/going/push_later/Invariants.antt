@@ -8,8 +8,8 @@ invariant-loop-place l = record {
   from : l.from.0 < length l.task.groups.now.uses;
   goings : l.list.items ++ going_within l.task.cycles (goings_behind l.task.groups.now
       l.task.spans.now l.task.all.now l.task.words.now l.task.cycles l.from.0
-      (drop l.place l.rows))
+      (drop l.place l.first.later.now))
       ≡ l.fn.list.items ++ going_within l.task.cycles (goings_behind l.task.groups.now
-      l.task.spans.now l.task.all.now l.task.words.now l.task.cycles l.fn.first.0
-      l.rows);
+      l.task.spans.now l.task.all.now l.task.words.now l.task.cycles l.first.row.now.to.0
+      l.first.later.now);
 }

@@ -11,13 +11,14 @@ use Rattle.aeth_schedule.proofs.going.push_opened.Goals as goal
 pub returns-then-go-from : goal.returns-then-go-from
 returns-then-go-from c =
     let task = c.args.task.now in
-    let row = c.args.row.now in
+    let row = c.args.entering.now.row.now in
+    let later = c.args.entering.now.later.now in
     let go = go_by task.spans.now (record { leaves = c.args.from.0; row = row }) in
     let is = c.go_by-go.ensures in
     rw (
       going-late (going_by task.groups.now task.spans.now task.all.now
           task.words.now task.cycles (Some (record { leaves = c.args.from.0; row = row })) row.to.0
-          c.args.later.now) task.cycles go
+          later) task.cycles go
           (changed_lines task.groups.now c.args.from.0 row.to.0 (lines_at task.all.now row.to.0))
           (λ line. refl) (omega arith),
       append-nil c.args.list.now.items,
@@ -27,11 +28,12 @@ returns-then-go-from c =
 pub returns : goal.returns
 returns c =
     let task = c.args.task.now in
-    let row = c.args.row.now in
+    let row = c.args.entering.now.row.now in
+    let later = c.args.entering.now.later.now in
     let go = go_by task.spans.now (record { leaves = c.args.from.0; row = row }) in
     let is = c.go_by-go.ensures in
     rw (going-early (going_by task.groups.now task.spans.now task.all.now
     task.words.now task.cycles (Some (record { leaves = c.args.from.0; row = row })) row.to.0
-    c.args.later.now) task.cycles go
+    later) task.cycles go
     (changed_lines task.groups.now c.args.from.0 row.to.0 (lines_at task.all.now row.to.0))
     (λ line. refl) (omega arith)) (rw (is, c.lines_in-lines.ensures) at c.push_changed.ensures)

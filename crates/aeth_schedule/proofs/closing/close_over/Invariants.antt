@@ -1,7 +1,7 @@
 use Rattle.std.proofs.Common.{◌≡◌, ◌<◌, length}
 use Rattle.aeth_report.specs.Sessions.{closing_in}
 use Rattle.aeth_schedule.specs.Made.{AreRows}
-use Rattle.aeth_schedule.proofs.going.close_in.Given as goal
+use Rattle.aeth_schedule.proofs.closing.close_over.Given as goal
 
 -- No switch so far closes the connection, and those that are left are known.
 abbrev pub invariant-rows : goal.invariant-rows
