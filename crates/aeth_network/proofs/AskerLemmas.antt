@@ -6,15 +6,14 @@ use Rattle.std.specs.Prelude.{slice_range}
 use Rattle.std.specs.List.Sorted.{IsNonDecreasingBy}
 use Rattle.std.proofs.lemmas.Bool.{cases_Bool, cases_lt, eqb-true}
 use Rattle.std.proofs.lemmas.List.{length-take}
-use Rattle.std.proofs.lemmas.Option.{get_or_from_slice_get, slice_get-get_or, slice_get_within}
+use Rattle.std.proofs.lemmas.Option.{slice_get-get_or, slice_get_within}
 use Rattle.aeth_running.proofs.LandedWords.{slice_get-drop}
-use Rattle.aeth_components.specs.First.{IsFirst}
 use Rattle.aeth_components.specs.declared.lane.Lane.{Lane}
 use Rattle.aeth_stimuli.specs.Stimuli.{Take}
 use Rattle.aeth_network.specs.Behind.{passed}
-use Rattle.aeth_network.specs.Next.{AsksIn, HasAsker, HasRowTaker, HasTaker, IsFirstKnown}
+use Rattle.aeth_network.specs.Next.{AsksIn, HasAsker, HasRowTaker, HasTaker}
 use Rattle.aeth_network.specs.Next.{pull_behind}
-use Rattle.aeth_network.proofs.Passed.{passed-at}
+use Rattle.aeth_network.proofs.Passed.{passed-of}
 use Rattle.aeth_network.proofs.PullLemmas.{cycle_of}
 
 -- A channel that asks, at its place.
@@ -27,6 +26,10 @@ asker-at lanes takes place number t d within asks = record {
   at = slice_get-get_or lanes number d within;
   asks = asks;
 }
+
+-- A channel has a word in a cycle that its receiver takes as it stands.
+abbrev pub IsTaker : List Take → ℕ → ℕ → Lane → ℕ → Type 0
+IsTaker takes place number lane t = (0 < lane.pull) × AsksIn lane number takes place t
 
 -- A row among some by which the receiver of a channel takes some.
 record IsPulledBy (number : ℕ) (rows : List Take) : Type 0 where
@@ -109,13 +112,11 @@ module _ (lanes : List Lane) (takes : List Take) (rises : IsNonDecreasingBy cycl
         (slice_range takes place (passed cycle_of (t + 1) takes)) (omega arith) has.asks.pulls in
         let at = slice-at takes place (passed cycle_of (t + 1) takes) by.place by.row by.at in
         let number = place + by.place in
-        let inside = slice_get_within takes number by.row at.0 in
-        let here = ap cycle_of (get_or_from_slice_get takes number by.row by.row at.0) in
         let before = at.1 in
         let since : by.row.cycle ≤ t = elim (cases_lt t by.row.cycle) [
           | inr low ↦ low
           | inl high ↦
-              let past = (passed-at cycle_of (t + 1) takes number by.row rises inside).1 (omega arith) in
+              let past = (passed-of cycle_of (t + 1) takes number by.row rises at.0).1 (omega arith) in
               absurd (omega arith)
         ] in
         inr (record {
@@ -132,28 +133,3 @@ module _ (lanes : List Lane) (takes : List Take) (rises : IsNonDecreasingBy cycl
           };
         })
   ]
-
--- The first cycle in which one does, where the second is looked for below the first.
-pub first-known : (lanes : List Lane) (takes : List Take) (place time to middle cycle : ℕ)
-    → ((t : ℕ) → HasAsker lanes takes place t
-    → HasTaker lanes takes place t ⊎ HasRowTaker lanes takes place t)
-    → IsFirstKnown (HasTaker lanes takes place) (HasAsker lanes takes place) time to middle
-    → IsFirstKnown (HasRowTaker lanes takes place) (HasAsker lanes takes place) time middle cycle
-    → IsFirst (HasAsker lanes takes place) time to cycle
-first-known lanes takes place time to middle cycle known one other =
-    let most = one.most in
-    let within = other.most in
-    record {
-      least = other.least;
-      most = omega arith;
-      before = λ t since less has. elim (known t has) [
-        | inl first ↦ one.before t since (omega arith) first
-        | inr second ↦ other.before t since less second
-      ];
-      holds = λ early. elim (cases_lt cycle middle) [
-        | inl sooner ↦ other.holds sooner
-        | inr same ↦
-            let is : middle ≡ cycle = omega arith in
-            subst (HasAsker lanes takes place) is (one.holds (omega arith))
-      ];
-    }

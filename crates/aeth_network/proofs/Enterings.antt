@@ -1,10 +1,8 @@
 -- Rows that enter the tables of a network's routers, and those of use cases.
-use Rattle.std.proofs.Common.{◌≡◌, ◌<◌, ◌+◌, ◌-◌, ◌==◌, ◌∙◌, ℕ, All, Bool, List, [], ◌∷◌, ap, arith}
-use Rattle.std.proofs.Common.{drop, filter, fold, inl, inr, length, map, nat_lt, refl, subst, sym, take, true}
-use Rattle.std.specs.Prelude.{Ok, slice_range}
-use Rattle.std.proofs.lemmas.Bool.{cases_Bool}
-use Rattle.std.specs.List.Sorted.{IsNonDecreasingBy}
-use Rattle.std.proofs.lemmas.List.{drop-map, get_or-map, length-map, take-map}
+use Rattle.std.proofs.Common.{◌≡◌, ◌<◌, ◌∙◌, ℕ, All, List, [], ◌∷◌, ap}
+use Rattle.std.proofs.Common.{fold, length, map, refl, subst, sym, true}
+use Rattle.std.specs.Prelude.{Ok}
+use Rattle.std.proofs.lemmas.List.{length-map}
 use Rattle.std.proofs.lemmas.List.Elements.{All-cons, All-head, All-map, All-nil, All-tail, All-weaker}
 use Rattle.aeth_router.proofs.RowLemmas.{row-fits}
 use Rattle.aeth_router.specs.Rows.{IsRowFor, is_for, with_table}
@@ -14,16 +12,14 @@ use Rattle.aeth_router.specs.declared.router_row.RouterRow.{RouterRow}
 use Rattle.aeth_trace.specs.Spans.{SpanData}
 use Rattle.aeth_trace.specs.Switches.{is_first_at_zero}
 use Rattle.aeth_trace.specs.declared.switches.SwitchRow.{SwitchRow}
-use Rattle.aeth_components.specs.Components.{ComponentsState}
 use Rattle.aeth_components.specs.Entering.{TakesRows, entered, with_rows}
 use Rattle.aeth_accepted.specs.Inputs.{Inputs}
 use Rattle.aeth_running.proofs.PlayedTables.{later-fit, played-tables, tables-take}
 use Rattle.aeth_running.proofs.RouterTables.{HaveTables}
 use Rattle.aeth_running.specs.Network.{NetworkState}
-use Rattle.aeth_running.specs.Routing.{AreRowsOn, Entering, Routing, entered_with, enterings_in}
+use Rattle.aeth_running.specs.Routing.{AreRowsOn, Entering, entered_with}
 use Rattle.aeth_running.specs.Routing.{kind_of, later_rows, rows_before}
 use Rattle.aeth_schedule.specs.Switching.{later_switches, switches_from}
-use Rattle.aeth_network.specs.Behind.{IsBehind, passed}
 use Rattle.aeth_network.specs.Routes.{entered_by, entered_use, first_use}
 use Rattle.aeth_network.specs.Runs.{IsNetworkOf}
 use Rattle.aeth_network.specs.declared.tables.EnteredUse.{EnteredUse}
@@ -43,28 +39,16 @@ later-takes inputs all of =
     (later_rows all.routing) (later-fit inputs all.routing of.routed)
 
 -- Components are as many as before.
-pub size-with : (enterings : List Entering) (parts : List Part)
+size-with : (enterings : List Entering) (parts : List Part)
     → length (fold entered_with parts enterings) ≡ length parts
 size-with [] parts = refl
 size-with (entering ∷ enterings) parts =
     size-with enterings (with_rows entering.rows parts) ∙ length-map parts (entered entering.rows)
 
--- Those of a cycle are the ones between its places.
-pub entered-in : (tables routing : Routing) → tables ≡ routing → (time from to : ℕ)
-    (before after : ComponentsState)
-    → after ≡ record before {
-      parts = fold entered_with before.parts (slice_range (later_rows tables) from to);
-    }
-    → IsBehind (λ entering. entering.cycle) time (later_rows routing) from to
-    → after ≡ record before { parts = fold entered_with before.parts (enterings_in routing time) }
-entered-in tables routing same time from to before after is behind =
-    is
-    ∙ ap (λ (one : Routing). record before {
-      parts = fold entered_with before.parts (slice_range (later_rows one) from to);
-    }) same
-    ∙ ap (λ (enterings : List Entering). record before {
-      parts = fold entered_with before.parts enterings;
-    }) behind.rows_are
+pub size-entered : (enterings : List Entering) (old brought now : List Part) → brought ≡ old
+    → now ≡ fold entered_with brought enterings → length now ≡ length old
+size-entered enterings old brought now is enters =
+    ap length enters ∙ size-with enterings brought ∙ ap length is
 
 -- Rows that can enter can so once others have.
 part-takes : (rows others : List RouterRow) (part : Part) → TakesRows rows part
@@ -88,59 +72,6 @@ takes-still rows_of rows (one ∷ uses) parts takes =
     (All-map (TakesRows rows) (entered others) parts
     (All-weaker (TakesRows rows) (λ part. TakesRows rows (entered others part))
     (part-takes rows others) parts takes))
-
--- What holds of what is made of each.
-pub all-mapped : {X Y : Type 0} (f : X → Y) (P : Y → Type 0) (xs : List X) → All P (map f xs)
-    → All (λ x. P (f x)) xs
-all-mapped f P [] all = All-nil (λ x. P (f x))
-all-mapped f P (x ∷ xs) all =
-    All-cons (λ one. P (f one)) x xs (All-head P (f x) (map f xs) all)
-    (all-mapped f P xs (All-tail P (f x) (map f xs) all))
-
--- A part of a list whose elements are changed.
-pub range-map : {X Y : Type 0} (f : X → Y) (xs : List X) (from to : ℕ)
-    → slice_range (map f xs) from to ≡ map f (slice_range xs from to)
-range-map f xs from to =
-    ap (take (to - from)) (drop-map f from xs) ∙ take-map f (to - from) (drop from xs)
-
-filter-mapped : {X Y : Type 0} (f : X → Y) (test : Y → Bool) (xs : List X)
-    → filter test (map f xs) ≡ map f (filter (λ x. test (f x)) xs)
-filter-mapped f test [] = refl
-filter-mapped {X} {Y} f test (x ∷ xs) =
-    let rest = filter-mapped f test xs in
-    elim (cases_Bool (test (f x))) [
-      | inl passes ↦ rw passes (ap (λ (ys : List Y). f x ∷ ys) rest)
-      | inr fails ↦ rw fails rest
-    ]
-
--- Rows lie before a cycle as what is made of them does.
-pub passed-mapped : {X Y : Type 0} (f : X → Y) (key : Y → ℕ) (t : ℕ) (xs : List X)
-    → passed key t (map f xs) ≡ passed (λ x. key (f x)) t xs
-passed-mapped f key t xs =
-    ap length (filter-mapped f (λ y. nat_lt (key y) t) xs)
-    ∙ length-map (filter (λ x. nat_lt (key (f x)) t) xs) f
-
-pub rises-mapped : {X Y : Type 0} (f : X → Y) (key : Y → ℕ) (xs : List X)
-    → IsNonDecreasingBy key (map f xs) → IsNonDecreasingBy (λ x. key (f x)) xs
-rises-mapped f key xs rises = λ i j d le within.
-    let size = length-map xs f in
-    let one = ap key (get_or-map f xs i d (f d) (omega arith)) in
-    let other = ap key (get_or-map f xs j d (f d) within) in
-    let order = rises i j (f d) le (omega arith) in
-    omega (arith, one, other, order)
-
-pub behind-mapped : {X Y : Type 0} (f : X → Y) (key : Y → ℕ) (t : ℕ) (xs : List X) (from to : ℕ)
-    → IsBehind (λ x. key (f x)) t xs from to → IsBehind key t (map f xs) from to
-behind-mapped f key t xs from to is =
-    let within = is.within in
-    let size = length-map xs f in
-    record {
-      place = is.place ∙ sym (passed-mapped f key (t + 1) xs);
-      after = is.after;
-      within = omega arith;
-      rows_are = range-map f xs from to ∙ ap (map f) is.rows_are
-          ∙ sym (filter-mapped f (λ y. key y == t) xs);
-    }
 
 -- The use cases that switches enter are known where those of all rows are.
 pub uses-known : (spans : SpanData) (n u : ℕ) (rows : List SwitchRow)

@@ -27,7 +27,7 @@ use Rattle.aeth_running.specs.Routing.{Routing, entered_first, kind_of}
 use Rattle.aeth_stimuli.specs.Loaded.{no_lane}
 use Rattle.aeth_stimuli.specs.Stimuli.{Offer}
 use Rattle.aeth_network.specs.Fits.{AreFit, HaveCounts, is_accepted}
-use Rattle.aeth_network.proofs.FitLemmas.{count-no}
+use Rattle.aeth_network.proofs.CountLemmas.{count-no}
 
 -- A channel of which no session has gone.
 pub IsLane-none : (words parts : ℕ) → 0 < parts → IsLane words parts no_lane

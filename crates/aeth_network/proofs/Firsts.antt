@@ -1,7 +1,7 @@
 -- First cycles of stretches, and rows of which none is of a cycle.
 use Rattle.std.proofs.Common.{◌≡◌, ◌≤◌, ◌<◌, ◌⊎◌, ◌+◌, ◌-◌, ◌==◌, ◌++◌, ◌∙◌, ℕ, List, [], ◌∷◌}
 use Rattle.std.proofs.Common.{ap, arith, drop, drop-drop, filter, fold, get_or, inl, inr, length}
-use Rattle.std.proofs.Common.{refl, subst, sym, take, take-add}
+use Rattle.std.proofs.Common.{refl, sym, take, take-add}
 use Rattle.std.specs.Prelude.{slice_range}
 use Rattle.std.specs.List.Sorted.{IsNonDecreasingBy}
 use Rattle.std.proofs.lemmas.Bool.{cases_lt, eq-eqb, eqb-true}
@@ -11,48 +11,14 @@ use Rattle.aeth_base.proofs.Members.{Contains-slice_get, slice_get-Contains}
 use Rattle.aeth_running.proofs.StillRows.{kept-none, none-kept}
 use Rattle.aeth_components.specs.First.{IsFirst}
 use Rattle.aeth_network.specs.Behind.{passed}
-use Rattle.aeth_network.proofs.Passed.{passed-at}
+use Rattle.aeth_network.proofs.KnownFirsts.{first-of, known-both, known-none, known-of}
+use Rattle.aeth_network.proofs.Passed.{passed-at, passed-of}
 
 -- The first cycle in which one of two things holds, where the second is looked for below the first.
-pub first-either : (P Q : ℕ → Type 0) (from to middle cycle : ℕ) → IsFirst P from to middle
+pub first-either : {P Q : ℕ → Type 0} {from to middle cycle : ℕ} → IsFirst P from to middle
     → IsFirst Q from middle cycle → IsFirst (λ t. P t ⊎ Q t) from to cycle
-first-either P Q from to middle cycle one other =
-    let most = one.most in
-    let within = other.most in
-    record {
-      least = other.least;
-      most = omega arith;
-      before = λ t since less has. elim has [
-        | inl first ↦ one.before t since (omega arith) first
-        | inr second ↦ other.before t since less second
-      ];
-      holds = λ early. elim (cases_lt cycle middle) [
-        | inl sooner ↦ inr (other.holds sooner)
-        | inr same ↦
-            let is : middle ≡ cycle = omega arith in
-            inl (subst P is (one.holds (omega arith)))
-      ];
-    }
-
--- It is the first of what holds in just the same cycles.
-pub first-same : (P Q : ℕ → Type 0) (from to cycle : ℕ) → ((t : ℕ) → P t → Q t)
-    → ((t : ℕ) → Q t → P t) → IsFirst P from to cycle → IsFirst Q from to cycle
-first-same P Q from to cycle gives back first = record {
-  least = first.least;
-  most = first.most;
-  before = λ t since less has. first.before t since less (back t has);
-  holds = λ early. gives cycle (first.holds early);
-}
-
--- Where nothing holds there is no such cycle.
-pub first-none : (P : ℕ → Type 0) (from to : ℕ) → from ≤ to
-    → ((t : ℕ) → from ≤ t → t < to → P t → ⊥) → IsFirst P from to to
-first-none P from to le none = record {
-  least = le;
-  most = omega arith;
-  before = none;
-  holds = λ early. absurd (omega arith);
-}
+first-either one other =
+    first-of (known-both (λ t has. has) (known-of (λ t. inl) one) (known-of (λ t. inr) other))
 
 -- A list that isn't one of some items has none.
 pub not-empty : {X : Type 0} (xs : List X) → ((xs ≡ [] → ⊥) → ⊥) → xs ≡ []
@@ -88,15 +54,12 @@ module _ {X : Type 0} (key : X → ℕ) (rows : List X) (rises : IsNonDecreasing
       let of = eqb-true (key row) t now in
       let (k, at) = slice_get-Contains rows row has in
       let within = slice_get_within rows k row at in
-      let own = ap key (get_or_from_slice_get rows k row row at) in
       elim (cases_lt k place) [
-        | inl before ↦ elim (cases_lt (key (get_or rows k row)) time) [
-          | inl early ↦ absurd (omega arith)
-          | inr late ↦
-              let behind = (passed-at key time rows k row rises within).1 late in
-              absurd (omega arith)
-        ]
+        | inl before ↦
+            let behind = (passed-of key time rows k row rises at).1 (omega arith) in
+            absurd (omega arith)
         | inr behind ↦
+            let own = ap key (get_or_from_slice_get rows k row row at) in
             let order = rises place k row behind within in
             let first = next row (omega arith) in
             absurd (omega arith)
@@ -104,12 +67,19 @@ module _ {X : Type 0} (key : X → ℕ) (rows : List X) (rises : IsNonDecreasing
 
   pub row-none : ((d : X) → place < length rows → to ≤ key (get_or rows place d))
       → IsFirst HasRow time to to
-  row-none next = first-none HasRow time to le (λ t since less has.
-      has (none-before to t next since less))
+  row-none next = first-of (known-none le (λ t since less has.
+      has (none-before to t next since less)))
 
-  pub row-first : (d : X) → place < length rows → key (get_or rows place d) < to
-      → IsFirst HasRow time to (key (get_or rows place d))
-  row-first d within early =
+  pub row-late : (d : X) (cycle : ℕ) → cycle ≡ key (get_or rows place d) → place < length rows
+      → to ≤ cycle → IsFirst HasRow time to to
+  row-late d cycle own within late = row-none (λ e inside.
+      let same = ap key (get_or_from_slice_get rows place (get_or rows place d) e
+      (slice_get-get_or rows place d within)) in
+      omega arith)
+
+  pub row-first : (d : X) (cycle : ℕ) → cycle ≡ key (get_or rows place d) → place < length rows
+      → cycle < to → IsFirst HasRow time to cycle
+  row-first d cycle own within early =
       let row = get_or rows place d in
       let at = slice_get-get_or rows place d within in
       let late : time ≤ key row = elim (cases_lt (key row) time) [
@@ -119,11 +89,11 @@ module _ {X : Type 0} (key : X → ℕ) (rows : List X) (rises : IsNonDecreasing
         | inr high ↦ high
       ] in
       record {
-        least = late;
+        least = omega arith;
         most = omega arith;
-        before = λ t since less has. has (none-before (key row) t (λ e inside.
+        before = λ t since less has. has (none-before cycle t (λ e inside.
             let same = ap key (get_or_from_slice_get rows place row e at) in
             omega arith) since less);
-        holds = λ less none. kept-none (λ (one : X). key one == key row) rows none row
-            (Contains-slice_get rows place row at) (eq-eqb (key row) (key row) refl);
+        holds = λ less none. kept-none (λ (one : X). key one == cycle) rows none row
+            (Contains-slice_get rows place row at) (eq-eqb (key row) cycle (sym own));
       }

@@ -1,7 +1,7 @@
 -- Channels have room for the words that are coming, from one change to the next.
-use Rattle.std.proofs.Common.{◌≡◌, ◌≤◌, ◌<◌, ◌+◌, ◌&&◌, ◌++◌, ◌∙◌, ℕ, Bool, true, false}
-use Rattle.std.proofs.Common.{List, [], ◌∷◌, ap, arith, cond, drop, fold, get_or, inl, inr}
-use Rattle.std.proofs.Common.{zero, suc, subst, take, length, nat_lt, refl}
+use Rattle.std.proofs.Common.{◌≡◌, ◌≤◌, ◌<◌, ◌+◌, ◌&&◌, ◌++◌, ◌∙◌, ℕ, true}
+use Rattle.std.proofs.Common.{List, [], ◌∷◌, ap, arith, drop, fold, get_or, inl, inr}
+use Rattle.std.proofs.Common.{subst, take, length, nat_lt, refl}
 use Rattle.std.proofs.Common.{sym, length-set}
 use Rattle.std.proofs.Common.{◌^◌}
 use Rattle.std.proofs.Common.{get_or-set_other, get_or-set_same}
@@ -11,7 +11,6 @@ use Rattle.std.proofs.lemmas.Bool.Decides.{nat_tests}
 use Rattle.std.proofs.lemmas.List.Elements.{All-head, All-tail, All-set}
 use Rattle.std.proofs.lemmas.List.Elements.{All-take, All-weaker}
 use Rattle.std.proofs.lemmas.List.{drop_more, length-drop, take-append-drop}
-use Rattle.std.proofs.lemmas.List.Sums.{sum_by-cons}
 use Rattle.std.proofs.lemmas.Option.{slice_get_within}
 use Rattle.aeth_components.specs.Lanes.{IsLane}
 use Rattle.aeth_components.specs.declared.lane.Lane.{Lane}
@@ -20,59 +19,8 @@ use Rattle.aeth_stimuli.specs.Stimuli.{Offer, Take, is_over}
 use Rattle.aeth_schedule.specs.declared.going.Going.{Going}
 use Rattle.aeth_trace.specs.Channels.{channel_number}
 use Rattle.aeth_network.specs.Fits.{AreFit, HaveCounts, IsFit, is_accepted}
+use Rattle.aeth_network.proofs.CountLemmas.{count-cons, count-weaker, count-yes}
 use Rattle.aeth_components.proofs.LaneLemmas.{each-with_lane, length-with_lane}
-
--- A word that passes a test counts once more.
-pub count-cons : {X : Type 0} (p : X → Bool) (x : X) (xs : List X)
-    → count_by p (x ∷ xs) ≡ cond (p x) 1 0 + count_by p xs
-count-cons p x xs = sum_by-cons (λ y. cond (p y) 1 0) x xs
-
-count-yes : {X : Type 0} (p : X → Bool) (x : X) (xs : List X) → p x ≡ true
-    → count_by p (x ∷ xs) ≡ 1 + count_by p xs
-count-yes p x xs passes =
-    count-cons p x xs ∙ ap (λ test. cond test 1 0 + count_by p xs) passes
-
-pub count-no : {X : Type 0} (p : X → Bool) (x : X) (xs : List X) → p x ≡ false
-    → count_by p (x ∷ xs) ≡ 0 + count_by p xs
-count-no p x xs fails =
-    count-cons p x xs ∙ ap (λ test. cond test 1 0 + count_by p xs) fails
-
--- A test that passes for no more rows than another counts no more.
-pub count-weaker : {X : Type 0} (p q : X → Bool) (xs : List X)
-    → ((x : X) → p x ≡ true → q x ≡ true) → count_by p xs ≤ count_by q xs
-count-weaker p q [] passes = omega arith
-count-weaker p q (x ∷ xs) passes =
-    let later = count-weaker p q xs passes in
-    let other = count-cons q x xs in
-    elim (cases_Bool (p x)) [
-      | inl here ↦
-          let more = count-yes p x xs here in
-          let fewer = count-yes q x xs (passes x here) in
-          omega arith
-      | inr not_here ↦ let more = count-no p x xs not_here in omega arith
-    ]
-
--- Nor does it of the later rows.
-pub count-behind : {X : Type 0} (p q : X → Bool) (k : ℕ) (xs : List X)
-    → All (λ x. p x ≡ true → q x ≡ true) (drop k xs) → count_by p (drop k xs) ≤ count_by q xs
-count-behind p q zero [] passes = omega arith
-count-behind p q (suc k) [] passes = omega arith
-count-behind {X} p q zero (x ∷ xs) passes =
-    let holds = λ (y : X). p y ≡ true → q y ≡ true in
-    let later = count-behind p q zero xs (All-tail holds x xs passes) in
-    let other = count-cons q x xs in
-    let first = All-head holds x xs passes in
-    elim (cases_Bool (p x)) [
-      | inl here ↦
-          let more = count-yes p x xs here in
-          let fewer = count-yes q x xs (first here) in
-          omega arith
-      | inr not_here ↦ let more = count-no p x xs not_here in omega arith
-    ]
-count-behind p q (suc k) (x ∷ xs) passes =
-    let later = count-behind p q k xs passes in
-    let more = count-cons q x xs in
-    omega arith
 
 module _ (words parts : ℕ) where
   -- A word that comes is accepted by its channel, or it is outside of all.
@@ -251,44 +199,6 @@ HaveCounts-offered t untils (offer ∷ offers) coming outside within counts =
     (rw size (All-tail (λ (one : Offer). one.number < length outside) offer offers within))
     (HaveCounts-outside t untils offer (offers ++ coming) outside
     (All-head (λ (one : Offer). one.number < length outside) offer offers within) counts)
-
-pub length-untils : (goings : List Going) (untils : List ℕ)
-    → length (fold until_with untils goings) ≡ length untils
-length-untils [] untils = refl
-length-untils (going ∷ goings) untils =
-    length-untils goings (until_with untils going)
-    ∙ length-set untils (channel_number going.channel) going.until
-
-pub length-gone : (goings : List Going) (lanes : List Lane)
-    → length (fold gone_with lanes goings) ≡ length lanes
-length-gone [] lanes = refl
-length-gone (going ∷ goings) lanes =
-    length-gone goings (gone_with lanes going)
-    ∙ length-with_lane (channel_number going.channel)
-    (λ lane. record going.lane { pull = lane.pull }) lanes
-
-pub length-taking : (takes : List Take) (lanes : List Lane)
-    → length (fold taking_with lanes takes) ≡ length lanes
-length-taking [] lanes = refl
-length-taking (take ∷ takes) lanes =
-    length-taking takes (taking_with lanes take)
-    ∙ length-with_lane take.number (λ lane. record lane { pull = take.pull }) lanes
-
-pub length-accepted : (t : ℕ) (untils : List ℕ) (offer : Offer) (lanes : List Lane)
-    → length (accepted_with t untils lanes offer) ≡ length lanes
-length-accepted t untils offer lanes =
-    elim (cases_Bool (nat_lt t (slice_index untils offer.number))) [
-      | inl accepts ↦ rw accepts (length-with_lane offer.number
-          (λ lane. record lane { accepted = lane.accepted + 1 }) lanes)
-      | inr refuses ↦ rw refuses refl
-    ]
-
-pub length-all_accepted : (t : ℕ) (untils : List ℕ) (offers : List Offer) (lanes : List Lane)
-    → length (fold (accepted_with t untils) lanes offers) ≡ length lanes
-length-all_accepted t untils [] lanes = refl
-length-all_accepted t untils (offer ∷ offers) lanes =
-    length-all_accepted t untils offers (accepted_with t untils lanes offer)
-    ∙ length-accepted t untils offer lanes
 
 -- The next of some words that are offered in a cycle has room, once those before it are offered.
 pub AreFit-next : (words parts t : ℕ) (untils : List ℕ) (offers : List Offer)

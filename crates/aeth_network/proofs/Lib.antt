@@ -2,6 +2,7 @@ mod Adding
 mod AskerLemmas
 mod ByNumberLemmas
 mod CarriedLemmas
+mod CountLemmas
 mod CycleLemmas
 mod Cycling
 pub mod Enterings
@@ -12,15 +13,20 @@ mod FirstNetwork
 mod Firsts
 mod FitLemmas
 mod Followed
+mod KnownFirsts
+mod LaneCounts
 mod Lanes
+mod MappedRows
 mod NextBusy
 mod Passed
 pub mod Playing
 mod PullLemmas
+mod Ready
 mod Replaced
 mod RestingLanes
 mod RowLemmas
 mod RunWires
+mod SeenNetworks
 mod Skipped
 mod Skipping
 mod Stepping

@@ -37,7 +37,7 @@ use Rattle.aeth_network.specs.Runs.{IsNetworkOf}
 use Rattle.aeth_network.proofs.Firsts.{not-empty}
 use Rattle.aeth_network.proofs.Playing.{cycles-of}
 use Rattle.aeth_network.proofs.RestingLanes.{asks-first, asks-seen, begun, gone-landed, seen-asks}
-use Rattle.aeth_network.proofs.Stepping.{ways-are}
+use Rattle.aeth_network.proofs.Ready.{ways-are}
 use Rattle.aeth_network.proofs.FitLemmas.{HasWay}
 
 -- So many cycles behind so many.

@@ -1,14 +1,15 @@
 -- Rows whose cycles don't fall: those before a cycle come first, and those of a cycle next to them.
-use Rattle.std.proofs.Common.{◌≡◌, ◌<◌, ◌≤◌, ◌+◌, ◌-◌, ◌==◌, ℕ, zero, suc, List, [], ◌∷◌}
+use Rattle.std.proofs.Common.{◌≡◌, ◌<◌, ◌≤◌, ◌↔◌, ◌+◌, ◌-◌, ◌==◌, ◌∙◌, ℕ, Bool, zero, suc}
 use Rattle.std.proofs.Common.{length, take, drop, filter, refl, ap, arith, inl, inr, nat_lt, true}
-use Rattle.std.proofs.Common.{false, get_or}
-use Rattle.std.specs.Prelude.{All, slice_range}
+use Rattle.std.proofs.Common.{List, [], ◌∷◌, Some, false, get_or, slice_get, sym}
+use Rattle.std.specs.Prelude.{All, IsTrue, slice_range}
 use Rattle.std.specs.List.Sorted.{IsNonDecreasingBy}
-use Rattle.std.proofs.lemmas.Bool.{cases_lt}
+use Rattle.std.proofs.lemmas.Bool.{cases_lt, lt-ltb}
 use Rattle.std.proofs.lemmas.Bool.Decides.{nat_tests}
 use Rattle.std.proofs.lemmas.List.Elements.{All-cons, All-head, All-nil, All-tail, All-weaker}
 use Rattle.std.proofs.lemmas.List.Elements.{All-get_or}
 use Rattle.std.proofs.lemmas.List.Sums.{length-filter, count_by-le-length}
+use Rattle.std.proofs.lemmas.Option.{get_or_from_slice_get, slice_get_within}
 use Rattle.aeth_trace.proofs.OrderLemmas.{first_least, later_rise}
 use Rattle.aeth_network.specs.Behind.{IsBehind, passed}
 
@@ -69,6 +70,45 @@ passed-at key cycle (x ∷ xs) (suc k) d rises within =
           let rest = later.1 high in
           grind (arith, nat_tests),
     )
+
+-- The same of a row that is known to stand there.
+pub passed-of : {X : Type 0} (key : X → ℕ) (cycle : ℕ) (xs : List X) (k : ℕ) (x : X)
+    → IsNonDecreasingBy key xs → slice_get xs k ≡ Some x
+    → (key x < cycle → k < passed key cycle xs) × (cycle ≤ key x → passed key cycle xs ≤ k)
+passed-of key cycle xs k x rises at =
+    rw (get_or_from_slice_get xs k x x at)
+    at (passed-at key cycle xs k x rises (slice_get_within xs k x at))
+
+-- A test of a row's cycle is one of its place, also where no row stands there.
+pub passed-test : {X : Type 0} (key : X → ℕ) (cycle : ℕ) (xs : List X) (k : ℕ) (d : X)
+    → IsNonDecreasingBy key xs → k < length xs → (own limit : ℕ) → own ≡ key (get_or xs k d)
+    → limit ≡ cycle → IsTrue (nat_lt own limit) ↔ (k < passed key cycle xs)
+passed-test key cycle xs k d rises within own limit is same =
+    let at = passed-at key cycle xs k d rises within in (
+      (λ yes. let less : own < limit = grind (arith, nat_tests) in at.0 (omega arith)),
+      (λ has. elim (cases_lt own limit) [
+        | inl less ↦ lt-ltb own limit less
+        | inr more ↦ let past = at.1 (omega arith) in absurd (omega arith)
+      ]),
+    )
+
+pub passed-past : {X : Type 0} (key : X → ℕ) (cycle : ℕ) (xs : List X) (k : ℕ) → length xs ≤ k
+    → IsTrue false ↔ (k < passed key cycle xs)
+passed-past key cycle xs k past =
+    let few = passed-few key cycle xs in ((λ is. absurd (cc is)), (λ has. absurd (omega arith)))
+
+-- Where a place lies before a cycle a row stands there, and fewer are left behind it.
+pub passed-left : {X : Type 0} (key : X → ℕ) (cycle : ℕ) (xs : List X) (k : ℕ)
+    → k < passed key cycle xs → (k < length xs) × (length xs - (k + 1) < length xs - k)
+passed-left key cycle xs k before =
+    let few = passed-few key cycle xs in (omega arith, omega arith)
+
+-- A test of an order that fails.
+pub past-test : {test : Bool} {a b : ℕ} → IsTrue test ↔ (a < b) → test ≡ false → b ≤ a
+past-test {a = a} {b = b} exact fails = elim (cases_lt a b) [
+  | inl less ↦ let holds = exact.1 less in absurd (cc (sym holds ∙ fails))
+  | inr past ↦ past
+]
 
 -- Those behind the ones before a cycle aren't before it.
 pub passed-behind : {X : Type 0} (key : X → ℕ) (cycle : ℕ) (xs : List X)

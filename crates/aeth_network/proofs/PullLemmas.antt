@@ -3,7 +3,7 @@ use Rattle.std.proofs.Common.{◌≡◌, ◌≤◌, ◌<◌, ◌⊎◌, ◌+◌,
 use Rattle.std.proofs.Common.{drop, false, get_or, inl, inr, length, max, min, refl, sym, take, true}
 use Rattle.std.specs.Prelude.{slice_range}
 use Rattle.std.specs.List.Sorted.{IsNonDecreasingBy}
-use Rattle.std.proofs.lemmas.Bool.{and_from, cases_lt, le-leb, lt-ltb}
+use Rattle.std.proofs.lemmas.Bool.{cases_lt}
 use Rattle.std.proofs.lemmas.Bool.Decides.{nat_tests}
 use Rattle.std.proofs.lemmas.List.{drop_more}
 use Rattle.std.proofs.lemmas.List.Sums.{fold-append}
@@ -13,7 +13,8 @@ use Rattle.aeth_components.specs.declared.lane.Lane.{Lane}
 use Rattle.aeth_stimuli.specs.Stimuli.{Take}
 use Rattle.aeth_network.specs.Behind.{passed}
 use Rattle.aeth_network.specs.Next.{AsksIn, pull_behind}
-use Rattle.aeth_network.proofs.Firsts.{first-none, slice-append}
+use Rattle.aeth_network.proofs.Firsts.{slice-append}
+use Rattle.aeth_network.proofs.KnownFirsts.{first-of, known-none}
 use Rattle.aeth_network.proofs.Passed.{passed-at}
 use Rattle.aeth_network.proofs.RestingLanes.{passed-rises}
 
@@ -148,33 +149,10 @@ module _ (lane : Lane) (number : ℕ) (takes : List Take) (time to place since a
   open-below : (t : ℕ) → is_open lane t ≡ true → t < lane.fin
   open-below t opened = grind (arith, nat_tests)
 
-  -- The receiver takes since then.
-  pub pulls-since : 0 < pull → since < end → passed cycle_of (since + 1) takes ≤ at
-      → IsFirst (AsksIn lane number takes place) time to since
-  pulls-since some early most =
-      let late = so.late in
-      let gone = so.gone in
-      let now = so.held since (omega arith) most in
-      record {
-        least = so.late;
-        most = omega arith;
-        before = λ t from less asks.
-            let none = so.none t from (open-from t asks.opened) less in
-            let pulls = asks.pulls in
-            omega (arith, none, pulls);
-        holds = λ below. record {
-          waits = waits;
-          opened = and_from _ _ (le-leb lane.go since gone)
-              (lt-ltb since lane.fin (omega arith));
-          pulls = omega (arith, now, some);
-        };
-      }
-
-  -- Or it takes none.
+  -- The receiver takes none.
   pub pulls-never : (0 < pull → end ≤ since) → (pull ≡ 0 → passed cycle_of end takes ≤ at)
       → IsFirst (AsksIn lane number takes place) time to to
-  pulls-never late all = first-none (AsksIn lane number takes place) time to le
-      (λ t from less asks.
+  pulls-never late all = first-of (known-none le (λ t from less asks.
       let go = open-from t asks.opened in
       let fin = open-below t asks.opened in
       let pulls = asks.pulls in
@@ -192,4 +170,4 @@ module _ (lane : Lane) (number : ℕ) (takes : List Take) (time to place since a
               let none = so.held t behind (omega arith) in
               absurd (omega (arith, none, pulls, nothing))
         ]
-      ])
+      ]))

@@ -20,7 +20,7 @@ use Rattle.aeth_running.specs.Quiet.{ready_lanes}
 use Rattle.aeth_network.specs.Behind.{passed}
 use Rattle.aeth_network.specs.Next.{HasAsker, pull_behind}
 use Rattle.aeth_network.proofs.Firsts.{fold-slices}
-use Rattle.aeth_network.proofs.FitLemmas.{length-taking}
+use Rattle.aeth_network.proofs.LaneCounts.{length-taking}
 use Rattle.aeth_network.proofs.Passed.{passed-more, passed-range}
 
 -- A row changes how the receiver of its channel takes, and of no other.

@@ -3,7 +3,7 @@ use Rattle.std.proofs.Common.{◌≡◌, ◌≤◌, ◌<◌, ◌+◌, ◌-◌, �
 use Rattle.std.proofs.Common.{fold, refl, subst, sym}
 use Rattle.std.specs.Prelude.{slice_range, vec_capacity}
 use Rattle.aeth_components.specs.Components.{ComponentsState}
-use Rattle.aeth_stimuli.specs.Stimuli.{Stimuli, Take}
+use Rattle.aeth_stimuli.specs.Stimuli.{Take}
 use Rattle.aeth_events.specs.Events.{events_in}
 use Rattle.aeth_running.specs.Network.{NetworkState, goings_in, offers_in, played}
 use Rattle.aeth_running.specs.Network.{stepped, takes_in, taking_with}
@@ -15,21 +15,23 @@ use Rattle.aeth_running.specs.Routing.{Routing, enterings_in}
 use Rattle.aeth_running.specs.Quiet.{AreStill, brought_over, rested}
 use Rattle.aeth_running.specs.Still.{IsStill}
 use Rattle.aeth_network.specs.Behind.{passed}
-use Rattle.aeth_network.specs.Cursors.{AreCursors}
+use Rattle.aeth_network.specs.Cursors.{AreCursors, routing_with, stimuli_with}
 use Rattle.aeth_network.specs.Brought.{IsBrought}
-use Rattle.aeth_network.specs.Networks.{IsNetwork, network_of}
+use Rattle.aeth_network.specs.Networks.{IsNetwork}
 use Rattle.aeth_network.specs.declared.given.CycleRows.{CycleRows}
 use Rattle.aeth_network.specs.declared.given.Cursors.{Cursors}
 use Rattle.aeth_network.specs.declared.state.State.{State}
 use Rattle.aeth_report.specs.Log.{LogData}
-use Rattle.aeth_network.proofs.Cycling.{IsNetwork-more, in-order, over}
-use Rattle.aeth_network.specs.Runs.{IsNetworkOf}
+use Rattle.aeth_network.specs.Runs.{HasInputs, IsNetworkOf}
+use Rattle.aeth_network.specs.declared.network.RoutedNetwork.TheInside.{Inside}
+use Rattle.aeth_network.proofs.Cycling.{over}
 use Rattle.aeth_network.proofs.NextBusy.{played-sum}
 use Rattle.aeth_network.proofs.Playing.{cycles-of, many-of, played-log, played-more, played-none}
-use Rattle.aeth_network.proofs.Playing.{played-time, still-of}
+use Rattle.aeth_network.proofs.Playing.{played-time}
 use Rattle.aeth_network.proofs.RestingLanes.{passed-rises}
-use Rattle.aeth_network.proofs.Skipping.{IsNetwork-stepped, IsNetwork-played, rested-is}
-use Rattle.aeth_network.proofs.Skipping.{cursors-behind, over-stepped, rests-as}
+use Rattle.aeth_network.proofs.SeenNetworks.{Becomes, in-order, seen, seen_next}
+use Rattle.aeth_network.proofs.Skipping.{IsNetwork-played, cursors-behind, over-stepped}
+use Rattle.aeth_network.proofs.Skipping.{rested-is, rests-as}
 
 -- What the laws of resting say of the network of inputs.
 abbrev RestsOnce : Inputs → Routing → Type 0
@@ -57,38 +59,20 @@ none-enter inputs all of k still within j less =
     still-unentered inputs all.routing of.routed (all.time + j) (omega arith)
     (subst IsStill (ap (played j) of.is ∙ played-sum j all.time first) (still j less))
 
--- A cycle that leaves a network, once it is brought.
-module _ (inputs : Inputs) (stimuli : Stimuli) (routing : Routing) (state : State) (log : LogData)
-    (time : ℕ) (is : IsNetwork (vec_capacity state.replaced) (network_of stimuli routing state log time))
-    (of : IsNetworkOf inputs (network_of stimuli routing state log time))
-    (one : RestsOnce inputs routing) (still : IsStill (network_of stimuli routing state log time))
-    (early : time < log.cycles)
-    (rows : CycleRows) (goings : rows.goings.now ≡ goings_in stimuli time)
-    (offers : rows.offers.now ≡ offers_in stimuli time)
-    (takes : rows.takes.now ≡ takes_in stimuli time) (brought : State)
-    (has : IsBrought rows time state brought) (events : rows.events.now ≡ events_in stimuli time)
-  where
-    abbrev unplayed : NetworkState
-    unplayed = network_of stimuli routing state log time
-
-    abbrev brought_now : NetworkState
-    brought_now = network_of stimuli routing brought log (time + 1)
-
-    pub brought-is : brought_now ≡ stepped unplayed
-    brought-is =
-        over stimuli routing state log time is rows goings offers takes brought has events
-        (still-enters inputs unplayed of still early)
-        ∙ sym (over-stepped inputs unplayed of one still early)
-
-    pub brought-network : IsNetwork (vec_capacity brought.replaced) brought_now
-    brought-network =
-        subst (IsNetwork (vec_capacity brought.replaced)) (sym brought-is)
-        (IsNetwork-more (vec_capacity state.replaced) (vec_capacity brought.replaced)
-        (stepped unplayed) has.capacity
-        (IsNetwork-stepped (vec_capacity state.replaced) unplayed is))
-
-    pub brought-of : IsNetworkOf inputs brought_now
-    brought-of = still-of inputs unplayed brought_now of early brought-is
+-- A cycle that leaves a network, once it is brought, is all that it does.
+pub brought-is : (all : Inside) → IsNetwork (vec_capacity all.state.replaced) (seen all)
+    → (has : HasInputs (seen all)) → RestsOnce has.inputs (routing_with all.given)
+    → IsStill (seen all) → all.time < all.log.cycles → (rows : CycleRows)
+    → rows.goings.now ≡ goings_in (stimuli_with all.given) all.time
+    → rows.offers.now ≡ offers_in (stimuli_with all.given) all.time
+    → rows.takes.now ≡ takes_in (stimuli_with all.given) all.time
+    → rows.events.now ≡ events_in (stimuli_with all.given) all.time
+    → (brought : State) → IsBrought rows all.time all.state brought
+    → seen_next all brought ≡ stepped (seen all)
+brought-is all is has one still early rows goings offers takes events brought brings =
+    over all is rows goings offers takes brought brings events
+    (still-enters has.inputs (seen all) has.of still early)
+    ∙ sym (over-stepped has.inputs (seen all) has.of one still early)
 
 -- As many rows lie before a cycle, or more.
 pub place-rises : (takes rows : List Take) → rows ≡ takes → (place time to : ℕ)
@@ -102,29 +86,38 @@ place-rises takes rows are place time to is le =
     let same = ap (passed key to) are in
     omega (arith, more, later, same, is)
 
--- A network behind later cycles that left it, up to one.
-module _ (inputs : Inputs) (capacity : ℕ) (old : NetworkState) (is : IsNetwork capacity old)
-    (of : IsNetworkOf inputs old) (later : RestsLater inputs old.routing) (to : ℕ) (from : old.time ≤ to)
-    (within : to ≤ old.log.cycles) (late : 0 < to → 0 < old.time)
-    (still : AreStill (to - old.time) old) where
-  end-is : old.time + (to - old.time) ≡ to
-  end-is = omega arith
+-- Later cycles leave a network, up to one.
+pub record MayRest (all : NetworkState) (to : ℕ) : Type 0 where
+  pub from : all.time ≤ to
+  pub within : to ≤ all.log.cycles
+  pub late : 0 < to → 0 < all.time
+  pub still : AreStill (to - all.time) all
 
-  some-late : 0 < to - old.time → 0 < old.time
-  some-late some = late (omega arith)
+-- A network behind them.
+module _ (capacity : ℕ) (old : NetworkState) (is : IsNetwork capacity old) (has : HasInputs old)
+    (to : ℕ) (may : MayRest old to) where
+  abbrev count : ℕ
+  count = to - old.time
 
-  rests-is : played (to - old.time) old ≡ record old {
-    components = record old.components {
-      lanes = fold taking_with old.components.lanes (slice_range old.stimuli.takes
-          (passed (λ one. one.cycle) old.time old.stimuli.takes)
-          (passed (λ one. one.cycle) to old.stimuli.takes));
-    };
-    time = to;
-  }
-  rests-is =
-      rests-as inputs old of later (to - old.time) still some-late (omega (arith, end-is, within))
-      ∙ rested-is old is.stimuli.take_order (to - old.time)
-      ∙ ap (λ n.
+  end-is : old.time + count ≡ to
+  end-is = let from = may.from in omega arith
+
+  some-late : 0 < count → 0 < old.time
+  some-late some = may.late (omega arith)
+
+  within : old.time + count ≤ old.log.cycles
+  within = let end = end-is in let most = may.within in omega arith
+
+  pub rests-behind : RestsLater has.inputs old.routing → (components : ComponentsState)
+      (rows : List Take) (first last : ℕ) → rows ≡ old.stimuli.takes
+      → first ≡ passed (λ one. one.cycle) old.time old.stimuli.takes
+      → last ≡ passed (λ one. one.cycle) to old.stimuli.takes
+      → components ≡ record old.components {
+        lanes = fold taking_with old.components.lanes (slice_range rows first last);
+      }
+      → Becomes capacity (record old { components = components; time = to }) (played count old)
+  rests-behind later components rows first last rows_are first_is last_is are =
+      let resting = λ (n : ℕ).
       let one : NetworkState = record old {
         components = record old.components {
           lanes = fold taking_with old.components.lanes (slice_range old.stimuli.takes
@@ -133,25 +126,23 @@ module _ (inputs : Inputs) (capacity : ℕ) (old : NetworkState) (is : IsNetwork
         };
         time = n;
       } in
-      one) end-is
-
-  pub rests-behind : (components : ComponentsState) (rows : List Take) (first last : ℕ)
-      → rows ≡ old.stimuli.takes → first ≡ passed (λ one. one.cycle) old.time old.stimuli.takes
-      → last ≡ passed (λ one. one.cycle) to old.stimuli.takes
-      → components ≡ record old.components {
-        lanes = fold taking_with old.components.lanes (slice_range rows first last);
+      one in
+      let rested : played count old ≡ resting to =
+      rests-as has.inputs old has.of later count may.still some-late within
+      ∙ rested-is old is.stimuli.take_order count ∙ ap resting end-is in
+      let behind : record old { components = components; time = to } ≡ played count old =
+      rw (are, rows_are, first_is, last_is) (sym rested) in
+      let cycles = cycles-of has.inputs old has.of in
+      let most = within in
+      record {
+        is = behind;
+        network = subst (IsNetwork capacity) (sym behind) (IsNetwork-played capacity count old is);
+        has = record {
+          inputs = has.inputs;
+          of = subst (IsNetworkOf has.inputs) (sym behind)
+              (many-of has.inputs old count has.of (omega arith));
+        };
       }
-      → record old { components = components; time = to } ≡ played (to - old.time) old
-  rests-behind components rows first last rows_are first_is last_is are =
-      rw (are, rows_are, first_is, last_is) (sym rests-is)
-
-  pub rests-network : IsNetwork capacity (played (to - old.time) old)
-  rests-network = IsNetwork-played capacity (to - old.time) old is
-
-  pub rests-of : IsNetworkOf inputs (played (to - old.time) old)
-  rests-of =
-      let cycles = cycles-of inputs old of in
-      many-of inputs old (to - old.time) of (omega (arith, cycles, end-is, within))
 
   pub rests-cursors : (cursors : Cursors) (last : ℕ)
       → AreCursors cursors old.time old.stimuli old.routing
@@ -159,26 +150,20 @@ module _ (inputs : Inputs) (capacity : ℕ) (old : NetworkState) (is : IsNetwork
       → AreCursors (record cursors { take = last }) to old.stimuli old.routing
   rests-cursors cursors last at last_is =
       subst (λ n. AreCursors (record cursors { take = last }) n old.stimuli old.routing) end-is
-      (cursors-behind old (in-order capacity old is) (to - old.time) still some-late
-      (none-enter inputs old of (to - old.time) still (omega (arith, end-is, within))) cursors last at
+      (cursors-behind old (in-order capacity old is) count may.still some-late
+      (none-enter has.inputs old has.of count may.still within) cursors last at
       (last_is ∙ ap (λ n. passed (λ (one : Take). one.cycle) n old.stimuli.takes) (sym end-is)))
 
 -- A network that has passed over cycle 0, if it was there.
 pub record IsBegun (old now : NetworkState) (to : ℕ) : Type 0 where
-  pub from : now.time ≤ to
-  pub within : to ≤ now.log.cycles
-  pub late : 0 < to → 0 < now.time
-  pub still : AreStill (to - now.time) now
+  pub may : MayRest now to
   pub played_is : played (to - now.time) now ≡ played (to - old.time) old
 
 pub begun-later : (old now : NetworkState) (to : ℕ) → now ≡ old → (0 < to → 0 < old.time)
     → old.time ≤ to → to ≤ old.log.cycles → AreStill (to - old.time) old → IsBegun old now to
 begun-later old now to is late from within still =
     subst (λ (one : NetworkState). IsBegun old one to) (sym is) (record {
-      from = from;
-      within = within;
-      late = late;
-      still = still;
+      may = record { from = from; within = within; late = late; still = still };
       played_is = refl;
     })
 
@@ -194,11 +179,13 @@ begun-first old now to is start some within still =
     ∙ ap (λ (log : LogData). log.cycles) (stepped-log old) in
     let left : 1 + (to - now.time) ≡ to - old.time = omega arith in
     record {
-      from = omega arith;
-      within = omega arith;
-      late = λ any. omega arith;
-      still = λ j less. subst IsStill (sym (ap (played j) one ∙ played-sum j 1 old))
-          (still (1 + j) (omega arith));
+      may = record {
+        from = omega arith;
+        within = omega arith;
+        late = λ any. omega arith;
+        still = λ j less. subst IsStill (sym (ap (played j) one ∙ played-sum j 1 old))
+            (still (1 + j) (omega arith));
+      };
       played_is = ap (played (to - now.time)) one ∙ played-sum (to - now.time) 1 old
           ∙ ap (λ n. played n old) left;
     }

@@ -21,7 +21,7 @@ use Rattle.aeth_network.specs.Behind.{passed}
 use Rattle.aeth_network.specs.Cursors.{AreCursors, AreInOrder}
 use Rattle.aeth_network.specs.Networks.{IsNetwork}
 use Rattle.aeth_network.specs.declared.given.Cursors.{Cursors}
-use Rattle.aeth_network.proofs.Cycling.{events-range}
+use Rattle.aeth_network.proofs.MappedRows.{events-range}
 use Rattle.aeth_network.proofs.Firsts.{fold-slices}
 use Rattle.aeth_network.proofs.Passed.{passed-few, passed-more, passed-range}
 use Rattle.aeth_network.specs.Runs.{IsNetworkOf}
@@ -29,7 +29,8 @@ use Rattle.aeth_network.proofs.NextBusy.{played-sum}
 use Rattle.aeth_network.proofs.Playing.{cycles-of}
 use Rattle.aeth_network.proofs.Playing.{played-time}
 use Rattle.aeth_network.proofs.RestingLanes.{passed-rises}
-use Rattle.aeth_network.proofs.Stepping.{IsNetwork-behind, behind-is, length-in}
+use Rattle.aeth_network.proofs.Stepping.{IsNetwork-behind, behind-is}
+use Rattle.aeth_network.proofs.Ready.{length-in}
 use Rattle.aeth_network.proofs.WindowLemmas.{over-later}
 
 -- What holds of networks holds behind one more cycle, and behind so many.
@@ -154,9 +155,6 @@ rested-is all rises (suc k) =
 module _ (all : NetworkState) (order : AreInOrder all.stimuli all.routing) (k : ℕ)
     (still : AreStill k all) (late : 0 < k → 0 < all.time)
     (unentered : (j : ℕ) → j < k → enterings_in all.routing (all.time + j) ≡ []) where
-  at-still : (j : ℕ) → j < k → IsStill (played j all)
-  at-still j less = still j less
-
   no-offers : (j : ℕ) → j < k → offers_in all.stimuli (all.time + j) ≡ []
   no-offers j less =
       (λ i. offers_in (sym (played-given j all) i) (sym (played-time j all) i))

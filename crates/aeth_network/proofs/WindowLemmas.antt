@@ -1,11 +1,9 @@
 -- The windows of accepted inputs begin one after the other, and what lies before the first that is
 -- left, and behind the last that begins.
-use Rattle.std.proofs.Common.{◌≡◌, ◌≤◌, ◌<◌, ◌∙◌, ℕ, All, List, [], ◌∷◌, Some, ap, arith, get_or, inl}
-use Rattle.std.proofs.Common.{inr, map, max, slice_get, subst, sym}
+use Rattle.std.proofs.Common.{◌≡◌, ◌≤◌, ◌<◌, ◌∙◌, ℕ, All, List, [], ◌∷◌, Some, ap, arith}
+use Rattle.std.proofs.Common.{map, max, slice_get, subst, sym}
 use Rattle.std.specs.List.Sorted.{IsNonDecreasingBy}
-use Rattle.std.proofs.lemmas.Bool.{cases_lt}
 use Rattle.std.proofs.lemmas.List.Elements.{All-cons, All-head, All-nil, All-tail}
-use Rattle.std.proofs.lemmas.Option.{get_or_from_slice_get, slice_get_within}
 use Rattle.aeth_base.proofs.Members.{All-slice_get}
 use Rattle.aeth_trace.proofs.OrderLemmas.{first_least, later_rise, rise-cons}
 use Rattle.aeth_trace.specs.Spans.{SpanData}
@@ -21,7 +19,7 @@ use Rattle.aeth_running.specs.Network.{NetworkState}
 use Rattle.aeth_network.specs.Behind.{passed}
 use Rattle.aeth_network.specs.Runs.{IsNetworkOf}
 use Rattle.aeth_network.specs.Windows.{AreAscending, AreOver}
-use Rattle.aeth_network.proofs.Passed.{passed-at}
+use Rattle.aeth_network.proofs.Passed.{passed-of}
 
 -- When a window begins.
 abbrev pub begin_of : Window → ℕ
@@ -107,15 +105,10 @@ pub begins-late : (windows : List Window) → AreAscending windows → (limit nu
     (window : Window) → passed begin_of limit windows ≤ number
     → slice_get windows number ≡ Some window → t < limit → IsWithin window t → ⊥
 begins-late windows ascend limit number t window past at less is =
-    let inside = slice_get_within windows number window at in
-    let same = ap begin_of (get_or_from_slice_get windows number window window at) in
     let begins = All-slice_get Begins windows number window ascend.begins at in
     let from = within-from window t begins is in
-    let before = (passed-at begin_of limit windows number window ascend.order inside).0 in
-    elim (cases_lt (begin_of (get_or windows number window)) limit) [
-      | inl early ↦ let place = before early in omega arith
-      | inr late ↦ omega arith
-    ]
+    let before = (passed-of begin_of limit windows number window ascend.order at).0 (omega arith) in
+    omega arith
 
 -- Windows that are over from a cycle on are so from a later one on.
 pub over-later : (count time later : ℕ) (windows : List Window) → time ≤ later

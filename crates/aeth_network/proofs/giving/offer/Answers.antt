@@ -5,7 +5,7 @@ use Rattle.aeth_stimuli.specs.Stimuli.{Offer}
 use Rattle.aeth_network.specs.Fits.{AreFit}
 use Rattle.aeth_running.proofs.OutsideTold.{length-all_outside}
 use Rattle.aeth_network.proofs.FitLemmas.{AreFit-next, HaveCounts-next}
-use Rattle.aeth_network.proofs.Stepping.{lanes-accepted}
+use Rattle.aeth_network.proofs.LaneCounts.{lanes-accepted}
 use Rattle.aeth_network.proofs.giving.offer.Goals as goal
 
 -- There are as many channels as before.

@@ -1,8 +1,7 @@
 use Rattle.std.proofs.Common.{◌∙◌, ◌<◌, ap, arith, length, subst, sym, take}
 use Rattle.aeth_trace.specs.Channels.{channel_number}
 use Rattle.aeth_schedule.specs.declared.going.Going.{Going}
-use Rattle.aeth_network.proofs.FitLemmas.{length-untils}
-use Rattle.aeth_network.proofs.Stepping.{lanes-gone}
+use Rattle.aeth_network.proofs.LaneCounts.{lanes-gone, length-untils}
 use Rattle.aeth_network.proofs.giving.start.Goals as goal
 
 -- There are as many channels as before.

@@ -1,7 +1,7 @@
 use Rattle.std.proofs.Common.{◌≡◌, ◌∙◌, ◌<◌, ap, arith, length, subst, sym, take}
 use Rattle.aeth_components.specs.Components.{ComponentsState}
 use Rattle.aeth_stimuli.specs.Stimuli.{Take}
-use Rattle.aeth_network.proofs.FitLemmas.{length-taking}
+use Rattle.aeth_network.proofs.LaneCounts.{length-taking}
 use Rattle.aeth_network.proofs.giving.take.Goals as goal
 
 -- There are as many channels as before.

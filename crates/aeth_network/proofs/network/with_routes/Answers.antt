@@ -1,17 +1,11 @@
-use Rattle.std.proofs.Common.{◌≡◌, ◌∙◌, ap, subst, sym}
+use Rattle.std.proofs.Common.{◌≡◌, ◌∙◌, ap}
 use Rattle.std.proofs.lemmas.Result.{IfOk-weaker}
 use Rattle.aeth_running.specs.Network.{NetworkState, first_network}
-use Rattle.aeth_running.specs.Routing.{IsRoutingFor}
 use Rattle.aeth_network.specs.Cursors.{routing_with}
 use Rattle.aeth_network.specs.Routes.{routing_in}
 use Rattle.aeth_network.specs.Runs.{IsNetworkOf}
 use Rattle.aeth_network.proofs.Playing.{first-of}
 use Rattle.aeth_network.proofs.network.with_routes.Goals as goal
-
--- The tables are such as routers need.
-pub with_given-requires-clause-routed : goal.with_given-requires-clause-routed
-with_given-requires-clause-routed c =
-    subst (IsRoutingFor c.args.inputs.now) (sym c.in_ok-given.ensures.routing) c.requires
 
 -- It is the network of its inputs, before their first cycle.
 pub returns-clause-first : goal.returns-clause-first

@@ -1,9 +1,9 @@
-use Rattle.std.proofs.Common.{◌≡◌, ◌≤◌, ◌<◌, ◌⊎◌, ◌+◌, ◌-◌, ◌∙◌, ap, arith, get_or, inl}
+use Rattle.std.proofs.Common.{◌≡◌, ◌≤◌, ◌<◌, ◌⊎◌, ◌∙◌, ap, arith, get_or, inl}
 use Rattle.std.proofs.Common.{inr, length, max, min, sym}
 use Rattle.std.proofs.lemmas.Bool.{cases_lt, eq-eqb, ne_eqb}
 use Rattle.aeth_stimuli.specs.Stimuli.{Take}
 use Rattle.aeth_network.specs.Behind.{passed}
-use Rattle.aeth_network.proofs.Passed.{passed-at, passed-few}
+use Rattle.aeth_network.proofs.Passed.{passed-at, passed-few, passed-left, past-test}
 use Rattle.aeth_network.proofs.PullLemmas.{cycle_of, pulled-first, pulled-other, pulled-own}
 use Rattle.aeth_network.proofs.PullLemmas.{pulls-never}
 use Rattle.aeth_network.proofs.next.next_pull.Goals.{else-pull-gt0-via-else-pull-gt0}
@@ -23,18 +23,14 @@ rows-init c =
 -- The row is there.
 pub bounds-takes-at : goal.bounds-takes-at
 bounds-takes-at c =
-    let before = c.is_before.ensures.exact.0 c.rows-test.true in
-    let few = passed-few cycle_of c.limit_of.result c.args.takes.now in
-    omega arith
+    (passed-left cycle_of c.limit_of.result c.args.takes.now c.rows.at
+    (c.is_before.ensures.exact.0 c.rows-test.true)).0
 
 -- One row less is left.
 pub rows-smaller : goal.rows-smaller
 rows-smaller c =
-    let before = c.is_before.ensures.exact.0 c.rows-test.true in
-    let few = passed-few cycle_of c.limit_of.result c.args.takes.now in
-    let less : length c.args.takes.now - (c.rows.at + 1) < length c.args.takes.now - c.rows.at =
-    omega arith in
-    less
+    (passed-left cycle_of c.limit_of.result c.args.takes.now c.rows.at
+    (c.is_before.ensures.exact.0 c.rows-test.true)).1
 
 -- One row more.
 pub rows-preserved : goal.rows-preserved
@@ -88,14 +84,7 @@ pub returns-else-pull-gt0 : goal.returns-else-pull-gt0
 returns-else-pull-gt0 c =
     let takes = c.args.takes.now in
     let ends = c.min-end.ensures in
-    let exit : passed cycle_of c.limit_of.result takes ≤ c.rows.at =
-    elim (cases_lt c.rows.at (passed cycle_of c.limit_of.result takes)) [
-      | inr past ↦ past
-      | inl less ↦
-          let yes = c.is_before.ensures.exact.1 less in
-          let not = c.rows-test.false in
-          absurd (cc (sym yes ∙ not))
-    ] in
+    let exit = past-test c.is_before.ensures.exact c.rows-test.false in
     pulls-never c.args.lane.now c.args.number takes c.args.time c.args.to c.args.place c.rows.since
     c.rows.at c.rows.pull c.requires.to c.requires.waits c.rows.invariant
     (λ some. elim c.else-pull-gt0.branch [

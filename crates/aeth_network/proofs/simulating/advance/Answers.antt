@@ -1,24 +1,11 @@
-use Rattle.std.proofs.Common.{◌∙◌, ap, arith, sym}
+use Rattle.std.proofs.Common.{◌∙◌, ap, arith}
 use Rattle.aeth_running.specs.Network.{NetworkState}
 use Rattle.aeth_running.proofs.Played.{stepped-time}
 use Rattle.aeth_network.proofs.CarriedLemmas.{counts-on}
 use Rattle.aeth_network.proofs.Skipped.{played-behind, skipped-cycles, skipped-time}
 use Rattle.aeth_network.proofs.simulating.advance.Goals as goal
 
--- The cycles before the next busy one leave the network.
-pub skip-requires-clause-from : goal.skip-requires-clause-from
-skip-requires-clause-from g c = c.requires.next.from
-
-pub skip-requires-clause-to : goal.skip-requires-clause-to
-skip-requires-clause-to g c = c.requires.next.to
-
-pub skip-requires-clause-still : goal.skip-requires-clause-still
-skip-requires-clause-still g c = c.requires.next.still
-
--- The run has one more.
-pub cycle_counted-requires-clause-order : goal.cycle_counted-requires-clause-order
-cycle_counted-requires-clause-order g c = c.requires.order ∙ sym c.skip.ensures.parts
-
+-- The run has one more cycle.
 pub cycle_counted-requires-clause-time : goal.cycle_counted-requires-clause-time
 cycle_counted-requires-clause-time g c =
     let time = skipped-time c.args.network.now c.skip.new.self c.args.next c.requires.next.from
@@ -40,10 +27,6 @@ pub returns-clause-played : goal.returns-clause-played
 returns-clause-played g c =
     played-behind c.args.network.now c.skip.new.self c.cycle_counted.new.self c.args.next
     c.requires.next.from c.skip.ensures.played c.cycle_counted.ensures.steps
-
--- No component comes or goes.
-pub returns-clause-parts : goal.returns-clause-parts
-returns-clause-parts g c = c.cycle_counted.ensures.parts ∙ c.skip.ensures.parts
 
 -- Cycles that are passed over cost nothing.
 pub returns-clause-counted : goal.returns-clause-counted

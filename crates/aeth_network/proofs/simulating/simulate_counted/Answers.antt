@@ -62,16 +62,6 @@ cycles-smaller g c =
     let less : new.log.cycles - new.time < old.log.cycles - old.time = omega arith in
     less
 
--- Then none before the end is busy.
-pub skip-requires-clause-from : goal.skip-requires-clause-from
-skip-requires-clause-from g c = c.cycles.invariant.next.from
-
-pub skip-requires-clause-to : goal.skip-requires-clause-to
-skip-requires-clause-to g c = c.cycles.invariant.next.to
-
-pub skip-requires-clause-still : goal.skip-requires-clause-still
-skip-requires-clause-still g c = c.cycles.invariant.next.still
-
 -- All are played.
 pub returns-clause-played : goal.returns-clause-played
 returns-clause-played g c =
@@ -84,9 +74,6 @@ returns-clause-played g c =
     played-further first c.cycles.network c.skip.new.self c.cycles.next c.cycles.invariant.least
     c.cycles.invariant.next.from c.cycles.invariant.is c.skip.ensures.played
     ∙ ap (λ n. played (n - first.time) first) end
-
-pub returns-clause-parts : goal.returns-clause-parts
-returns-clause-parts g c = c.skip.ensures.parts ∙ c.cycles.invariant.parts
 
 -- A network of accepted inputs stays theirs, and all their cycles are done.
 pub returns-clause-run : goal.returns-clause-run

@@ -1,18 +1,15 @@
-use Rattle.std.proofs.Common.{◌≡◌, ◌≤◌, ◌<◌, ◌-◌, ℕ, Some, length, slice_get}
+use Rattle.std.proofs.Common.{◌-◌, ℕ, length}
 use Rattle.aeth_schedule.specs.Windows.{IsWithin}
 use Rattle.aeth_schedule.specs.declared.windows.Window.{Window}
-use Rattle.aeth_network.specs.Next.{HasWindow}
+use Rattle.aeth_network.specs.Next.{HasWindow, IsFirstKnown}
+use Rattle.aeth_network.proofs.KnownFirsts.{HasSeen}
 use Rattle.aeth_network.proofs.windows.next_window.Given as goal
 
 -- The first cycle of the windows so far.
 abbrev pub invariant-windows : goal.invariant-windows
-invariant-windows l = record {
-  least : l.time ≤ l.next;
-  most : l.next ≤ l.to;
-  before : (i other : ℕ) (window : Window) → i < l.at → slice_get l.windows i ≡ Some window
-      → l.time ≤ other → other < l.next → IsWithin window other → ⊥;
-  holds : l.next < l.to → HasWindow l.windows l.next;
-}
+invariant-windows l =
+    let has = λ (i : ℕ) (window : Window) (t : ℕ). IsWithin window t in
+    IsFirstKnown (HasSeen has l.windows l.at) (HasWindow l.windows) l.time l.to l.next
 
 -- How many are left.
 abbrev pub decreases-windows : goal.decreases-windows

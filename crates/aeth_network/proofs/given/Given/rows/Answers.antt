@@ -1,16 +1,11 @@
-use Rattle.std.proofs.Common.{◌∙◌, ◌+◌, ℕ, ap, subst, sym}
+use Rattle.std.proofs.Common.{◌∙◌, ◌+◌, ℕ, ap, subst}
 use Rattle.std.specs.Prelude.{slice_range}
 use Rattle.aeth_schedule.specs.declared.going.Going.{Going}
 use Rattle.aeth_stimuli.specs.Stimuli.{Offer, Take}
 use Rattle.aeth_network.specs.Behind.{passed}
 use Rattle.aeth_network.specs.Windows.{AreOver}
-use Rattle.aeth_network.proofs.Cycling.{events-range, rows-behind}
+use Rattle.aeth_network.proofs.MappedRows.{events-range}
 use Rattle.aeth_network.proofs.given.Given.rows.Goals as goal
-
--- The windows before the place are over.
-pub place_behind-window-requires : goal.place_behind-window-requires
-place_behind-window-requires c =
-    subst (AreOver c.args.from.window c.args.time) (sym c.windows.ensures) c.requires.from.window_is
 
 -- The events are those of the cycle.
 pub returns-clause-events : goal.returns-clause-events
@@ -23,29 +18,6 @@ returns-clause-events c =
     ∙ ap (slice_range schedule.events (passed key c.args.time schedule.cycles)) last
     ∙ events-range c.args.time schedule.cycles schedule.events c.requires.order.event_cycles
     c.requires.order.events
-
--- So are the sessions, the words and the rows of receivers.
-pub returns-clause-goings : goal.returns-clause-goings
-returns-clause-goings c =
-    rows-behind (λ (one : Going). one.lane.go) c.args.time c.args.self.now.schedule.goings
-    c.goings.result.now c.goings-2.result.now c.args.from.going c.behind-going.result
-    c.goings.ensures c.goings-2.ensures c.behind-going.ensures
-
-pub returns-clause-offers : goal.returns-clause-offers
-returns-clause-offers c =
-    rows-behind (λ (one : Offer). one.cycle) c.args.time c.args.self.now.offers.items
-    c.deref.result.now c.deref-3.result.now c.args.from.offer c.behind-offer.result
-    c.deref.ensures.value c.deref-3.ensures.value c.behind-offer.ensures
-
-pub returns-clause-takes : goal.returns-clause-takes
-returns-clause-takes c =
-    rows-behind (λ (one : Take). one.cycle) c.args.time c.args.self.now.takes.items
-    c.deref-2.result.now c.deref-4.result.now c.args.from.take c.behind-take.result
-    c.deref-2.ensures.value c.deref-4.ensures.value c.behind-take.ensures
-
--- So are the rows that enter tables.
-pub returns-clause-entering : goal.returns-clause-entering
-returns-clause-entering c = c.behind_entering-entering.ensures
 
 -- The places are those of the next cycle.
 pub returns-clause-behind : goal.returns-clause-behind

@@ -1,75 +1,47 @@
-use Rattle.std.proofs.Common.{◌≡◌, ◌≤◌, ◌∙◌, All, List, Option, ap, arith, length, subst, sym}
-use Rattle.std.specs.Prelude.{slice_range}
-use Rattle.aeth_router.specs.declared.part.Part.{Part}
+use Rattle.std.proofs.Common.{◌≡◌, ◌<◌, ◌∙◌, ap, arith, length, subst, sym}
+use Rattle.std.specs.Prelude.{slice_range, vec_capacity}
 use Rattle.aeth_components.specs.Components.{ComponentsState}
-use Rattle.aeth_components.specs.Entering.{TakesRows}
 use Rattle.aeth_components.specs.Turns.{flits_on}
 use Rattle.aeth_running.specs.Network.{NetworkState, stepped}
-use Rattle.aeth_running.specs.Routing.{Routing, later_rows}
+use Rattle.aeth_running.specs.Routing.{later_rows}
 use Rattle.aeth_network.specs.Routes.{routing_in}
-use Rattle.aeth_network.specs.Cursors.{routing_with, stimuli_with}
-use Rattle.aeth_network.specs.Networks.{network_of}
-use Rattle.aeth_network.proofs.Cycling.{can-bring, events-doable, in-order, network-behind}
-use Rattle.aeth_network.proofs.Cycling.{stepped-behind}
-use Rattle.aeth_network.proofs.Enterings.{entered-in, later-takes, size-with}
+use Rattle.aeth_network.proofs.Cycling.{can-bring, events-doable, stepped-behind}
+use Rattle.aeth_network.proofs.Enterings.{later-takes, size-entered}
 use Rattle.aeth_network.proofs.Playing.{still-of}
+use Rattle.aeth_network.proofs.SeenNetworks.{Becomes, becomes-stepped, seen, seen_next}
+use Rattle.aeth_network.proofs.network.RoutedNetwork.cycle_counted.Given as given
 use Rattle.aeth_network.proofs.network.RoutedNetwork.cycle_counted.Goals as goal
-
--- What is given comes in order.
-pub rows-rows-requires-clause-order : goal.rows-rows-requires-clause-order
-rows-rows-requires-clause-order g c = in-order _ _ c.self.invariant.0
-
--- The places are those of the cycle.
-pub rows-rows-requires-clause-from : goal.rows-rows-requires-clause-from
-rows-rows-requires-clause-from g c = c.self.invariant.1
 
 -- The state has room for what the cycle brings.
 pub bring-requires : goal.bring-requires
 bring-requires g c =
-    let inside = c.self.inside in
     let rows = c.rows-rows.ensures in
-    can-bring (stimuli_with inside.given) (routing_with inside.given) inside.state inside.log inside.time c.self.invariant.0
-    c.rows-rows.result rows.goings rows.offers rows.takes
+    can-bring c.self.inside c.self.invariant.0 c.rows-rows.result rows.goings rows.offers rows.takes
 
--- The rows that enter are those between the places.
-pub enter-requires-clause-from : goal.enter-requires-clause-from
-enter-requires-clause-from g c = c.rows-rows.ensures.entering.after
-
-pub enter-requires-clause-to : goal.enter-requires-clause-to
-enter-requires-clause-to g c =
-    subst (λ (tables : Option Routing).
-    c.rows-rows.result.behind.entering ≤ length (later_rows (routing_in tables)))
-    (sym c.rows-rows.ensures.tables) c.rows-rows.ensures.entering.within
-
--- They are in range of the tables.
+-- The rows that enter are in range of the tables.
 pub enter-requires-clause-takes : goal.enter-requires-clause-takes
 enter-requires-clause-takes g c =
-    let inside = c.self.inside in
     let has = c.self.invariant.2 in
-    subst (λ (tables : Option Routing). All (λ entering. All (TakesRows entering.rows)
-    c.bring.new.self.components.parts) (later_rows (routing_in tables)))
-    (sym c.rows-rows.ensures.tables)
-    (subst (λ (parts : List Part). All (λ entering. All (TakesRows entering.rows) parts)
-    (later_rows (routing_with inside.given)))
-    (sym (ap (λ (all : ComponentsState). all.parts) c.bring.ensures.components))
-    (later-takes has.inputs (network_of (stimuli_with inside.given) (routing_with inside.given)
-    inside.state inside.log inside.time) has.of))
+    rw (c.rows-rows.ensures.tables, c.bring.ensures.components)
+    (later-takes has.inputs (seen c.self.inside) has.of)
+
+-- Components are as many as before.
+size : (g : given.Over) (c : goal.After-run-arg-2-1 g)
+    → length c.enter.new.components.parts ≡ length c.args.self.now.components.parts
+size g c =
+    let parts = λ (all : ComponentsState). all.parts in
+    size-entered (slice_range (later_rows (routing_in c.rows-rows.result.tables.now))
+    c.self.inside.cursors.entering c.rows-rows.result.behind.entering)
+    c.self.inside.state.components.parts c.bring.new.self.components.parts
+    c.enter.new.components.parts (ap parts c.bring.ensures.components) (ap parts c.enter.ensures)
+    ∙ ap (λ (all : NetworkState). length all.components.parts) c.self.view_is
 
 -- The order is of all components, in a cycle of the run.
 pub run-requires-clause-order : goal.run-requires-clause-order
-run-requires-clause-order g c =
-    let enterings = slice_range (later_rows (routing_in c.rows-rows.result.tables.now))
-    c.self.inside.cursors.entering c.rows-rows.result.behind.entering in
-    let all = c.bring.new.self.components in
-    c.requires.order
-    ∙ ap (λ (all : NetworkState). length all.components.parts) (sym c.self.view_is)
-    ∙ sym (ap (λ (all : ComponentsState). length all.parts) c.bring.ensures.components)
-    ∙ sym (ap (λ (all : ComponentsState). length all.parts) c.enter.ensures
-    ∙ size-with enterings all.parts)
+run-requires-clause-order g c = c.requires.order ∙ sym (size g c)
 
 pub run-requires-clause-time : goal.run-requires-clause-time
 run-requires-clause-time g c =
-    let early = c.requires.time in
     let time = ap (λ (all : NetworkState). all.time) c.self.view_is in
     let cycles = ap (λ (all : NetworkState). all.log.cycles) c.self.view_is in
     let most = c.self.invariant.0.cycles in
@@ -78,67 +50,35 @@ run-requires-clause-time g c =
 -- The components can do the events.
 pub run-requires-clause-events : goal.run-requires-clause-events
 run-requires-clause-events g c =
+    let rows = c.rows-rows.ensures in
+    events-doable c.self.inside c.self.invariant.0 c.rows-rows.result rows.goings rows.offers
+    rows.takes c.bring.new.self c.bring.ensures rows.events c.enter.new.components rows.tables
+    rows.entering c.enter.ensures
+
+-- The network is behind one more cycle, and what holds of networks holds of it.
+step : (g : given.Over) (c : goal.After-self-3-1 g)
+    → Becomes (vec_capacity c.bring.new.self.replaced)
+    (seen_next c.self.inside (record c.bring.new.self { components = c.run.new.components }))
+    (stepped (seen c.self.inside))
+step g c =
     let inside = c.self.inside in
     let rows = c.rows-rows.ensures in
-    events-doable (stimuli_with inside.given) (routing_with inside.given) inside.state inside.log
-    inside.time c.self.invariant.0 c.rows-rows.result rows.goings rows.offers rows.takes
-    c.bring.new.self c.bring.ensures rows.events c.enter.new.components (entered-in (routing_in c.rows-rows.result.tables.now) (routing_with inside.given)
-    (ap routing_in rows.tables) inside.time _ _
-    c.bring.new.self.components c.enter.new.components c.enter.ensures rows.entering)
+    becomes-stepped (vec_capacity inside.state.replaced) _ _ _ c.self.invariant.0
+    c.bring.ensures.capacity c.self.invariant.2
+    (subst (λ (all : NetworkState). all.time < all.log.cycles) (sym c.self.view_is) c.requires.time)
+    (stepped-behind inside c.self.invariant.0 c.rows-rows.result rows.goings rows.offers rows.takes
+    c.bring.new.self c.bring.ensures rows.events c.enter.new.components rows.tables rows.entering
+    c.enter.ensures c.run.new.components c.run.ensures.cycle)
 
--- What holds of networks holds behind the cycle.
 pub invariant_of-self : goal.invariant_of-self
-invariant_of-self g c =
-    let inside = c.self.inside in
-    let has = c.self.invariant.2 in
-    let early = c.requires.time in
-    let time = ap (λ (all : NetworkState). all.time) c.self.view_is in
-    let cycles = ap (λ (all : NetworkState). all.log.cycles) c.self.view_is in
-    let rows = c.rows-rows.ensures in (
-      network-behind (stimuli_with inside.given) (routing_with inside.given) inside.state inside.log
-          inside.time c.self.invariant.0 c.rows-rows.result rows.goings rows.offers rows.takes
-          c.bring.new.self c.bring.ensures rows.events c.enter.new.components (entered-in (routing_in c.rows-rows.result.tables.now) (routing_with inside.given)
-          (ap routing_in rows.tables) inside.time _ _
-          c.bring.new.self.components c.enter.new.components c.enter.ensures rows.entering)
-          c.run.new.components c.run.ensures.cycle,
-      rows.behind,
-      record {
-        inputs = has.inputs;
-        of = still-of has.inputs
-            (network_of (stimuli_with inside.given) (routing_with inside.given) inside.state inside.log
-            inside.time) _ has.of (omega (arith, early, time, cycles))
-            (stepped-behind (stimuli_with inside.given) (routing_with inside.given) inside.state
-            inside.log inside.time c.self.invariant.0 c.rows-rows.result rows.goings rows.offers
-            rows.takes c.bring.new.self c.bring.ensures rows.events c.enter.new.components
-            (entered-in (routing_in c.rows-rows.result.tables.now) (routing_with inside.given)
-            (ap routing_in rows.tables) inside.time _ _
-            c.bring.new.self.components c.enter.new.components c.enter.ensures rows.entering) c.run.new.components c.run.ensures.cycle);
-      },
-    )
+invariant_of-self g c = ((step g c).network, c.rows-rows.ensures.behind, (step g c).has)
 
--- The network is behind one more cycle.
 pub returns-clause-steps : goal.returns-clause-steps
-returns-clause-steps g c =
-    let inside = c.self.inside in
-    let rows = c.rows-rows.ensures in
-    stepped-behind (stimuli_with inside.given) (routing_with inside.given) inside.state inside.log
-    inside.time c.self.invariant.0 c.rows-rows.result rows.goings rows.offers rows.takes
-    c.bring.new.self c.bring.ensures rows.events c.enter.new.components (entered-in (routing_in c.rows-rows.result.tables.now) (routing_with inside.given)
-    (ap routing_in rows.tables) inside.time _ _
-    c.bring.new.self.components c.enter.new.components c.enter.ensures rows.entering)
-    c.run.new.components c.run.ensures.cycle
-    ∙ ap stepped c.self.view_is
+returns-clause-steps g c = (step g c).is ∙ ap stepped c.self.view_is
 
--- Components are as many as before.
+-- No component comes or goes.
 pub returns-clause-parts : goal.returns-clause-parts
-returns-clause-parts g c =
-    let enterings = slice_range (later_rows (routing_in c.rows-rows.result.tables.now))
-    c.self.inside.cursors.entering c.rows-rows.result.behind.entering in
-    c.run.ensures.cycle.size
-    ∙ ap (λ (all : ComponentsState). length all.parts) c.enter.ensures
-    ∙ size-with enterings c.bring.new.self.components.parts
-    ∙ ap (λ (all : ComponentsState). length all.parts) c.bring.ensures.components
-    ∙ ap (λ (all : NetworkState). length all.components.parts) c.self.view_is
+returns-clause-parts g c = c.run.ensures.cycle.size ∙ size g c.before.before.before.before
 
 -- A network of accepted inputs stays theirs.
 pub returns-clause-run : goal.returns-clause-run
@@ -148,14 +88,9 @@ returns-clause-run g c = λ inputs is.
 -- So many steps: no wire changes before them.
 pub returns-clause-counted : goal.returns-clause-counted
 returns-clause-counted g c =
+    let wires = λ (all : ComponentsState). all.wires in
     let counted = c.run.ensures.steps in
-    let entered : flits_on c.enter.new.components.wires
-    ≡ flits_on c.bring.new.self.components.wires =
-    ap (λ (all : ComponentsState). flits_on all.wires) c.enter.ensures in
-    let brought : flits_on c.bring.new.self.components.wires
-    ≡ flits_on c.self.inside.state.components.wires =
-    ap (λ (all : ComponentsState). flits_on all.wires) c.bring.ensures.components in
-    let before : flits_on c.self.inside.state.components.wires
-    ≡ flits_on c.args.self.now.components.wires =
-    ap (λ (all : NetworkState). flits_on all.components.wires) c.self.view_is in
-    omega (arith, counted, entered, brought, before)
+    let same : flits_on c.enter.new.components.wires ≡ flits_on c.args.self.now.components.wires =
+    ap flits_on (ap wires c.enter.ensures ∙ ap wires c.bring.ensures.components
+    ∙ ap (λ (all : NetworkState). all.components.wires) c.self.view_is) in
+    omega arith

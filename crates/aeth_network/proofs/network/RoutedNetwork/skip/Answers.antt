@@ -8,19 +8,7 @@ use Rattle.aeth_network.proofs.network.RoutedNetwork.skip.Goals.{else-self-eq0-v
 use Rattle.aeth_network.proofs.network.RoutedNetwork.skip.Goals.{else-self-eq0-via-then-self-eq0+else-to-gt0}
 use Rattle.aeth_network.proofs.network.RoutedNetwork.skip.Goals as goal
 
--- Cycle 0 is to be passed over.
-pub begin-requires-clause-time : goal.begin-requires-clause-time
-begin-requires-clause-time c =
-    let time = ap (λ (all : NetworkState). all.time) c.self.view_is in
-    let start = c.if-self-eq0.true in
-    omega arith
-
-pub begin-requires-clause-some : goal.begin-requires-clause-some
-begin-requires-clause-some c =
-    let some = c.if-to-gt0.true in
-    let within = c.requires.to in
-    omega arith
-
+-- Cycle 0 is to be passed over, and leaves the network.
 pub begin-requires-clause-still : goal.begin-requires-clause-still
 begin-requires-clause-still c =
     let time = ap (λ (all : NetworkState). all.time) c.self.view_is in
@@ -52,16 +40,16 @@ begun c =
 
 -- So later ones are left.
 pub rest-requires-clause-from : goal.rest-requires-clause-from
-rest-requires-clause-from c = (begun c).from
+rest-requires-clause-from c = (begun c).may.from
 
 pub rest-requires-clause-to : goal.rest-requires-clause-to
-rest-requires-clause-to c = (begun c).within
+rest-requires-clause-to c = (begun c).may.within
 
 pub rest-requires-clause-late : goal.rest-requires-clause-late
-rest-requires-clause-late c = (begun c).late
+rest-requires-clause-late c = (begun c).may.late
 
 pub rest-requires-clause-still : goal.rest-requires-clause-still
-rest-requires-clause-still c = (begun c).still
+rest-requires-clause-still c = (begun c).may.still
 
 -- All of them are played.
 pub returns-clause-played : goal.returns-clause-played

@@ -6,8 +6,7 @@ use Rattle.aeth_schedule.specs.declared.going.Going.{Going}
 use Rattle.aeth_running.specs.Network.{outside_with}
 use Rattle.aeth_stimuli.specs.Loaded.{no_lane}
 use Rattle.aeth_stimuli.specs.Stimuli.{Offer, Take}
-use Rattle.aeth_network.proofs.FitLemmas.{length-untils}
-use Rattle.aeth_network.proofs.Stepping.{lanes-accepted, lanes-gone}
+use Rattle.aeth_network.proofs.LaneCounts.{lanes-accepted, lanes-gone, length-untils}
 use Rattle.aeth_network.proofs.state.State.bring.Goals as goal
 
 -- The words are for channels that there are, once sessions have gone.
@@ -32,11 +31,6 @@ offer-requires-clause-outside c =
     c.requires.outside
     ∙ sym (lanes-gone c.start.new.components c.args.self.now.components rows.goings.now
     c.start.ensures.components)
-
--- They have room.
-pub offer-requires-clause-fit : goal.offer-requires-clause-fit
-offer-requires-clause-fit c =
-    rw (c.deref.ensures.value, c.start.ensures.untils, c.start.ensures.components) c.requires.fit
 
 -- The rows of receivers are for channels that there are.
 pub take-requires : goal.take-requires

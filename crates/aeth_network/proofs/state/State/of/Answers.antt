@@ -23,11 +23,6 @@ loaded-requires-clause-rooms c =
     rw c.chip.ensures (ap (λ (schedule : ScheduleData). length schedule.rooms) c.requires.schedule
     ∙ rooms-counted c.args.inputs.now)
 
--- There are interfaces.
-pub loaded-requires-clause-some : goal.loaded-requires-clause-some
-loaded-requires-clause-some c =
-    rw c.chip.ensures c.are_accepted.ensures.design.chip_is.some_nis
-
 -- The components can do what is written first.
 pub loaded-requires-clause-loaded : goal.loaded-requires-clause-loaded
 loaded-requires-clause-loaded c =

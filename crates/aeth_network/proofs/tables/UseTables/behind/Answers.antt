@@ -1,7 +1,7 @@
 use Rattle.std.proofs.Common.{◌∙◌, ℕ, List, ap, subst, sym}
 use Rattle.std.specs.List.Sorted.{IsNonDecreasingBy}
 use Rattle.aeth_running.specs.Routing.{Entering, Routing, later_rows}
-use Rattle.aeth_network.proofs.Enterings.{behind-mapped, passed-mapped, rises-mapped}
+use Rattle.aeth_network.proofs.MappedRows.{behind-mapped, passed-mapped, rises-mapped}
 use Rattle.aeth_network.specs.Behind.{IsBehind, passed}
 use Rattle.aeth_network.specs.Routes.{entering_of, rows_in}
 use Rattle.aeth_network.specs.declared.tables.EnteredUse.{EnteredUse}

@@ -6,7 +6,7 @@ use Rattle.aeth_router.specs.declared.part.Part.{Part}
 use Rattle.aeth_router.specs.declared.router_row.RouterRow.{RouterRow}
 use Rattle.aeth_components.specs.Entering.{TakesRows}
 use Rattle.aeth_running.specs.Routing.{Entering, Routing, entered_with, later_rows}
-use Rattle.aeth_network.proofs.Enterings.{all-mapped, range-map}
+use Rattle.aeth_network.proofs.MappedRows.{all-mapped, range-map}
 use Rattle.aeth_network.specs.Routes.{entered_use, entering_of, rows_in}
 use Rattle.aeth_network.specs.declared.tables.EnteredUse.{EnteredUse}
 use Rattle.aeth_network.proofs.tables.UseTables.enter.Goals as goal

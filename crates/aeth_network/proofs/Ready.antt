@@ -1,0 +1,210 @@
+-- A network while a cycle of it runs.
+use Rattle.std.proofs.Common.{◌≡◌, ◌≤◌, ◌<◌, ◌+◌, ◌-◌, ◌==◌, ◌&&◌, ◌++◌, ◌∙◌, ℕ, Bool, true}
+use Rattle.std.proofs.Common.{List, []}
+use Rattle.std.proofs.Common.{◌∷◌, ap, arith, drop, filter, fold, get_or, inl, inr, length, map, nat_lt}
+use Rattle.std.proofs.Common.{refl, subst, sym}
+use Rattle.std.specs.Prelude.{All, count_by, slice_range}
+use Rattle.std.specs.List.{slice_index_or}
+use Rattle.std.proofs.lemmas.Bool.{cases_Bool}
+use Rattle.std.proofs.lemmas.Bool.Decides.{nat_tests}
+use Rattle.std.proofs.lemmas.List.{length-drop, length-map, length-take}
+use Rattle.std.proofs.lemmas.List.Elements.{All-cons, All-get_or, All-head, All-map}
+use Rattle.std.proofs.lemmas.List.Elements.{All-nil, All-tail}
+use Rattle.std.proofs.lemmas.List.Folds.{drop_split}
+use Rattle.aeth_trace.specs.Channels.{channel_number}
+use Rattle.aeth_components.specs.Components.{IsComponents, frames_of}
+use Rattle.aeth_router.specs.declared.part.Part.{Part}
+use Rattle.aeth_components.proofs.EnteringLemmas.{frames-entered}
+use Rattle.aeth_components.specs.Entering.{with_rows}
+use Rattle.aeth_components.specs.Frames.{Frame, IsWired, frame_of}
+use Rattle.aeth_components.specs.Lanes.{IsLane}
+use Rattle.aeth_schedule.specs.declared.going.Going.{Going}
+use Rattle.aeth_running.specs.Network.{NetworkState, accepted_with, gone_with, goings_in}
+use Rattle.aeth_running.specs.Network.{offers_in, ready_in}
+use Rattle.aeth_stimuli.specs.Loaded.{no_lane}
+use Rattle.aeth_running.specs.Network.{takes_in, untils_in}
+use Rattle.aeth_running.specs.Routing.{Entering, entered_with, enterings_in}
+use Rattle.aeth_stimuli.specs.Stimuli.{Offer, is_offered_in, is_over}
+use Rattle.aeth_network.specs.Behind.{passed}
+use Rattle.aeth_network.specs.Networks.{IsNetwork}
+use Rattle.aeth_network.specs.Fits.{AreFit}
+use Rattle.aeth_network.proofs.CycleLemmas.{All-fit}
+use Rattle.aeth_network.proofs.FitLemmas.{AreFit-all_gone, AreFit-offered, AreFit-taking, HasWay}
+use Rattle.aeth_network.proofs.CountLemmas.{count-behind}
+use Rattle.aeth_network.proofs.LaneCounts.{length-all_accepted, length-gone, length-taking}
+use Rattle.aeth_network.proofs.Passed.{passed-behind, passed-few, passed-more, passed-range}
+
+-- What passes a test has what all that pass it have.
+pub All-passing : {X : Type 0} (P Q : X → Type 0) (test : X → Bool) (xs : List X)
+    → ((x : X) → test x ≡ true → P x → Q x) → All P xs → All Q (filter test xs)
+All-passing P Q test [] gives all = All-nil Q
+All-passing P Q test (x ∷ xs) gives all =
+    let rest = All-passing P Q test xs gives (All-tail P x xs all) in
+    elim (cases_Bool (test x)) [
+      | inl passes ↦ rw passes
+          (All-cons Q x (filter test xs) (gives x passes (All-head P x xs all)) rest)
+      | inr fails ↦ rw fails rest
+    ]
+
+-- As many rows of a cycle as there are behind it more than before it.
+pub length-in : {X : Type 0} (key : X → ℕ) (t : ℕ) (xs rows : List X)
+    → slice_range xs (passed key t xs) (passed key (t + 1) xs) ≡ rows
+    → passed key t xs + length rows ≡ passed key (t + 1) xs
+length-in key t xs rows is =
+    let first = passed key t xs in
+    let last = passed key (t + 1) xs in
+    let more = passed-more key t xs in
+    let few = passed-few key (t + 1) xs in
+    let size = length-take (last - first) (drop first xs) in
+    let left = length-drop first xs in
+    let same = ap length is in
+    omega arith
+
+-- Rows that enter tables one after the other change no frame.
+frames-with : (enterings : List Entering) (parts : List Part)
+    → map frame_of (fold entered_with parts enterings) ≡ map frame_of parts
+frames-with [] parts = refl
+frames-with (entering ∷ enterings) parts =
+    frames-with enterings (with_rows entering.rows parts) ∙ frames-entered entering.rows parts
+
+module _ (capacity : ℕ) (old : NetworkState) (is : IsNetwork capacity old) where
+  -- The rows of the next cycle stand behind those before it.
+  pub goings-are : slice_range old.stimuli.schedule.goings
+      (passed (λ one. one.lane.go) old.time old.stimuli.schedule.goings)
+      (passed (λ one. one.lane.go) (old.time + 1) old.stimuli.schedule.goings)
+      ≡ goings_in old.stimuli old.time
+  goings-are = passed-range (λ (one : Going). one.lane.go) old.time old.stimuli.schedule.goings
+      is.stimuli.going_order
+
+  pub offers-are : slice_range old.stimuli.offers
+      (passed (λ one. one.cycle) old.time old.stimuli.offers)
+      (passed (λ one. one.cycle) (old.time + 1) old.stimuli.offers)
+      ≡ offers_in old.stimuli old.time
+  offers-are = passed-range (λ (one : Offer). one.cycle) old.time old.stimuli.offers
+      is.stimuli.offer_order
+
+  -- The words that are coming are those of the cycle, before the later ones.
+  pub coming-are : drop (passed (λ one. one.cycle) old.time old.stimuli.offers) old.stimuli.offers
+      ≡ offers_in old.stimuli old.time
+      ++ drop (passed (λ one. one.cycle) (old.time + 1) old.stimuli.offers) old.stimuli.offers
+  coming-are =
+      let offers = old.stimuli.offers in
+      let key = λ (one : Offer). one.cycle in
+      let from = passed key old.time offers in
+      let to = passed key (old.time + 1) offers in
+      drop_split offers from to (passed-more key old.time offers)
+      ∙ ap (λ (rows : List Offer). rows ++ drop to offers) offers-are
+
+  -- Each session that goes has room for what it accepts.
+  pub ways-are : All (HasWay (length old.components.words) (length old.components.parts)
+      (drop (passed (λ one. one.cycle) old.time old.stimuli.offers) old.stimuli.offers))
+      (goings_in old.stimuli old.time)
+  ways-are =
+      let words = length old.components.words in
+      let parts = length old.components.parts in
+      let offers = old.stimuli.offers in
+      let goings = old.stimuli.schedule.goings in
+      let first = passed (λ (one : Offer). one.cycle) old.time offers in
+      let size : length (frames_of old.components) ≡ parts =
+      length-map old.components.parts frame_of in
+      let later : All (λ (one : Offer). old.time ≤ one.cycle) (drop first offers) =
+      passed-behind (λ (one : Offer). one.cycle) old.time offers is.stimuli.offer_order in
+      let known : All (λ (one : Going). IsLane words parts one.lane
+      × (one.lane.accepted ≡ 0)
+      × (one.lane.first + count_by (is_offered_in one) offers ≤ words)) goings =
+      λ k d within. (
+        subst (λ n. IsLane words n (get_or goings k d).lane) size (is.stimuli.lanes k d within),
+        is.fresh k d within,
+        is.stimuli.room k d within,
+      ) in
+      All-passing (λ (one : Going). IsLane words parts one.lane × (one.lane.accepted ≡ 0)
+      × (one.lane.first + count_by (is_offered_in one) offers ≤ words))
+      (HasWay words parts (drop first offers)) (λ (one : Going). one.lane.go == old.time) goings
+      (λ one goes holds.
+      let fewer = count-behind
+      (λ (offer : Offer). is_over offer.number one && nat_lt offer.cycle one.until)
+      (is_offered_in one) first offers
+      (λ k d within accepts.
+      let now = later k d within in
+      grind (arith, nat_tests)) in
+      let room = holds.2 in
+      record { sound = holds.0; none = holds.1; room = omega arith })
+      known
+
+  -- The channels have room while the cycle runs.
+  pub AreFit-ready : AreFit (length old.components.words) (length old.components.parts)
+      (untils_in old.stimuli old.time old.untils)
+      (drop (passed (λ one. one.cycle) (old.time + 1) old.stimuli.offers) old.stimuli.offers)
+      (ready_in old).lanes
+  AreFit-ready =
+      let words = length old.components.words in
+      let parts = length old.components.parts in
+      let t = old.time in
+      let offers = old.stimuli.offers in
+      let untils = untils_in old.stimuli t old.untils in
+      let goings = goings_in old.stimuli t in
+      let gone = fold gone_with old.components.lanes goings in
+      let to = passed (λ (one : Offer). one.cycle) (t + 1) offers in
+      let coming = drop (passed (λ (one : Offer). one.cycle) t offers) offers in
+      AreFit-taking words parts untils (drop to offers) (takes_in old.stimuli t)
+      (fold (accepted_with t untils) gone (offers_in old.stimuli t))
+      (AreFit-offered words parts t untils (offers_in old.stimuli t) (drop to offers) gone
+      (All-passing (λ (one : Offer). Unit {0}) (λ (one : Offer). one.cycle ≡ t)
+      (λ (one : Offer). one.cycle == t) offers (λ one at any. grind (arith, nat_tests))
+      (λ k d within. tt))
+      (subst (λ (list : List Offer). AreFit words parts untils list gone) coming-are
+      (AreFit-all_gone words parts old.untils coming old.components.lanes goings is.untils
+      ways-are is.fit)))
+
+  -- Their number stays.
+  pub length-ready : length (ready_in old).lanes ≡ length old.components.lanes
+  length-ready =
+      let t = old.time in
+      let untils = untils_in old.stimuli t old.untils in
+      let gone = fold gone_with old.components.lanes (goings_in old.stimuli t) in
+      length-taking (takes_in old.stimuli t)
+      (fold (accepted_with t untils) gone (offers_in old.stimuli t))
+      ∙ length-all_accepted t untils (offers_in old.stimuli t) gone
+      ∙ length-gone (goings_in old.stimuli t) old.components.lanes
+
+  -- Rows that enter tables change no frame, and components are as many as before.
+  pub frames-ready : frames_of (ready_in old) ≡ frames_of old.components
+  frames-ready = frames-with (enterings_in old.routing old.time) old.components.parts
+
+  pub size-ready : length (ready_in old).parts ≡ length old.components.parts
+  size-ready =
+      sym (length-map (ready_in old).parts frame_of) ∙ ap length frames-ready
+      ∙ length-map old.components.parts frame_of
+
+  -- The components are sound while the cycle runs.
+  pub IsComponents-ready : IsComponents (ready_in old)
+  IsComponents-ready =
+      let sound = is.components in
+      record {
+        wired = subst (λ (frames : List Frame). IsWired frames (length old.components.wires))
+            (sym frames-ready) sound.wired;
+        lanes = subst (λ n. All (IsLane (length old.components.words) n) (ready_in old).lanes)
+            (sym size-ready) (All-fit (length old.components.words) (length old.components.parts)
+            (untils_in old.stimuli old.time old.untils)
+            (drop (passed (λ (one : Offer). one.cycle) (old.time + 1) old.stimuli.offers)
+            old.stimuli.offers) (ready_in old).lanes AreFit-ready);
+        landings = sound.landings;
+        flits = sound.flits;
+        few = sound.few;
+      }
+
+  -- The channels that are replaced.
+  pub replaced-are : All (IsLane (length old.components.words) (length old.components.parts))
+      (map (λ one. slice_index_or old.components.lanes (channel_number one.channel) no_lane)
+      (goings_in old.stimuli old.time))
+  replaced-are =
+      let lanes = old.components.lanes in
+      let P = IsLane (length old.components.words) (length old.components.parts) in
+      All-map P (λ (one : Going). slice_index_or lanes (channel_number one.channel) no_lane)
+      (goings_in old.stimuli old.time)
+      (All-passing (λ (one : Going). channel_number one.channel < length lanes)
+      (λ (one : Going). P (slice_index_or lanes (channel_number one.channel) no_lane))
+      (λ (one : Going). one.lane.go == old.time) old.stimuli.schedule.goings
+      (λ one goes within. All-get_or P lanes (channel_number one.channel) no_lane within
+      is.components.lanes)
+      is.stimuli.goings)
