@@ -1,10 +1,10 @@
--- Without a candidate the shortest cuts are complete: each path that the try may take begins with
--- one.
+-- Each shortest cut is listed; and without a candidate the shortest cuts are complete: each path
+-- that the try may take begins with one.
 use Rattle.std.proofs.Common.{◌≡◌, ◌∙◌, ◌+◌, ◌-◌, ◌<◌, ◌≤◌, ◌++◌, ◌&&◌, ◌⊎◌, ℕ, zero, suc, Bool}
 use Rattle.std.proofs.Common.{true, false, not}
 use Rattle.std.proofs.Common.{List, [], ◌∷◌, length, map, filter, take, Contains, refl, sym, ap}
 use Rattle.std.proofs.Common.{subst, arith, inl, inr}
-use Rattle.std.proofs.Common.{eqb}
+use Rattle.std.proofs.Common.{eqb, length-append}
 use Rattle.std.specs.List.{list_any, range_with_len}
 use Rattle.std.proofs.lemmas.Bool.{and_from, both_ways, cases_lt, eq-eqb, false_from_ne_true}
 use Rattle.aeth_base.specs.Limits.{max_path_links}
@@ -13,7 +13,7 @@ use Rattle.aeth_base.specs.declared.ids.NiId.{NiId}
 use Rattle.aeth_base.specs.declared.ids.RouterId.{RouterId}
 use Rattle.aeth_base.proofs.Members.{Contains-filter, Contains-flat_map, Contains-map, map-Contains}
 use Rattle.aeth_base.proofs.Ranges.{range-Contains}
-use Rattle.std.proofs.Math.Seq.{take-length}
+use Rattle.std.proofs.Math.Seq.{take-append_seam, take-length}
 use Rattle.aeth_group.proofs.ListLemmas.{any_from_passes, passes_from_any}
 use Rattle.aeth_chip.specs.Chip.{ChipData}
 use Rattle.aeth_chip.specs.Joined.{IsJoined}
@@ -27,8 +27,10 @@ use Rattle.aeth_paths.specs.Task.{links_from}
 use Rattle.aeth_paths.specs.Trials.{TrialData}
 use Rattle.aeth_explain.specs.TryPaths.{MayTake, is_dead, leaves_one, leaving_lists, may_take}
 use Rattle.aeth_explain.specs.TryPaths.{onward_lists}
-use Rattle.aeth_explain.specs.Certificate.{cuts_of, is_first_cut, shorter_fronts}
+use Rattle.aeth_explain.specs.Certificate.{IsFirstCut, cuts_of, is_first_cut}
+use Rattle.aeth_explain.specs.Certificate.{shorter_fronts}
 use Rattle.aeth_explain.specs.Cuts.{IsComplete, begins_with}
+use Rattle.aeth_explain.proofs.CutLemmas.{begins-append}
 use Rattle.aeth_explain.proofs.ListLemmas.{GoesOn, behind_link, onward-has}
 
 -- ---- the least number that passes
@@ -208,39 +210,65 @@ module _ (chip : ChipData) (groups : GroupsData) (trial : TrialData)
     path-some path may =
         some-by may.to path may.admissible.is_path.routers may.admissible.is_path.joins.ends
 
+    -- Where no shorter front is dead, the test finds none.
+    none-shorter : (cut : List LinkId) → 1 ≤ length cut
+        → ((n : ℕ) → 1 ≤ n → n < length cut → is_dead chip groups trial (take n cut) ≡ false)
+        → list_any (is_dead chip groups trial) (shorter_fronts cut) ≡ false
+    none-shorter cut some live =
+        false_from_ne_true (list_any (is_dead chip groups trial) (shorter_fronts cut)) (λ any.
+        let found = passes_from_any (is_dead chip groups trial) (shorter_fronts cut) any in
+        let from = map-Contains (λ n. take (n + 1) cut) (range_with_len 0 (length cut - 1))
+        found.item found.is_in in
+        let below = range-Contains (length cut - 1) from.0 from.2 in
+        both_ways (is_dead chip groups trial found.item)
+        (subst (λ (p : List LinkId). is_dead chip groups trial p ≡ false) from.1
+        (live (from.0 + 1) (omega arith) (omega (arith, below, some)))) found.passes)
+
+    -- A shortest cut is among the shortest cuts.
+    pub first-has : (cut : List LinkId) → IsFirstCut chip groups trial cut
+        → Contains (cuts_of chip groups trial) cut
+    unfolding cuts_of
+    first-has cut is =
+        let (rest, whole) = begins-append cut is.path is.begins in
+        let size = length-append cut rest in
+        let sum = ap length whole in
+        let fits : length cut ≤ length is.path = omega (arith, size, sum) in
+        let some = is.some in
+        let front = subst (Contains (leaving_lists chip trial.from))
+        (ap (take (length cut)) whole ∙ take-append_seam cut rest)
+        (front-has is.path is.may_take (length cut) some fits) in
+        let all = subst (Contains (leaving_lists chip trial.from)) (take-length is.path)
+        (front-has is.path is.may_take (length is.path) (omega (arith, some, fits)) (omega arith))
+        in
+        Contains-filter (is_first_cut chip groups trial) (leaving_lists chip trial.from) cut front
+        (and_from _ _ (and_from _ _ is.dead (ap not (none-shorter cut some is.first)))
+        (any_from_passes (λ p. may_take chip trial p && begins_with cut p)
+        (leaving_lists chip trial.from) is.path all
+        (and_from _ _ (decides is.path is.may_take) is.begins)))
+
     -- The first dead front of a path that the try may take is a shortest cut.
     first-is : (path : List LinkId) → MayTake chip trial path → (m : ℕ) → 1 ≤ m → m ≤ length path
         → is_dead chip groups trial (take m path) ≡ true
         → ((k : ℕ) → 1 ≤ k → k < m → is_dead chip groups trial (take k path) ≡ false)
-        → is_first_cut chip groups trial (take m path) ≡ true
+        → IsFirstCut chip groups trial (take m path)
     first-is path may m some few dead first =
         let size = length-front m path few in
-        let none : list_any (is_dead chip groups trial) (shorter_fronts (take m path)) ≡ false =
-        false_from_ne_true (list_any (is_dead chip groups trial) (shorter_fronts (take m path)))
-        (λ any.
-        let found = passes_from_any (is_dead chip groups trial) (shorter_fronts (take m path))
-        any in
-        let from = map-Contains (λ n. take (n + 1) (take m path))
-        (range_with_len 0 (length (take m path) - 1)) found.item found.is_in in
-        let below = range-Contains (length (take m path) - 1) from.0 from.2 in
-        let live = first (from.0 + 1) (omega arith) (omega (arith, below, size, some)) in
-        let same = sym (take-take (from.0 + 1) m path (omega (arith, below, size, some)))
-        ∙ from.1 in
-        both_ways (is_dead chip groups trial found.item)
-        (subst (λ (p : List LinkId). is_dead chip groups trial p ≡ false) same live)
-        found.passes) in
-        let all = subst (Contains (leaving_lists chip trial.from)) (take-length path)
-        (front-has path may (length path) (omega (arith, some, few)) (omega arith)) in
-        and_from _ _ (and_from _ _ dead (ap not none))
-        (any_from_passes (λ p. may_take chip trial p && begins_with (take m path) p)
-        (leaving_lists chip trial.from) path all (and_from _ _ (decides path may) (begins-take m
-        path)))
+        record {
+          some = omega (arith, size, some);
+          path = path;
+          may_take = may;
+          begins = begins-take m path;
+          dead = dead;
+          first = λ n more below.
+              let shorter : n < m = omega (arith, size, below) in
+              ap (is_dead chip groups trial) (take-take n m path (omega (arith, shorter)))
+              ∙ first n more shorter;
+        }
 
     -- Where each path that the try may take is dead, the shortest cuts are complete.
     pub cuts-complete : ((path : List LinkId) → MayTake chip trial path
         → is_dead chip groups trial path ≡ true)
         → IsComplete chip groups trial (cuts_of chip groups trial)
-    unfolding cuts_of
     cuts-complete dead path may =
         let test : ℕ → Bool = λ n. is_dead chip groups trial (take n path) in
         let whole : test (length path) ≡ true =
@@ -249,9 +277,8 @@ module _ (chip : ChipData) (groups : GroupsData) (trial : TrialData)
         elim (least_or_none test (length path)) [
           | inl found ↦ (
             take found.number path,
-            Contains-filter (is_first_cut chip groups trial) (leaving_lists chip trial.from)
-                (take found.number path) (front-has path may found.number found.some found.within)
-                (first-is path may found.number found.some found.within found.passes found.first),
+            first-has (take found.number path) (first-is path may found.number found.some
+                found.within found.passes found.first),
             begins-take found.number path,
           )
           | inr none ↦ absurd (both_ways (test (length path)) (none (length path) some (omega

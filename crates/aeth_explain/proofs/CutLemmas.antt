@@ -1,16 +1,17 @@
--- The shortest cuts are cuts; and where there is a certificate each path that the try may take is
--- dead.
-use Rattle.std.proofs.Common.{◌≡◌, ◌∙◌, ◌-◌, ◌≤◌, ◌++◌, ℕ, zero, suc, true, eqb}
-use Rattle.std.proofs.Common.{List, [], ◌∷◌, length, filter, Contains, refl, sym, ap, subst}
+-- The shortest cuts are cuts, and are shortest; and where there is a certificate each path that the
+-- try may take is dead.
+use Rattle.std.proofs.Common.{◌≡◌, ◌∙◌, ◌-◌, ◌≤◌, ◌++◌, ◌&&◌, ℕ, zero, suc, true, eqb}
+use Rattle.std.proofs.Common.{List, [], ◌∷◌, length, filter, take, Contains, refl, sym, ap, subst}
 use Rattle.std.proofs.Common.{arith, inl, inr}
 use Rattle.std.specs.List.{flat_map, list_any}
-use Rattle.std.proofs.lemmas.Bool.{and_parts, eqb-true, false≢true}
+use Rattle.std.proofs.lemmas.Bool.{and_parts, both_ways, eqb-true, false≢true}
+use Rattle.std.proofs.lemmas.Bool.{false_from_ne_true, not-true}
 use Rattle.aeth_base.specs.Limits.{max_path_links}
 use Rattle.aeth_base.specs.declared.ids.LinkId.{LinkId}
 use Rattle.aeth_base.specs.declared.ids.NiId.{NiId}
 use Rattle.aeth_base.proofs.Members.{Contains-cases, Contains-nil, filter-Contains}
 use Rattle.aeth_base.proofs.Members.{flat_map-Contains, map-Contains}
-use Rattle.aeth_group.proofs.ListLemmas.{passes_from_any}
+use Rattle.aeth_group.proofs.ListLemmas.{any_from_passes, passes_from_any}
 use Rattle.aeth_chip.specs.Chip.{ChipData}
 use Rattle.aeth_chip.specs.Joined.{IsJoined}
 use Rattle.aeth_chip.specs.LeastDistance.{link_ids}
@@ -21,10 +22,12 @@ use Rattle.aeth_chip.specs.declared.node.Node.TheVariants.{Router, Ni}
 use Rattle.aeth_group.specs.Members.{GroupsData}
 use Rattle.aeth_paths.specs.Task.{links_from}
 use Rattle.aeth_paths.specs.Trials.{TrialData}
-use Rattle.aeth_explain.specs.TryPaths.{MayTake, is_dead, leaves_one, leaving_lists, onward_lists}
-use Rattle.aeth_explain.specs.Certificate.{cuts_of, goes_on, is_first_cut}
+use Rattle.aeth_explain.specs.TryPaths.{MayTake, is_dead, leaves_one, leaving_lists, may_take}
+use Rattle.aeth_explain.specs.TryPaths.{onward_lists}
+use Rattle.aeth_explain.specs.Certificate.{IsFirstCut, cuts_of, goes_on, is_first_cut}
+use Rattle.aeth_explain.specs.Certificate.{shorter_fronts}
 use Rattle.aeth_explain.specs.Cuts.{IsComplete, IsCut, begins_with}
-use Rattle.aeth_explain.proofs.ListLemmas.{GoesOn, behind_link}
+use Rattle.aeth_explain.proofs.ListLemmas.{GoesOn, behind_link, front-among}
 
 -- A list begins with another where something goes on from it.
 pub begins-append : (front path : List LinkId) → begins_with front path ≡ true
@@ -126,6 +129,32 @@ module _ (chip : ChipData) (groups : GroupsData) (trial : TrialData)
         some = leaves.some;
         joined = leaves.joined;
         dead = dead.0;
+      }
+
+  -- Each of them is a shortest cut as the fact has it.
+  pub each-first : ((path : List LinkId) → may_take chip trial path ≡ true
+      → MayTake chip trial path) → (cut : List LinkId) → Contains (cuts_of chip groups trial) cut
+      → IsFirstCut chip groups trial cut
+  unfolding cuts_of
+  each-first told cut has =
+      let (among, first) = filter-Contains (is_first_cut chip groups trial)
+      (leaving_lists chip trial.from) cut has in
+      let leaves = leaving-are cut among in
+      let (shortest, goes) = and_parts _ (goes_on chip groups trial cut) first in
+      let (dead, none) = and_parts (is_dead chip groups trial cut) _ shortest in
+      let on = passes_from_any (λ path. may_take chip trial path && begins_with cut path)
+      (leaving_lists chip trial.from) goes in
+      let (may, begins) = and_parts (may_take chip trial on.item) _ on.passes in
+      record {
+        some = leaves.some;
+        path = on.item;
+        may_take = told on.item may;
+        begins = begins;
+        dead = dead;
+        first = λ n some below. false_from_ne_true _ (λ is.
+            both_ways _ (not-true _ none)
+            (any_from_passes (is_dead chip groups trial) (shorter_fronts cut) (take n cut)
+            (front-among n cut some below) is));
       }
 
   -- Where dead links stay dead, a path that the try may take is dead if there is a certificate.

@@ -102,18 +102,13 @@ lists-step links most node path out is =
 -- ---- what is put down below a dead list
 
 -- A shorter front of a list is among its shorter fronts.
-front-among : (path rest : List LinkId) → 1 ≤ length path → 1 ≤ length rest
-    → Contains (shorter_fronts (path ++ rest)) path
-front-among path rest some more =
-    let sum = length-append path rest in
-    let at : length path - 1 < 0 + (length (path ++ rest) - 1) = omega (arith, sum, some, more) in
-    let same : (length path - 1) + 1 ≡ length path = omega (arith, some) in
-    let has = Contains-map (λ n. take (n + 1) (path ++ rest))
-    (range_with_len 0 (length (path ++ rest) - 1))
-    (length path - 1) (Contains-range 0 (length (path ++ rest) - 1) (length path - 1)
-    (omega arith) at) in
-    subst (Contains (shorter_fronts (path ++ rest)))
-    (ap (λ n. take n (path ++ rest)) same ∙ take-append_seam path rest) has
+pub front-among : (n : ℕ) (list : List LinkId) → 1 ≤ n → n < length list
+    → Contains (shorter_fronts list) (take n list)
+front-among n list some below =
+    let same : (n - 1) + 1 ≡ n = omega (arith, some) in
+    subst (λ k. Contains (shorter_fronts list) (take k list)) same
+    (Contains-map (λ k. take (k + 1) list) (range_with_len 0 (length list - 1)) (n - 1)
+    (Contains-range 0 (length list - 1) (n - 1) (omega arith) (omega (arith, some, below))))
 
 module _ (chip : ChipData) (groups : GroupsData) (trial : TrialData) where
   -- No list that goes on from a dead one is a shortest cut.
@@ -121,8 +116,11 @@ module _ (chip : ChipData) (groups : GroupsData) (trial : TrialData) where
       → is_dead chip groups trial path ≡ true
       → is_first_cut chip groups trial (path ++ rest) ≡ false
   dead-passed path rest some more dead =
+      let sum = length-append path rest in
+      let front = subst (Contains (shorter_fronts (path ++ rest))) (take-append_seam path rest)
+      (front-among (length path) (path ++ rest) some (omega (arith, sum, more))) in
       let found = any_from_passes (is_dead chip groups trial) (shorter_fronts (path ++ rest)) path
-      (front-among path rest some more) dead in
+      front dead in
       let go : (whole goes : Bool) → ((whole && false) && goes) ≡ false =
       elim [ true ↦ λ goes. refl | false ↦ λ goes. refl ]
       in ap (λ b. (is_dead chip groups trial (path ++ rest) && not b) && goes_on chip groups trial

@@ -9,9 +9,9 @@ use Rattle.aeth_app.specs.Connections.{connection_names}
 use Rattle.aeth_base.specs.Faults.{BrokenRule, Reads}
 use Rattle.aeth_base.specs.declared.ids.LinkId.{LinkId}
 use Rattle.aeth_chip.specs.Chip.{ChipData}
-use Rattle.aeth_document.specs.Chain.{◌>>=◌}
 use Rattle.aeth_group.specs.Members.{GroupsData}
 use Rattle.aeth_plan.specs.Rules.{each, found, holds, place_among}
+use Rattle.aeth_plan.proofs.Chains.{bind_ok, ok_is}
 use Rattle.aeth_plan.proofs.Places.{all_below, holds_ok}
 use Rattle.aeth_text.specs.Order.{line_after}
 use Rattle.aeth_explain.specs.CutsFaults.{wrong_try}
@@ -23,15 +23,6 @@ use Rattle.aeth_explain.specs.declared.text_lines.LineText.TheVariants.{Cut, Try
 use Rattle.aeth_explain.specs.declared.try_line.KnownLine.{KnownLine}
 use Rattle.aeth_explain.specs.declared.try_line.KnownLine.TheVariants.{Listed, Tried}
 use Rattle.aeth_explain.specs.declared.try_line.TryLine.{TryLine}
-
--- A chain of rules gives a value where each rule gives one.
-then-ok : {A B : Type 0} (first : Result A BrokenRule) (next : A → Result B BrokenRule) (y : B)
-    → (first >>= next) ≡ Ok y → (x : A) × (first ≡ Ok x) × (next x ≡ Ok y)
-then-ok (Ok x) next y e = (x, refl, e)
-then-ok (Err broken) next y e = absurd (cc e)
-
-one-ok : {A : Type 0} (x y : A) → ◌≡◌ {A = Result A BrokenRule} (Ok x) (Ok y) → x ≡ y
-one-ok x y e = cc
 
 -- What holds of the value that a text has holds of what was read.
 pub if-read : {X Y E : Type 0} (P : Y → Type 0) (rule_of : E → Option BrokenRule) (view : X → Y) (result : Result X E)
@@ -51,30 +42,30 @@ module _ (chip : ChipData) (app : AppData) (groups : GroupsData) where
   unfolding known_line
   known-links line (Try words) known e =
       let (conn, e1, r1) =
-      then-ok (found line 2 (place_among (connection_names app) words.conn)) _ known e in
-      let (u, e2, r2) = then-ok (holds line 3 (nat_lt words.group groups.count)) _ known r1 in
+      bind_ok (found line 2 (place_among (connection_names app) words.conn)) _ known e in
+      let (u, e2, r2) = bind_ok (holds line 3 (nat_lt words.group groups.count)) _ known r1 in
       let made : TryLine = record {
         unit = record { conn = record { 0 = conn }; group = record { 0 = words.group } };
         side = words.side;
         turn = words.turn;
       } in
-      subst HasLinks (one-ok (Tried made) known r2) tt
+      subst HasLinks (ok_is (Tried made) known r2) tt
   known-links line (Cut links) known e =
       let (u, e1, r1) =
-      then-ok (holds line 2 (list_all (λ link. nat_lt link.0 (length chip.links)) links)) _ known e
+      bind_ok (holds line 2 (list_all (λ link. nat_lt link.0 (length chip.links)) links)) _ known e
       in
-      subst HasLinks (one-ok (Listed links) known r1)
+      subst HasLinks (ok_is (Listed links) known r1)
       (All-from_recursion (λ (link : LinkId). link.0 < length chip.links) links
       (all_below (λ (link : LinkId). link.0) (length chip.links) links (holds_ok line 2 _ u e1)))
 
   each-links : (line : ℕ) (texts : List LineText) (known : List KnownLine)
       → each (known_line chip app groups) line texts ≡ Ok known → AllByRecursion HasLinks known
-  each-links line [] known e = subst (AllByRecursion HasLinks) (one-ok [] known e) tt
+  each-links line [] known e = subst (AllByRecursion HasLinks) (ok_is [] known e) tt
   each-links line (text ∷ texts) known e =
-      let (one, e1, r1) = then-ok (known_line chip app groups line text) _ known e in
+      let (one, e1, r1) = bind_ok (known_line chip app groups line text) _ known e in
       let (others, e2, r2) =
-      then-ok (each (known_line chip app groups) (line_after line 1) texts) _ known r1 in
-      subst (AllByRecursion HasLinks) (one-ok (one ∷ others) known r2)
+      bind_ok (each (known_line chip app groups) (line_after line 1) texts) _ known r1 in
+      subst (AllByRecursion HasLinks) (ok_is (one ∷ others) known r2)
       (known-links line text one e1, each-links (line_after line 1) texts others e2)
 
   cuts-links : (known : List KnownLine) → AllByRecursion HasLinks known
@@ -113,10 +104,10 @@ module _ (chip : ChipData) (app : AppData) (groups : GroupsData) where
       → cuts_of_text chip app groups tries bytes ≡ Ok blocks → All (AreLinksOf chip) blocks
   unfolding cuts_of_text
   read-links tries bytes blocks e =
-      let (lines, e1, r1) = then-ok (text_of bytes) _ blocks e in
-      let (known, e2, r2) = then-ok (each (known_line chip app groups) 2 lines) _ blocks r1 in
-      let (u, e3, r3) = then-ok (matched 2 known tries) _ blocks r2 in
-      subst (All (AreLinksOf chip)) (one-ok (blocks_of known) blocks r3)
+      let (lines, e1, r1) = bind_ok (text_of bytes) _ blocks e in
+      let (known, e2, r2) = bind_ok (each (known_line chip app groups) 2 lines) _ blocks r1 in
+      let (u, e3, r3) = bind_ok (matched 2 known tries) _ blocks r2 in
+      subst (All (AreLinksOf chip)) (ok_is (blocks_of known) blocks r3)
       (All-from_recursion (AreLinksOf chip) (blocks_of known)
       (blocks-links known (each-links 2 lines known e2)))
 
@@ -124,8 +115,8 @@ module _ (chip : ChipData) (app : AppData) (groups : GroupsData) where
       → cuts_of_text chip app groups tries bytes ≡ Ok blocks → length blocks ≡ length tries
   unfolding cuts_of_text
   read-count tries bytes blocks e =
-      let (lines, e1, r1) = then-ok (text_of bytes) _ blocks e in
-      let (known, e2, r2) = then-ok (each (known_line chip app groups) 2 lines) _ blocks r1 in
-      let (u, e3, r3) = then-ok (matched 2 known tries) _ blocks r2 in
+      let (lines, e1, r1) = bind_ok (text_of bytes) _ blocks e in
+      let (known, e2, r2) = bind_ok (each (known_line chip app groups) 2 lines) _ blocks r1 in
+      let (u, e3, r3) = bind_ok (matched 2 known tries) _ blocks r2 in
       subst (λ (all : List (List (List LinkId))). length all ≡ length tries)
-      (one-ok (blocks_of known) blocks r3) (matched-count 2 known tries u e3)
+      (ok_is (blocks_of known) blocks r3) (matched-count 2 known tries u e3)

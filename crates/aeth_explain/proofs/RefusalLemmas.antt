@@ -1,5 +1,6 @@
--- A try has a certificate exactly where it has no candidate, and a verdict says so.
-use Rattle.std.proofs.Common.{◌≡◌, ◌++◌, ◌&&◌, Bool, true, false, not, cond}
+-- A try has a certificate exactly where it has no candidate; and what is listed are the shortest
+-- cuts.
+use Rattle.std.proofs.Common.{◌≡◌, ◌↔◌, ◌++◌, ◌&&◌, Bool, true, false, not, cond}
 use Rattle.std.proofs.Common.{List, Option, None, Some, Contains, length}
 use Rattle.std.proofs.Common.{refl, ap, subst, arith}
 use Rattle.std.specs.Bool.{Decides}
@@ -25,11 +26,11 @@ use Rattle.aeth_paths.specs.declared.request.Found.{Found}
 use Rattle.aeth_paths.proofs.CandidateLemmas.{slots-live}
 use Rattle.aeth_paths.proofs.JoinLemmas.{begins-leaving, leaving-begins}
 use Rattle.aeth_paths.proofs.LiveLemmas.{dead-stays, free_starts-set}
-use Rattle.aeth_explain.specs.Certificate.{certificate_of, cuts_of, has_candidate}
+use Rattle.aeth_explain.specs.Certificate.{IsFirstCut, certificate_of, cuts_of, has_candidate}
 use Rattle.aeth_explain.specs.Cuts.{HasCandidate, IsCertificate, IsCut}
 use Rattle.aeth_explain.specs.TryPaths.{MayTake, is_dead, leaving_lists, may_take}
-use Rattle.aeth_explain.proofs.CompleteLemmas.{cuts-complete, front-has, path-some}
-use Rattle.aeth_explain.proofs.CutLemmas.{certified-dead, each-cut}
+use Rattle.aeth_explain.proofs.CompleteLemmas.{cuts-complete, first-has, front-has, path-some}
+use Rattle.aeth_explain.proofs.CutLemmas.{certified-dead, each-cut, each-first}
 use Rattle.aeth_explain.proofs.TryPathLemmas.{link-known, may_take-Decides}
 
 module _ (chip : ChipData) (groups : GroupsData) (trial : TrialData) (is : IsChip chip) where
@@ -112,6 +113,15 @@ module _ (chip : ChipData) (groups : GroupsData) (trial : TrialData) (is : IsChi
   )
 
   -- ---- certificates
+
+  -- What is listed is exactly what is a shortest cut.
+  pub first-cuts : (cut : List LinkId)
+      → Contains (cuts_of chip groups trial) cut ↔ IsFirstCut chip groups trial cut
+  first-cuts cut = (
+    each-first chip groups trial (leaving-begins chip.links)
+        (λ path. (may_take-Decides chip trial is path).0) cut,
+    first-has chip groups trial leaves (link-known chip.links) decides cut,
+  )
 
   -- Without a candidate the shortest cuts are a certificate.
   pub certificate-exists : (HasCandidate chip groups trial → ⊥)

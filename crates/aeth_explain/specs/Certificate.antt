@@ -21,7 +21,7 @@ shorter_fronts path = map (λ n. take (n + 1) path) (range_with_len 0 (length pa
 
 module _ (chip : ChipData) (groups : GroupsData) (trial : TrialData) where
   -- A shortest cut: a path that the try may take begins with it, and it is dead, but no shorter
-  -- front.
+  -- front that isn't empty.
   pub record IsFirstCut (cut : List LinkId) : Type 0 where
     pub some : 1 ≤ length cut
     pub path : List LinkId
@@ -35,7 +35,7 @@ module _ (chip : ChipData) (groups : GroupsData) (trial : TrialData) where
   goes_on front = list_any (λ path. may_take chip trial path && begins_with front path)
       (leaving_lists chip trial.from)
 
-  -- Whether a list is a shortest cut.
+  -- The same as a test of a list that isn't empty.
   abbrev pub is_first_cut : List LinkId → Bool
   is_first_cut cut = (is_dead chip groups trial cut
       && not (list_any (is_dead chip groups trial) (shorter_fronts cut))) && goes_on cut

@@ -1,10 +1,10 @@
 //! What certificates of refusals mean, over the definitions alone.
-ghost use Rattle.std.specs.Prelude.{◌≡◌, ◌↔◌, ◌++◌, true, List, MatchOption};
+ghost use Rattle.std.specs.Prelude.{◌≡◌, ◌↔◌, ◌++◌, true, Contains, List, MatchOption};
 ghost use Rattle.aeth_base.specs.declared.ids.LinkId.{LinkId};
 ghost use Rattle.aeth_chip.specs.Chip.{ChipData, IsChip};
 ghost use Rattle.aeth_group.specs.Members.{GroupsData};
 ghost use Rattle.aeth_paths.specs.Trials.{TrialData};
-ghost use Rattle.aeth_explain.specs.Certificate.{certificate_of, cuts_of};
+ghost use Rattle.aeth_explain.specs.Certificate.{IsFirstCut, certificate_of, cuts_of};
 ghost use Rattle.aeth_explain.specs.Cuts.{HasCandidate, IsCertificate};
 ghost use Rattle.aeth_explain.specs.TryPaths.{is_dead};
 ghost use Rattle.aeth_explain.specs.Verdict.{verdict_of};
@@ -17,6 +17,14 @@ pub fn dead_fronts()
     ensures { (chip : ChipData) (groups : GroupsData) (trial : TrialData) → IsChip chip
         → (front rest : List LinkId) → is_dead chip groups trial front ≡ true
         → is_dead chip groups trial (front ++ rest) ≡ true }
+{}
+
+/// The cuts of a certificate that `cuts_of` gives are exactly the shortest ones: a list is one of them just where it
+/// is dead, a path that the try may take begins with it, and no shorter front of it, of one link or more, is dead.
+pub fn shortest_cuts()
+    ensures { (chip : ChipData) (groups : GroupsData) (trial : TrialData) → IsChip chip
+        → (cut : List LinkId)
+        → Contains (cuts_of chip groups trial) cut ↔ IsFirstCut chip groups trial cut }
 {}
 
 /// A try that has no candidate has a certificate, the shortest cuts; and a try that has a certificate
