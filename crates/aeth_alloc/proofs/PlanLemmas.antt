@@ -20,6 +20,7 @@ use Rattle.aeth_group.specs.declared.grant.Grant.{Grant}
 use Rattle.aeth_group.proofs.ConflictLemmas.{held_from_conflict}
 use Rattle.aeth_group.proofs.UnitLemmas.{unit_from_units}
 use Rattle.aeth_book.specs.Book.{AreApart, BookData, IsBook}
+use Rattle.aeth_plan.proofs.SeatedCores.{seated_cores_rise}
 use Rattle.aeth_plan.specs.Making.{IsPlanWith, seated_cores}
 use Rattle.aeth_plan.specs.Plan.{PlanData, grant_before}
 use Rattle.aeth_check.specs.Accepted.{HasGrant, IsAccepted}
@@ -37,7 +38,7 @@ use Rattle.aeth_alloc.proofs.InOrderLemmas.{Contains-in_order, in_order-Contains
 use Rattle.aeth_alloc.proofs.InOrderLemmas.{in_order-ordered, in_order-permutation, in_order-rises, not-itself}
 use Rattle.aeth_alloc.proofs.LastStateLemmas.{none-waits-last, sound-turns}
 use Rattle.aeth_alloc.proofs.OrderedLists.{no_two-ordered, ordered-weaker}
-use Rattle.aeth_alloc.proofs.SeatLineLemmas.{ni-seated, seats-apart, seats-rise}
+use Rattle.aeth_alloc.proofs.SeatLineLemmas.{ni-seated, seats-apart}
 use Rattle.aeth_alloc.proofs.SoundLemmas.{IsSound}
 use Rattle.aeth_alloc.proofs.StateLemmas.{IsSoundState}
 
@@ -141,7 +142,7 @@ module _ (design : Design) (groups : GroupsData) (reserved : Reserved)
     grants = in_order-permutation groups grants sound.apart
         (λ grant has. (sound.granted grant has).unit);
     in_order = record {
-      seats = seats-rise reserved.seats.places;
+      seats = seated_cores_rise reserved.seats.places;
       grants = in_order-rises groups grants sound.apart;
     };
   }

@@ -3,8 +3,8 @@ use Rattle.std.proofs.Common.{◌≡◌, ◌∙◌, ◌<◌, ◌≤◌, ◌+◌,
 use Rattle.std.proofs.Common.{Contains, Option, Some, None, length, refl, sym, ap, subst}
 use Rattle.std.proofs.Common.{inl, inr, arith}
 use Rattle.std.specs.Prelude.{IsSomeAnd, unwrap_or}
-use Rattle.std.specs.List.{cons_option, filter_map, range_with_len}
-use Rattle.std.proofs.lemmas.Bool.{and_from, cases_eq, cases_lt, eq-eqb, ne_eqb, lt-ltb}
+use Rattle.std.specs.List.{cons_option}
+use Rattle.std.proofs.lemmas.Bool.{and_from, cases_eq, cases_lt, eq-eqb, ne_eqb}
 use Rattle.std.proofs.lemmas.Option.{slice_get_past}
 use Rattle.aeth_base.proofs.Members.{Contains-cases, Contains-nil}
 use Rattle.aeth_base.specs.declared.ids.CoreId.{CoreId}
@@ -13,20 +13,14 @@ use Rattle.aeth_group.specs.declared.grant.SeatLine.{SeatLine}
 use Rattle.aeth_seats.specs.Places.{Place, seat_of, sits_on}
 use Rattle.aeth_seats.specs.Seats.{IsSeats, SeatsData}
 use Rattle.aeth_plan.specs.Making.{line_of_core, seated_cores}
-use Rattle.aeth_plan.specs.Plan.{seat_before}
-use Rattle.aeth_text.specs.Order.{Rises}
+use Rattle.aeth_plan.proofs.SeatedCores.{lines_from}
 use Rattle.aeth_check.specs.Firsts.{NoTwo}
 use Rattle.aeth_check.specs.Seats.{IsOneSeat, ni_of}
-use Rattle.aeth_alloc.proofs.OrderedLists.{Ordered, no_two-ordered, rises-ordered}
+use Rattle.aeth_alloc.proofs.OrderedLists.{Ordered, no_two-ordered}
 
 -- A core sits on an interface.
 abbrev pub SitsOn : List (Option Place) → ℕ → NiId → Type 0
 SitsOn places core ni = IsSomeAnd (seat_of places core) (λ place. place.0 ≡ ni)
-
--- The lines of so many cores, from a core on.
-abbrev lines : List (Option Place) → ℕ → ℕ → List SeatLine
-lines places start size = filter_map (λ core. line_of_core core (seat_of places core))
-    (range_with_len start size)
 
 -- What a line says: a core, and its seat.
 record IsLine (places : List (Option Place)) (start : ℕ) (line : SeatLine) : Type 0 where
@@ -49,10 +43,10 @@ line-here places start (Some place) rest line at later has =
     ]
 
 line-of : (places : List (Option Place)) (start size : ℕ) (line : SeatLine)
-    → Contains (lines places start size) line → IsLine places start line
+    → Contains (lines_from places start size) line → IsLine places start line
 line-of places start zero line has = Contains-nil has
 line-of places start (suc size) line has =
-    line-here places start (seat_of places start) (lines places (start + 1) size) line refl
+    line-here places start (seat_of places start) (lines_from places (start + 1) size) line refl
     (λ other. line-of places (start + 1) size other) has
 
 -- ---- no two cores on one seat
@@ -85,10 +79,10 @@ module _ (seats : SeatsData) (are : IsSeats seats) where
   )
 
   apart-lines : (start size : ℕ)
-      → Ordered (λ a b. IsOneSeat a b → ⊥) (lines seats.places start size)
+      → Ordered (λ a b. IsOneSeat a b → ⊥) (lines_from seats.places start size)
   apart-lines start zero = tt
   apart-lines start (suc size) =
-      apart-here start (seat_of seats.places start) (lines seats.places (start + 1) size) refl
+      apart-here start (seat_of seats.places start) (lines_from seats.places (start + 1) size) refl
       (line-of seats.places (start + 1) size) (apart-lines (start + 1) size)
 
   -- No two cores have one seat.
@@ -96,31 +90,6 @@ module _ (seats : SeatsData) (are : IsSeats seats) where
   seats-apart =
       no_two-ordered IsOneSeat (seated_cores seats.places)
       (apart-lines 0 (length seats.places))
-
--- ---- the order of lines
-
-rises-here : (places : List (Option Place)) (start : ℕ) (seat : Option Place)
-    (rest : List SeatLine)
-    → ((other : SeatLine) → Contains rest other → IsLine places (start + 1) other)
-    → Ordered (λ a b. seat_before a b ≡ true) rest
-    → Ordered (λ a b. seat_before a b ≡ true) (cons_option (line_of_core start seat) rest)
-rises-here places start None rest later rises = rises
-rises-here places start (Some place) rest later rises = (
-  (λ other has. let is = later other has in lt-ltb start other.core.0 (omega (arith, is.least))),
-  rises,
-)
-
-rises-lines : (places : List (Option Place)) (start size : ℕ)
-    → Ordered (λ a b. seat_before a b ≡ true) (lines places start size)
-rises-lines places start zero = tt
-rises-lines places start (suc size) =
-    rises-here places start (seat_of places start) (lines places (start + 1) size)
-    (line-of places (start + 1) size) (rises-lines places (start + 1) size)
-
--- The lines are in the order of the cores.
-pub seats-rise : (places : List (Option Place)) → Rises seat_before (seated_cores places)
-seats-rise places =
-    rises-ordered seat_before (seated_cores places) (rises-lines places 0 (length places))
 
 -- ---- the interface of a core's seat
 
@@ -140,15 +109,15 @@ ni-later start (Some place) rest core other =
 
 ni-lines : (places : List (Option Place)) (start size : ℕ) (core : CoreId) (ni : NiId)
     → start ≤ core.0 → core.0 < start + size → SitsOn places core.0 ni
-    → ni_of (lines places start size) core ≡ Some ni
+    → ni_of (lines_from places start size) core ≡ Some ni
 ni-lines places start zero core ni least below on = absurd (omega arith)
 ni-lines places start (suc size) core ni least below on =
     elim (cases_eq start core.0) [
       | inl same ↦
-          ni-here start (seat_of places start) (lines places (start + 1) size) core ni same
+          ni-here start (seat_of places start) (lines_from places (start + 1) size) core ni same
           (subst (λ k. SitsOn places k ni) (sym same) on)
       | inr other ↦
-          ni-later start (seat_of places start) (lines places (start + 1) size) core other
+          ni-later start (seat_of places start) (lines_from places (start + 1) size) core other
           ∙ ni-lines places (start + 1) size core ni (omega arith) (omega arith) on
     ]
 

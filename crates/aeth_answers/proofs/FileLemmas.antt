@@ -1,6 +1,6 @@
 -- Laws of files that are read and judged, one after the other.
 use Rattle.std.proofs.Common.{◌≡◌, ◌≢◌, ◌≤◌, ◌<◌, IfOk, ℕ, List, length, Option, Some, Result, Ok, Err}
-use Rattle.std.proofs.Common.{zero, suc, ◌+◌, ◌∙◌, [], ◌∷◌, None, ap, refl, sym, subst, arith}
+use Rattle.std.proofs.Common.{zero, suc, ◌+◌, ◌∙◌, [], ◌∷◌, None, ap, refl, subst, arith}
 use Rattle.std.proofs.Common.{if◌then◌else◌}
 use Rattle.std.specs.Prelude.{nat_le}
 use Rattle.std.proofs.lemmas.Bool.{le-leb, lt-leb}
@@ -198,12 +198,6 @@ pub IsAnswer-not_granted : (now : Files) (text : List ℕ) (answer : Job) → an
     → IsAnswer now now (ends (not_granted text)) answer
 IsAnswer-not_granted now text answer is =
     rw is (IsAnswer-ends now now (not_granted text) (omega arith) (λ usage. omega (arith, usage)))
-
--- A job that is done with its text answers what is left.
-pub IsAnswer-done : (now : Files) (text : List ℕ) (answer : Job) → answer ≡ done text
-    → IsAnswer now now (ends (done text)) answer
-IsAnswer-done now text answer is =
-    rw is (IsAnswer-ends now now (done text) (omega arith) (λ usage. omega (arith, usage)))
 
 -- An answer that was made, if memory wasn't wanting, is that of a task at its end.
 ended-answered : (now : Files) (job : Job) (made : Result Job NoMemory) (came : Result Job Stop)

@@ -2,28 +2,15 @@
 use Rattle.std.proofs.Common.{◌≡◌, ◌∙◌, ◌+◌, ◌<◌, ◌≤◌, ℕ, true, cond, List, [], length, take}
 use Rattle.std.proofs.Common.{Some, slice_get, get_or, replicate, eqb, ap, subst, sym, inl, inr, arith}
 use Rattle.std.specs.Prelude.{IsSomeAnd, IsTrue}
-use Rattle.std.proofs.lemmas.Bool.{cases_Bool, cases_lt, eqb-true, or_cases}
-use Rattle.std.proofs.lemmas.List.{get_or-replicate, get_or_past, length-replicate, take_all}
-use Rattle.std.proofs.lemmas.List.Sums.{count_by-le-length, count_by_more_no, count_by_more_yes}
+use Rattle.std.proofs.lemmas.Bool.{cases_Bool, eqb-true, or_cases}
+use Rattle.std.proofs.lemmas.List.{get_or-replicate, length-replicate, take_all}
+use Rattle.std.proofs.lemmas.List.Sums.{count_by_more_no, count_by_more_yes}
 use Rattle.std.proofs.lemmas.Option.{get_or_from_slice_get, same_Some, slice_get_within}
 use Rattle.aeth_base.specs.declared.ids.CoreId.{CoreId}
 use Rattle.aeth_app.specs.App.{is_end, position_of}
 use Rattle.aeth_app.specs.Ends.{AreEndCounts, ArePositions, IsPlaced}
 use Rattle.aeth_app.specs.declared.connection.Connection.{Connection}
 use Rattle.aeth_app.specs.declared.ends.Positions.{Positions}
-
--- No core has more connections than there are.
-pub counts-few : (cores most : ℕ) (connections : List Connection) (counts : List ℕ)
-    → AreEndCounts cores connections counts → length connections ≤ most
-    → (core : CoreId) → get_or counts core.0 0 ≤ most
-counts-few cores most connections counts are few core = elim (cases_lt core.0 cores) [
-  | inl low ↦
-      let all = count_by-le-length (is_end core) connections in
-      omega (arith, are.each core low, all)
-  | inr past ↦
-      let none = get_or_past counts core.0 0 (omega (arith, are.size)) in
-      omega (arith, none)
-]
 
 -- Without a connection none has one.
 pub counts-none : (cores : ℕ) → AreEndCounts cores [] (replicate cores 0)

@@ -7,7 +7,6 @@ mod SearchLemmas
 mod SessionLemmas
 mod CellLemmas
 mod PlaceLemmas
-mod RuleLemmas
 mod TableLemmas
 mod FoundLemmas
 mod JudgeLemmas

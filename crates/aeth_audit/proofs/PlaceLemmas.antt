@@ -167,9 +167,6 @@ module _ (chip : ChipData) (number : ℕ) (grant : Grant) where
   )
 
 module _ (chip : ChipData) (grants : List Grant) where
-  pub of_grants-none : (n : ℕ) (x : Place) → IsOfGrants chip grants 0 n x → ⊥
-  of_grants-none n x is = let below = is.below in absurd (omega arith)
-
   -- One more grant.
   pub of_grants-more : (k : ℕ) (grant : Grant) → slice_get grants k ≡ Some grant → (n : ℕ)
       (x : Place) → (IsOfGrants chip grants k n x ⊎ IsOfGrant chip k grant (length grant.path) n x)

@@ -11,7 +11,7 @@ use Rattle.std.proofs.lemmas.List.Elements.{All-push}
 use Rattle.std.proofs.lemmas.List.Folds.{list_any-append}
 use Rattle.std.proofs.lemmas.List.Quantifiers.{all_pairs_push}
 use Rattle.std.proofs.Math.Nat.{mul-le-mul_right}
-use Rattle.std.proofs.lemmas.Option.{slice_get-get_or, slice_get_past}
+use Rattle.std.proofs.lemmas.Option.{slice_get-get_or}
 use Rattle.std.proofs.Math.Seq.{get_or-append_seam}
 use Rattle.aeth_base.specs.declared.ids.LinkId.{LinkId}
 use Rattle.aeth_base.specs.declared.ids.Unit.{Unit as GroupUnit}
@@ -22,6 +22,7 @@ use Rattle.aeth_slots.proofs.TestLemmas.{Contains-where}
 use Rattle.aeth_group.specs.declared.grant.Grant.{Grant}
 use Rattle.aeth_group.specs.Members.{GroupsData, has_unit}
 use Rattle.aeth_group.proofs.Ranges.{any_from_passer}
+use Rattle.aeth_group.proofs.RowLemmas.{use_is_there}
 use Rattle.aeth_group.specs.Occupation.{enters, holds_in}
 use Rattle.aeth_book.specs.Book.{AreApart, BookData, IsBook, IsFit, with_grant}
 use Rattle.aeth_book.specs.Free.{free_starts, is_occupied, is_open, is_taken}
@@ -79,14 +80,6 @@ open_misses book unit starts after (k ∷ path) l s sizes opens found =
           open_misses book unit starts (after + delay_of book.links k) path l s sizes
           (λ x has. (and_parts _ _ (opens x has)).1) onward
     ]
-
--- A use case that has a unit is there.
-use_is_there : (groups : GroupsData) (unit : GroupUnit) (u : ℕ) → has_unit groups unit u ≡ true
-    → u < length groups.uses
-use_is_there groups unit u has = elim (cases_lt u (length groups.uses)) [
-  | inl there ↦ there
-  | inr past ↦ absurd (false≢true (rw (slice_get_past groups.uses u past) at has))
-]
 
 -- A grant whose starts are free is apart from those of the book.
 free_is_apart : (book : BookData) (grant : Grant) → grant.slots.size ≡ book.size

@@ -2,11 +2,10 @@
 use Rattle.std.proofs.Common.{◌≡◌, ◌∙◌, ◌<◌, ◌+◌, ◌++◌, ◌&&◌, ◌||◌, ℕ}
 use Rattle.std.proofs.Common.{Bool, true, false, cond, max, List, [], ◌∷◌, length}
 use Rattle.std.proofs.Common.{Contains, get_or, refl, ap, arith, filter}
-use Rattle.std.proofs.Common.{take, suc}
-use Rattle.std.specs.List.{list_any, range_with_len}
+use Rattle.std.proofs.Common.{take}
+use Rattle.std.specs.List.{list_any}
 use Rattle.std.proofs.lemmas.List.{append-nil, take_more}
 use Rattle.std.proofs.lemmas.List.Elements.{filter-append}
-use Rattle.aeth_base.proofs.Ranges.{range_with_len-more}
 use Rattle.aeth_slots.specs.SlotSet.{greatest}
 use Rattle.aeth_base.proofs.Members.{Contains-here, Contains-there}
 
@@ -36,14 +35,6 @@ filter_same first second (x ∷ xs) same =
     let rest : filter first xs ≡ filter second xs =
     filter_same first second xs (λ y has. same y (Contains-there x xs y has)) in
     rw (same x (Contains-here x xs)) (ap (λ ys. cond (second x) (x ∷ ys) ys) rest)
-
--- A test that none passes leaves nothing.
-pub filter_all_out : {X : Type 0} (test : X → Bool) (xs : List X)
-    → ((x : X) → Contains xs x → test x ≡ false) → filter test xs ≡ []
-filter_all_out test [] fails = refl
-filter_all_out test (x ∷ xs) fails =
-    rw (fails x (Contains-here x xs))
-    (filter_all_out test xs (λ y is_in. fails y (Contains-there x xs y is_in)))
 
 -- One more element that passes, and one that doesn't.
 pub filter-push : {X : Type 0} (test : X → Bool) (xs : List X) (x : X) → test x ≡ true
@@ -84,23 +75,6 @@ any-filter {X} first second (x ∷ xs) =
       | false ↦ λ is. rest
     ]
     in cases (first x) refl
-
--- One more number of a range passes a test, or fails it.
-pub range-passes : (test : ℕ → Bool) (u : ℕ) → test u ≡ true
-    → filter test (range_with_len 0 (u + 1)) ≡ filter test (range_with_len 0 u) ++ u ∷ []
-range-passes test u passes =
-    let next : u + 1 ≡ suc u = omega arith in
-    ap (λ n. filter test (range_with_len 0 n)) next
-    ∙ ap (filter test) (range_with_len-more 0 u u (omega arith))
-    ∙ filter-push test (range_with_len 0 u) u passes
-
-pub range-fails : (test : ℕ → Bool) (u : ℕ) → test u ≡ false
-    → filter test (range_with_len 0 (u + 1)) ≡ filter test (range_with_len 0 u)
-range-fails test u fails =
-    let next : u + 1 ≡ suc u = omega arith in
-    ap (λ n. filter test (range_with_len 0 n)) next
-    ∙ ap (filter test) (range_with_len-more 0 u u (omega arith))
-    ∙ filter-skip test (range_with_len 0 u) u fails
 
 pub greatest-push : (xs : List ℕ) (x : ℕ) → greatest (xs ++ x ∷ []) ≡ max (greatest xs) x
 greatest-push [] x = omega arith

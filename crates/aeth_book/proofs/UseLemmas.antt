@@ -12,6 +12,7 @@ use Rattle.std.proofs.lemmas.Option.{same_Some, slice_get-get_or}
 use Rattle.std.proofs.lemmas.List.FromFn.{length-range_with_len}
 use Rattle.std.proofs.lemmas.List.Sums.{count_by-le-length, length-filter}
 use Rattle.aeth_base.specs.declared.ids.Unit.{Unit as GroupUnit}
+use Rattle.aeth_base.proofs.Filters.{filter-none}
 use Rattle.aeth_app.specs.App.{is_marked}
 use Rattle.aeth_slots.specs.SlotSet.{Slots, greatest, has_slot, joined}
 use Rattle.aeth_slots.specs.SlotSet.{slots_where}
@@ -29,8 +30,7 @@ use Rattle.aeth_book.specs.Free.{is_occupied, is_rival, is_taken}
 use Rattle.aeth_book.specs.Free.{occupied_slots, taken_slots, used_slots, uses_with}
 use Rattle.aeth_group.specs.Rows.{uses_of}
 use Rattle.aeth_book.proofs.FilterLemmas.{any-filter, filter-push, filter-same-more}
-use Rattle.aeth_book.proofs.FilterLemmas.{filter_all_out, filter_twice}
-use Rattle.aeth_book.proofs.FilterLemmas.{greatest-push}
+use Rattle.aeth_book.proofs.FilterLemmas.{filter_twice, greatest-push}
 
 -- Whether a slot of a link is occupied in a use case that has the unit.
 abbrev pub is_blocked : BookData → GroupUnit → ℕ → ℕ → Bool
@@ -150,7 +150,7 @@ pub joined_by-none : (book : BookData) (unit : GroupUnit) (l : ℕ)
     → record { size = book.size; slots = [] } ≡ joined_by book unit l []
 joined_by-none book unit l = λ i. record {
   size = book.size;
-  slots = sym (filter_all_out (λ s. false) (range_with_len 0 book.size) (λ s is_in. refl)) i;
+  slots = sym (filter-none (range_with_len 0 book.size)) i;
 }
 
 -- One more use case of a row, that has the unit.

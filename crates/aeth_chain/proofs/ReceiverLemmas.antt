@@ -107,17 +107,3 @@ module _ (server : PrivateServer) (cycles : ℕ) (runs : IsOpenFor server cycles
         before = λ within. (is.from low).before;
         low = omega (arith, few);
       }
-
-  -- and when the cycles are over it isn't
-  pub receives-over : (place cycle had : ℕ) → IsWaiting server cycles place cycle had
-      → cycles ≤ cycle → IsReceiving server cycles (place + 1) cycle had
-  receives-over place cycle had is past =
-      let within = is.within in
-      let end : cycle ≡ cycles = omega (arith, within, past) in
-      let few = is.low in
-      record {
-        within = within;
-        last = is.over end ∙ sym end;
-        before = λ low. absurd (omega (arith, low, past));
-        low = omega (arith, few);
-      }

@@ -1,10 +1,8 @@
 -- What is asked of a chain, over its legs.
 use Rattle.std.proofs.Common.{ℕ, ◌+◌, ◌≤◌, ◌≡◌, List, [], ◌∷◌, Some, length, slice_get, refl, sym}
-use Rattle.std.proofs.Common.{◌-◌, ◌∙◌, ap, drop, take, subst, suc, get_or, inl, inr, arith}
+use Rattle.std.proofs.Common.{◌-◌, ◌∙◌, ap, drop, take, subst, suc, get_or, arith}
 use Rattle.std.specs.Prelude.{All}
-use Rattle.std.proofs.lemmas.Bool.{cases_lt}
 use Rattle.std.proofs.lemmas.List.{length-drop, take_all}
-use Rattle.std.proofs.lemmas.Option.{slice_get-get_or}
 use Rattle.std.proofs.lemmas.List.Elements.{All-cons, All-head, All-nil, All-tail}
 use Rattle.aeth_slots.specs.SlotSet.{Ascends, IsSlotSet}
 use Rattle.aeth_server.specs.ChannelShape.{IsShapeInRange, shape_of}
@@ -13,7 +11,6 @@ use Rattle.aeth_server.specs.declared.shape.ChannelShape.{ChannelShape}
 use Rattle.aeth_chain.specs.Chain.{IsChain, latency_along, leg_of, legs_of, passing_latency}
 use Rattle.aeth_chain.specs.Chain.{size_of}
 use Rattle.aeth_chain.specs.declared.item.ChainItem.{ChainItem}
-use Rattle.aeth_chain.specs.Limits.{max_work}
 use Rattle.aeth_chain.proofs.ChainLemmas.{IsLegOf}
 
 -- A shape in its range, of slot sets, is granted what it asks for.
@@ -59,19 +56,6 @@ chain-legs (item ∷ items) [] is granted = absurd (let beside = is.beside in om
 chain-legs (item ∷ items) (shape ∷ shapes) is granted =
     legs-are shape.slots.size (item ∷ items) (shape ∷ shapes) granted
     (λ k one at. is.one_size k 0 one shape at refl)
-
--- No core of a chain works for longer than it may.
-pub chain-works : (items : List ChainItem) (shapes : List ChannelShape) → IsChain items shapes
-    → All (λ item. item.work ≤ max_work) items
-chain-works items shapes is k none within =
-    let at = slice_get-get_or items k none within in
-    elim (cases_lt (k + 1) (length items)) [
-      | inl inner ↦ (is.works k (get_or items k none) at inner).1
-      | inr last ↦
-          let place : k ≡ length items - 1 = omega (arith, within, last) in
-          let rests = is.last (get_or items k none) (rw (← place) at) in
-          omega (arith, rests)
-    ]
 
 -- ---- one leg before others
 -- what stands behind the first of a list, as code that takes it apart has it

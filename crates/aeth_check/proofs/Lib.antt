@@ -15,6 +15,6 @@ mod SeatLaws
 mod MarkLaws
 mod ChannelLaws
 mod AcceptedLaws
-mod PlanParts
+pub mod PlanParts
 mod GrantOrder
 mod Halves

@@ -1,11 +1,10 @@
 -- Laws of meetings: slots that a mask and turned starts have in common, and paths link by link.
-use Rattle.std.proofs.Common.{◌≡◌, ◌∙◌, ◌<◌, ◌≤◌, ◌+◌, ◌*◌, ◌-◌, ◌%◌, ◌||◌, ℕ, Bool, true, false}
+use Rattle.std.proofs.Common.{◌≡◌, ◌∙◌, ◌<◌, ◌+◌, ◌*◌, ◌-◌, ◌%◌, ◌||◌, ℕ, Bool, true, false}
 use Rattle.std.proofs.Common.{List, [], ◌∷◌, Contains, length, Some, slice_get, drop, refl, sym, ap}
 use Rattle.std.proofs.Common.{arith, get_or}
 use Rattle.std.specs.Prelude.{nat_lt}
-use Rattle.std.specs.List.{list_any, range_with_len}
+use Rattle.std.specs.List.{list_any}
 use Rattle.std.proofs.lemmas.Nat.{mod_below}
-use Rattle.aeth_base.proofs.Ranges.{range_more}
 use Rattle.std.proofs.lemmas.Bool.{lt-ltb, ltb-true}
 use Rattle.std.proofs.lemmas.Option.{same_Some, slice_get-get_or}
 use Rattle.aeth_base.specs.declared.ids.LinkId.{LinkId}
@@ -26,28 +25,6 @@ some_item (x ∷ xs) some = (x, (0, omega arith, refl))
 
 has_item : (xs : List ℕ) (x : ℕ) → Contains xs x → 0 < length xs
 has_item xs x has = omega (arith, has.1)
-
-module _ (test : ℕ → Bool) (u n : ℕ) (within : u < n) (total : Bool)
-    (so_far : list_any test (range_with_len u (n - u)) ≡ total) where
-  -- The next number passes.
-  pub any_first : test u ≡ true → true ≡ total
-  any_first passes =
-      ap (λ b. b || list_any test (range_with_len (u + 1) (n - (u + 1)))) (sym passes)
-      ∙ sym (ap (list_any test) (range_more u n within)) ∙ so_far
-
-  -- It doesn't.
-  pub any_next : test u ≡ false
-      → list_any test (range_with_len (u + 1) (n - (u + 1))) ≡ total
-  any_next fails =
-      ap (λ b. b || list_any test (range_with_len (u + 1) (n - (u + 1)))) (sym fails)
-      ∙ sym (ap (list_any test) (range_more u n within)) ∙ so_far
-
--- No number is left.
-pub any_none : (test : ℕ → Bool) (u n : ℕ) (total : Bool) → n ≤ u
-    → list_any test (range_with_len u (n - u)) ≡ total → false ≡ total
-any_none test u n total past so_far =
-    let none : n - u ≡ 0 = omega arith in
-    sym (ap (λ k. list_any test (range_with_len u k)) none) ∙ so_far
 
 -- A mask and turned starts have a slot in common exactly where a start comes to a slot of the mask.
 pub common_decides : (size : ℕ) (test : ℕ → Bool) (starts : Slots) (after : ℕ) → 0 < size

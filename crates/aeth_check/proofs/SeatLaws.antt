@@ -106,12 +106,6 @@ none_where_home seats cores home =
     at_home one.fixed (ni_of seats (record { 0 = core })) (λ ni fixed.
     home (record { 0 = core }) one ni (ap (slice_get cores) same ∙ at) fixed))
 
--- The table of the interfaces has that of each of its cores.
-pub seated_at : (seats : List SeatLine) (cores : ℕ) (nis : List (Option NiId)) (core : CoreId)
-    (ni : Option NiId) → AreSeatedAt seats cores nis → slice_get nis core.0 ≡ Some ni
-    → ni ≡ ni_of seats core
-seated_at seats cores nis core ni are at = are.each core.0 ni at
-
 -- A table without interfaces is that of no seats.
 pub none_seated : (cores : ℕ) (nis : List (Option NiId)) → length nis ≡ cores
     → All (λ (ni : Option NiId). ni ≡ None) nis → AreSeatedAt [] cores nis

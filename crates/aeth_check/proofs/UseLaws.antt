@@ -66,9 +66,6 @@ join-hit true true = refl
 join-hit true false = refl
 join-hit false e = refl
 
-or-none : (a : Bool) → (a || false) ≡ a
-or-none = or-false
-
 with-use : (has : ℕ → Bool) (a e : Bool) (u v : ℕ) → has u ≡ true
     → ((a && (has v && e)) || (eqb v u && e)) ≡ ((a || eqb u v) && (has v && e))
 with-use has a e u v is = elim (cases_eq v u) [

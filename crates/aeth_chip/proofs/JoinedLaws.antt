@@ -1,15 +1,14 @@
 -- Laws of joined lists: one behind another, the first elements of one and those that follow; of
 -- links that join a node to a node; and of open links.
-use Rattle.std.proofs.Common.{◌≡◌, ◌∙◌, ◌+◌, ◌++◌, suc, List, [], ◌∷◌, length}
-use Rattle.std.proofs.Common.{map, Contains, refl, sym, ap, subst, inl, inr, arith}
+use Rattle.std.proofs.Common.{◌≡◌, ◌∙◌, ◌+◌, ◌++◌, List, [], ◌∷◌, length}
+use Rattle.std.proofs.Common.{map, Contains, refl, sym, ap, subst, inl, inr}
 use Rattle.std.proofs.Common.{length-append}
 use Rattle.std.proofs.lemmas.List.{length-map}
-use Rattle.std.proofs.lemmas.List.Elements.{Contains-append_left, Contains-append_cases}
 use Rattle.aeth_base.proofs.Members.{Contains-cases, Contains-nil}
 use Rattle.aeth_base.specs.declared.ids.LinkId.{LinkId}
 use Rattle.aeth_base.specs.declared.ids.RouterId.{RouterId}
 use Rattle.aeth_chip.specs.Joined.{IsJoined, end_of}
-use Rattle.aeth_chip.specs.Paths.{AreDistinct, BeginsAt, IsLinkFrom, Joins, to_in}
+use Rattle.aeth_chip.specs.Paths.{BeginsAt, IsLinkFrom, Joins, to_in}
 use Rattle.aeth_chip.specs.Paths.{to_of}
 use Rattle.aeth_chip.specs.declared.node.Link.{Link}
 use Rattle.aeth_chip.specs.declared.node.Node.{Node}
@@ -133,29 +132,3 @@ module _ (links : List Link) where
       sym (length-map path (to_of links)) ∙ ap (λ (ns : List Node). length ns) joins.ends
       ∙ length-append (map (λ r. Router r) routers) (b ∷ [])
       ∙ ap (λ n. n + 1) (length-map routers (λ r. Router r))
-
--- ---- open links
-
--- The first of distinct routers are distinct.
-distinct-prefix : (firsts routers : List RouterId) → AreDistinct (firsts ++ routers)
-    → AreDistinct firsts
-distinct-prefix [] routers distinct = tt
-distinct-prefix (r ∷ firsts) routers distinct = (
-  (λ has. distinct.0 (Contains-append_left firsts routers r has)),
-  distinct-prefix firsts routers distinct.1,
-)
-
--- A further router leaves routers distinct.
-distinct-push : (routers : List RouterId) (r : RouterId) → AreDistinct routers
-    → (Contains routers r → ⊥) → AreDistinct (routers ++ r ∷ [])
-distinct-push [] r distinct new = ((λ has. Contains-nil has), tt)
-distinct-push (q ∷ routers) r distinct new = (
-  (λ has. elim (Contains-append_cases routers (r ∷ []) q has) [
-    | inl early ↦ distinct.0 early
-    | inr last ↦ elim (Contains-cases r [] q last) [
-      | inl same ↦ new (0, omega arith, sym same)
-      | inr none ↦ Contains-nil none
-    ]
-  ]),
-  distinct-push routers r distinct.1 (λ (k, within, at). new (suc k, omega arith, at)),
-)

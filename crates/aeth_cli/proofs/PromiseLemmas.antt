@@ -3,12 +3,11 @@ use Rattle.std.proofs.Common.{◌≡◌, ◌∙◌, ◌≤◌, ◌<◌, ℕ, Lis
 use Rattle.std.proofs.Common.{ap, refl, subst, sym, arith}
 use Rattle.std.proofs.Math.Nat.{eq-or-lt_of_le}
 use Rattle.std.proofs.lemmas.Option.{same_Some}
-use Rattle.aeth_io.specs.Causes.{IsFaultless}
 use Rattle.aeth_io.specs.declared.shelf.Shelf as shelf
 use Rattle.aeth_io.specs.declared.sink.Sink as sink
 use Rattle.aeth_answers.specs.Job.{Job, err_text, usage}
 use Rattle.aeth_answers.specs.Places.{Files, IsAfter, Places, files_of}
-use Rattle.aeth_answers.specs.Status.{memory_status, read_fault_status, usage_status}
+use Rattle.aeth_answers.specs.Status.{read_fault_status, usage_status}
 use Rattle.aeth_answers.specs.Status.{write_fault_status}
 use Rattle.aeth_answers.specs.Task.{IsReadFault}
 use Rattle.aeth_answers.specs.Writing.{EndsWith, IsCutShort, IsWritten}
@@ -60,33 +59,6 @@ err_text-whole answer fault = rw fault refl
 module _ {H O E : Type 0} (outcomes : Outcomes) (h : shelf.Ghosts H) (o : sink.Ghosts O)
     (e : sink.Ghosts E) (words : List (List ℕ)) (old new : Places H O E)
     (after : IsAfter (files_of h old.shelf) (files_of h new.shelf)) where
-  -- Where memory was wanting, the promise is kept, if no call on the shelf failed and the sinks are as
-  -- before.
-  pub Promise-memory : IsFaultless (h.faults old.shelf) (h.faults new.shelf)
-      → new.out ≡ old.out → new.err ≡ old.err
-      → Promise outcomes h o e words old new memory_status
-  Promise-memory faultless out err =
-      let out_same : o.faults new.out ≡ o.faults old.out = ap o.faults out in
-      let err_same : e.faults new.err ≡ e.faults old.err = ap e.faults err in record {
-        statuses = omega arith;
-        shelf_is = after;
-        out_later = omega (arith, out_same);
-        err_later = omega (arith, err_same);
-        status_is = λ below. absurd (omega (arith, below));
-        out_is = λ below. absurd (omega (arith, below));
-        err_is = λ below. absurd (omega (arith, below));
-        answered = λ below. absurd (omega (arith, below));
-        err_kept = λ _. err;
-        out_kept = λ _ _. out;
-        usage_only = λ usage. absurd (omega (arith, usage));
-        read_fault = λ fault. absurd (omega (arith, fault));
-        write_fault = λ fault. absurd (omega (arith, fault));
-        memory_shelf = λ _. faultless;
-        memory_out = λ _. out;
-        memory_err = λ _. err;
-        complete = λ _ _ _. inr refl;
-      }
-
   module _ (answer : Job) (is : IsAnswerTo outcomes (files_of h old.shelf) (files_of h new.shelf)
       (command_of words) answer)
       (out_later : o.faults old.out ≤ o.faults new.out)

@@ -1,6 +1,6 @@
 -- Laws of rules that are judged one after the other.
 use Rattle.std.proofs.Common.{◌≡◌, ℕ, List, Option, Some, None, refl}
-use Rattle.std.specs.Prelude.{IfSome, Result, Ok, Err}
+use Rattle.std.specs.Prelude.{Result, Ok}
 use Rattle.aeth_base.specs.Faults.{BrokenRule}
 use Rattle.aeth_base.specs.declared.shown.Broken.{Broken}
 use Rattle.aeth_document.specs.Chain.{◌>>=◌}
@@ -18,14 +18,3 @@ pub judged-kept : {X : Type 0} (rule : ℕ) (name : List ℕ) (found : Option Br
     → (found ≡ None) × (next ≡ Ok value)
 judged-kept rule name None next value is = (refl, is)
 judged-kept rule name (Some broken) next value is = absurd (cc is)
-
--- A fault of the first rule is the fault of the chain.
-pub reads_first : {A B F : Type 0} (rule_of : F → Option BrokenRule) (fault : F)
-    (first : Result A BrokenRule) (next : A → Result B BrokenRule)
-    → IfSome (rule_of fault) (λ broken. first ≡ Err broken)
-    → IfSome (rule_of fault) (λ broken. (first >>= next) ≡ Err broken)
-reads_first rule_of fault first next shown =
-    let go : (rule : Option BrokenRule) → IfSome rule (λ broken. first ≡ Err broken)
-    → IfSome rule (λ broken. (first >>= next) ≡ Err broken) =
-    elim [ None ↦ λ none. none | Some broken ↦ λ is. rw is refl ] in
-    go (rule_of fault) shown

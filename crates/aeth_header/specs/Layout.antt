@@ -37,7 +37,3 @@ count_bits = 2
 -- It begins at this bit.
 abbrev pub count_shift : ℕ
 count_shift = 30
-
--- A word has so many bits.
-abbrev pub word_bits : ℕ
-word_bits = 32

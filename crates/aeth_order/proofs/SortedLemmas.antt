@@ -9,12 +9,11 @@ use Rattle.std.specs.declared.cmp.Ordering.{Ordering}
 use Rattle.std.specs.declared.cmp.Ordering.TheVariants.{Less, Equal, Greater}
 use Rattle.std.proofs.lemmas.Bool.{cases_eq, cases_lt}
 use Rattle.std.proofs.lemmas.List.{get_or_default}
-use Rattle.std.proofs.lemmas.List.Quantifiers.{all_pairs_remove}
 use Rattle.std.proofs.lemmas.List.Sorted.{Contains-permutation, IsPermutation-remove}
-use Rattle.std.proofs.lemmas.List.Sorted.{IsPermutation-sym, IsStrictWeakOrder-flip, ranks_by}
+use Rattle.std.proofs.lemmas.List.Sorted.{IsStrictWeakOrder-flip, ranks_by}
 use Rattle.std.proofs.lemmas.List.Sorted.{sorted_far}
 use Rattle.aeth_base.specs.declared.ids.Unit.{Unit as GroupUnit}
-use Rattle.aeth_base.proofs.Members.{Contains-cases, Contains-there}
+use Rattle.aeth_base.proofs.Members.{Contains-cases}
 use Rattle.aeth_order.specs.declared.keys.UnitKeys.{UnitKeys}
 use Rattle.aeth_order.specs.Grid.{Falls, IsFound, nobody}
 use Rattle.aeth_order.specs.Order.{unit_order}
@@ -107,16 +106,6 @@ module _ (unit : GroupUnit) (order : List UnitKeys) (at : ℕ) (within : at < le
   apart : IsPermutation order (one ∷ remove order at)
   apart = IsPermutation-remove order at one within
       (sym (get_or_default order at one nobody within))
-
-  pub falls-remove : Falls order → Falls (remove order at)
-  falls-remove falls =
-      all_pairs_remove (λ a b. is_lt (unit_order a b) ≡ false) order at within falls
-
-  pub among-remove : (a : UnitKeys) → Contains (remove order at) a → Contains order a
-  among-remove a has =
-      Contains-permutation (one ∷ remove order at) order a
-      (IsPermutation-sym order (one ∷ remove order at) apart)
-      (Contains-there one (remove order at) a has)
 
   pub others-remove : is_unit unit one ≡ true → (a : UnitKeys) → Contains order a
       → is_unit unit a ≡ false → Contains (remove order at) a

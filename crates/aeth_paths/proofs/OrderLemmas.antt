@@ -36,25 +36,6 @@ better-before f path other =
     || (eqb (sum_by f.cost path) (sum_by f.cost other) && b))
     (lt-then (length path) (length other) _)
 
--- Where the costs differ they decide.
-pub before-cost : (cost : ℕ) (path : List LinkId) (its : ℕ) (other : List LinkId) → cost ≢ its
-    → ltb cost its ≡ is_before cost path its other
-before-cost cost path its other differ =
-    let go : (a : Bool) → a ≡ (a || false) = elim [ true ↦ refl | false ↦ refl ] in
-    rw (ne_eqb cost its differ) (go (ltb cost its))
-
--- Where they are one, the numbers of links decide if they differ.
-pub before-length : (cost : ℕ) (path : List LinkId) (its : ℕ) (other : List LinkId) → cost ≡ its
-    → length path ≢ length other → ltb (length path) (length other) ≡ is_before cost path its other
-before-length cost path its other same differ =
-    let go : (a : Bool) → a ≡ (a || false) = elim [ true ↦ refl | false ↦ refl ] in
-    rw (
-      le-ltb cost its (omega arith),
-      eq-eqb cost its same,
-      ne_eqb (length path) (length other) differ,
-    )
-    (go (ltb (length path) (length other)))
-
 -- Else the links do.
 pub before-links : (cost : ℕ) (path : List LinkId) (its : ℕ) (other : List LinkId) → cost ≡ its
     → length path ≡ length other

@@ -1,13 +1,12 @@
-mod Chains
+pub mod Chains
 mod Fronts
 mod NameCounts
 mod OwnNames
 mod StartLaws
 mod GrantOrder
-mod SeatedCores
+pub mod SeatedCores
 mod RisingLists
 pub mod MadePlans
-mod PrintLaws
 pub mod LineForms
 pub mod TextLaws
 pub mod Places

@@ -74,15 +74,6 @@ module _ (run : Run) (l t : ℕ) where
       ap (λ (b : Bool). cond b (flit_at flow i (t - before) ∷ []) []) there
       ∙ ap (λ (n : ℕ). flit_at flow i n ∷ []) back
 
-  -- Where no flit is carried, the list is empty.
-  pub carries-none : ((c i u : ℕ) (flow : Flow) → IsCarried run l t c i u flow → ⊥)
-      → carries run l t ≡ []
-  carries-none never =
-      let links = run.design.chip.links in
-      flat_map-none (flits_on links l t) (flows_of run) (λ c flow is.
-      flat_map-none (flits_at links flow l t) (places flow) (λ i place at.
-      none_at c i flow place is at (λ u. never c i u flow)))
-
   -- Where one place of one flow alone carries a flit, the list has that flit alone.
   pub carries-sole : (c i u : ℕ) (flow : Flow) → IsCarried run l t c i u flow
       → ((d j v : ℕ) (other : Flow) → IsCarried run l t d j v other → (d ≡ c) × (j ≡ i))

@@ -18,6 +18,7 @@ use Rattle.aeth_chip.specs.declared.node.Node.TheVariants.{Ni, Router}
 use Rattle.aeth_chip.proofs.NodeLemmas.{numbers_from-at, same_node-refl, same_node-true}
 use Rattle.aeth_chip.proofs.NodeLemmas.{sends_on-found}
 use Rattle.aeth_app.specs.App.{AppData}
+use Rattle.aeth_check.proofs.PlanParts.{are_placed}
 use Rattle.aeth_check.specs.Calls.{IsPlaced}
 use Rattle.aeth_group.specs.Members.{groups_of}
 use Rattle.aeth_plan.specs.Plan.{PlanData}
@@ -30,7 +31,7 @@ use Rattle.aeth_tables.proofs.ListLaws.{all_from_places, all_has}
 use Rattle.aeth_rtable.specs.Hops.{hops_in}
 use Rattle.aeth_rtable.specs.Rows.{router_rows}
 use Rattle.aeth_rtable.proofs.RowLaws.{IsRow, is_row}
-use Rattle.aeth_rtable.proofs.TableLaws.{are_placed, design_tables}
+use Rattle.aeth_rtable.proofs.TableLaws.{design_tables}
 
 module _ (links : List Link) where
   -- A link of joined ones begins where the one before it ends.

@@ -1,7 +1,6 @@
 -- The rows of a use case by an accepted plan are the tables of its routers.
-use Rattle.std.proofs.Common.{◌≡◌, ◌<◌, ◌+◌, ◌∙◌, ℕ, List, Some, All, Contains, length}
+use Rattle.std.proofs.Common.{◌≡◌, ◌<◌, ◌+◌, ◌∙◌, ℕ, List, Some, Contains, length}
 use Rattle.std.proofs.Common.{slice_get, sym, ap, subst, arith}
-use Rattle.std.proofs.lemmas.List.Elements.{All-from_recursion}
 use Rattle.std.proofs.lemmas.Nat.{mod_below}
 use Rattle.std.proofs.lemmas.Option.{get_or_from_slice_get, slice_get-get_or, slice_get_within}
 use Rattle.aeth_base.specs.declared.ids.LinkId.{LinkId}
@@ -18,7 +17,6 @@ use Rattle.aeth_group.specs.Members.{GroupsData, groups_of, has_unit}
 use Rattle.aeth_group.specs.declared.grant.Grant.{Grant}
 use Rattle.aeth_plan.specs.Plan.{IsGrantOf, IsPlanOf, PlanData}
 use Rattle.aeth_check.specs.Accepted.{IsAccepted}
-use Rattle.aeth_check.specs.Calls.{IsPlaced}
 use Rattle.aeth_tables.specs.Reserved.{IsDesign}
 use Rattle.aeth_tables.proofs.ListLaws.{all_has_by}
 use Rattle.aeth_rtable.specs.Hops.{entry_at, grants_in, hops_in, hops_of}
@@ -29,19 +27,6 @@ use Rattle.aeth_router.specs.declared.router_row.RouterRow.{RouterRow}
 use Rattle.aeth_rtable.proofs.HopLaws.{IsUsed, entry-from, has_hop, is_hop, one_from}
 use Rattle.aeth_rtable.proofs.HopLaws.{some_entry}
 use Rattle.aeth_rtable.proofs.RowLaws.{has_row, is_row, link_of, rows_rise}
-
--- The links of a plan's grants are the chip's, and their slots are of its table size.
-pub are_placed : (chip : ChipData) → IsChip chip → (app : AppData) (groups : GroupsData)
-    (plan : PlanData) → IsPlanOf chip app groups plan → All (IsPlaced chip) plan.grants
-are_placed chip is_chip app groups plan of = λ place missing within.
-    let is = All-from_recursion (IsGrantOf chip app groups) plan.grants of.grants place missing within in
-    let some = is_chip.some_slots in
-    let size = is.size in
-    record {
-      links = All-from_recursion (λ (link : LinkId). link.0 < length chip.links) _ is.links;
-      some = omega arith;
-      size = size;
-    }
 
 module _ (chip : ChipData) (app : AppData) (groups : GroupsData) (plan : PlanData)
     (is_chip : IsChip chip) (of : IsPlanOf chip app groups plan)

@@ -3,8 +3,8 @@ use Rattle.std.proofs.Common.{◌≡◌, ◌∙◌, ◌≤◌, ◌<◌, ◌+◌,
 use Rattle.std.proofs.Common.{filter, length, refl, ap}
 use Rattle.std.proofs.Common.{inl, inr, arith}
 use Rattle.std.specs.Prelude.{◌==◌, nat_le, nat_lt}
-use Rattle.std.proofs.lemmas.Bool.{and_from, and_left, and_parts, and_right, cases_Bool}
-use Rattle.std.proofs.lemmas.Bool.{cases_order, eq-eqb, le-leb, le-ltb, leb-true, lt-leb, ltb-true}
+use Rattle.std.proofs.lemmas.Bool.{and_from, and_parts, and_right, cases_Bool}
+use Rattle.std.proofs.lemmas.Bool.{cases_order, eq-eqb, le-leb, le-ltb, leb-true, ltb-true}
 use Rattle.std.proofs.lemmas.Bool.{lt-ltb, ne_eqb}
 
 -- How many of those cycles that pass a test are before one.
@@ -86,9 +86,6 @@ between go until a from upto =
 
 pub past-between : (go until a : ℕ) → until ≤ a → is_between go until a ≡ false
 past-between go until a past = and_right (nat_le go a) (nat_lt a until) (le-ltb a until past)
-
-pub before-between : (go until a : ℕ) → a < go → is_between go until a ≡ false
-before-between go until a early = and_left (nat_le go a) (nat_lt a until) (lt-leb go a early)
 
 -- None has arrived by the first.
 pub none-by : (go until t : ℕ) → t ≤ go → (cycles : List ℕ)

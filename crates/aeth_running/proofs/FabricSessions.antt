@@ -1,6 +1,6 @@
 -- The sessions of the fabric of accepted inputs, by their numbers: each is one of a known channel, and
 -- those of one channel come one after the other.
-use Rattle.std.proofs.Common.{◌≡◌, ◌≤◌, ◌<◌, ◌∙◌, ◌+◌, ◌*◌, ℕ, Option, Some, None, length}
+use Rattle.std.proofs.Common.{◌≡◌, ◌≤◌, ◌<◌, ◌∙◌, ◌+◌, ℕ, Option, Some, None, length}
 use Rattle.std.proofs.Common.{slice_get}
 use Rattle.std.proofs.Common.{refl, sym, ap, inl, inr, arith}
 use Rattle.std.specs.Prelude.{IfSome, max, option_map, unwrap_or}
@@ -25,7 +25,7 @@ use Rattle.aeth_fabric.specs.Fabric.{Placed, fabric_of, no_placed, placed_at, pl
 use Rattle.aeth_fabric.specs.Fabric.{stays_in}
 use Rattle.aeth_fabric.proofs.Numbers.{numbered, one_number, placed-there}
 use Rattle.aeth_fabric.proofs.WritableRuns.{writable}
-use Rattle.aeth_running.proofs.ChannelNumbers.{channel-same, channel-within}
+use Rattle.aeth_running.proofs.ChannelNumbers.{channel-same}
 use Rattle.aeth_stimuli.specs.Sessions.{IsBefore, channel_of}
 
 -- How a session closes that no switch closes, as the fabric has it.
@@ -68,11 +68,6 @@ module _ (inputs : Inputs) where
       let known = (placed-there (run_of inputs) c within).known in
       let count = connections-groups_of inputs.app in
       omega (arith, known, count)
-
-  pub channel_of-within : (c : ℕ) → c < (fabric_of inputs).count
-      → channel_of inputs c < 2 * length inputs.app.connections
-  channel_of-within c within = channel-within (placed_at (run_of inputs) c).channel
-      (length inputs.app.connections) (placed-known c within)
 
   -- It stands among those of its connection.
   pub session-there : (c : ℕ) → c < (fabric_of inputs).count

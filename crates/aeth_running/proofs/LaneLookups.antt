@@ -4,7 +4,6 @@ use Rattle.std.proofs.Common.{◌≡◌, ◌∙◌, ◌+◌, ℕ, suc, Bool, tru
 use Rattle.std.proofs.Common.{filter, fold}
 use Rattle.std.proofs.Common.{length, slice_get, refl, sym, ap, arith}
 use Rattle.std.specs.Prelude.{◌==◌, nat_lt, slice_index, if◌then◌else◌}
-use Rattle.std.proofs.lemmas.List.{length-set}
 use Rattle.std.proofs.lemmas.Option.{get_or_from_slice_get, slice_get_within}
 use Rattle.aeth_base.proofs.Lists.{slice_get-slice_set_other, slice_get-slice_set_same}
 use Rattle.aeth_trace.specs.Channels.{channel_number}
@@ -185,9 +184,3 @@ length-lanes_in all t untils lanes =
     ∙ length-offered t untils (offers_in all t) gone
     ∙ length-changed (λ (going : Going). channel_number going.channel)
     (λ (going : Going) (one : Lane). entered one going) (goings_in all t) lanes
-
-pub length-untils_in : (all : Stimuli) (t : ℕ) (untils : List ℕ)
-    → length (untils_in all t untils) ≡ length untils
-length-untils_in all t untils =
-    length-fold until_with (λ some going.
-    length-set some (channel_number going.channel) going.until) (goings_in all t) untils

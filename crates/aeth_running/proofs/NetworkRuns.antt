@@ -69,11 +69,6 @@ module _ (begin : BeginningLaws) (laws : CycleLaws)
     (frames_of (loaded_components inputs)) (stimuli_of inputs))
     (inputs : Inputs) (accepted : AreAccepted inputs) (routing : Routing)
     (routes : IsRoutingFor inputs routing) where
-  abbrev apart : (c i j : ℕ) (one other : Session) → c < length inputs.app.connections → i < j
-      → slice_get (sessions_in (run_of inputs) c) i ≡ Some one
-      → slice_get (sessions_in (run_of inputs) c) j ≡ Some other → IsBefore one other
-  apart = sessions-apart inputs accepted
-
   ok : IsAccepted (fabric_of inputs)
   ok = fabrics inputs accepted
 
@@ -84,7 +79,7 @@ module _ (begin : BeginningLaws) (laws : CycleLaws)
       → slice_get (sessions_in (run_of inputs) channel.conn.0) j ≡ Some other
       → one.go ≡ other.go → ⊥
   go-apart channel known i j one other less here there same =
-      let before = apart channel.conn.0 i j one other known less here there in
+      let before = sessions-apart inputs accepted channel.conn.0 i j one other known less here there in
       let found = session-number inputs channel i one known here in
       let first = goes-first inputs accepted (spans inputs accepted) ok found.number found.known in
       let go : (server_at (fabric_of inputs) found.number).go ≡ one.go =
@@ -107,7 +102,8 @@ module _ (begin : BeginningLaws) (laws : CycleLaws)
       → Plays inputs routing (stepped (played t (first_network inputs routing)))
   plays-next t plays time early =
       plays-on inputs routing routes accepted.design.chip_is laws ok accepted.pulls.order accepted.cycles (words-placed inputs accepted)
-      (values-placed inputs accepted) (stimuli-are inputs accepted).lanes (ordered inputs apart)
+      (values-placed inputs accepted) (stimuli-are inputs accepted).lanes
+      (ordered inputs (sessions-apart inputs accepted))
       (goes-first inputs accepted (spans inputs accepted) ok) goes (events-are inputs accepted)
       (played t (first_network inputs routing)) plays (omega (arith, time, early))
 
@@ -130,7 +126,7 @@ module _ (begin : BeginningLaws) (laws : CycleLaws)
   serving-at network plays early =
       let prepares = then-prepares inputs routing routes accepted.design.chip_is laws ok accepted.pulls.order accepted.cycles
       (words-placed inputs accepted) (values-placed inputs accepted)
-      (stimuli-are inputs accepted).lanes (ordered inputs apart)
+      (stimuli-are inputs accepted).lanes (ordered inputs (sessions-apart inputs accepted))
       (goes-first inputs accepted (spans inputs accepted) ok) goes (events-are inputs accepted)
       network plays early in
       record {

@@ -12,7 +12,6 @@ use Rattle.aeth_slots.specs.SlotSet.{Ascends}
 use Rattle.aeth_base.specs.Extremes.{least_below}
 use Rattle.aeth_server.specs.SlotCycles.{is_slot, slots_within, nth_slot}
 use Rattle.aeth_base.proofs.ExtremeLemmas.{true_and_false, least_below-passes, least_below-first}
-use Rattle.aeth_base.proofs.ExtremeLemmas.{least_below-is}
 
 -- Cycles with one slot have one slot as many cycles later.
 pub same_slot-later : (size s u n : ℕ) → s % size ≡ u % size → (s + n) % size ≡ (u + n) % size
@@ -195,19 +194,3 @@ module _ (size : ℕ) (slots : List ℕ) where
       let place : (s + least_below (reaches s q) (q * size)) - s
       ≡ least_below (reaches s q) (q * size) = omega arith in
       rw place (record { soon = omega (arith, soon, turn); reached = leb-true _ _ found.passes })
-
-  -- it is the first slot with k slots between
-  pub nth_slot-here : (s n k : ℕ) → n < size → within s n ≡ k → slot (s + n) ≡ true
-      → nth_slot size slots s (k + 1) - s ≡ n
-  unfolding nth_slot
-  nth_slot-here s n k low count is =
-      let here = slots_within-slot s n is in
-      let longer : n + 1 ≡ suc n = omega arith in
-      let next = ap (within s) longer in
-      let passes = le-leb (k + 1) (within s (n + 1)) (omega (arith, here, count, next)) in
-      let bound : n < (k + 1) * size = omega (arith, tables (k + 1) size (omega arith)) in
-      let found = least_below-is (reaches s (k + 1)) ((k + 1) * size) n bound passes
-      (λ j before. false_from_ne_true _ (λ sooner.
-      let more = slots_within-more s (j + 1) n (omega arith) in
-      omega (arith, leb-true _ _ sooner, count, more))) in
-      omega (arith, found)

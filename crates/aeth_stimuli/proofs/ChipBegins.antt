@@ -3,11 +3,12 @@ use Rattle.std.proofs.Common.{◌≡◌, ◌<◌, ◌∙◌, ℕ, ◌*◌, refl,
 use Rattle.std.proofs.Common.{List, [], ◌∷◌, Option, Some, None, get_or, length, map, replicate, slice_get}
 use Rattle.std.specs.List.{slice_index_or}
 use Rattle.std.proofs.lemmas.List.{get_or-map, length-map, length-replicate}
-use Rattle.std.proofs.lemmas.Option.{slice_get-get_or, unwrap_or-slice_get}
+use Rattle.std.proofs.lemmas.Option.{slice_get-get_or}
 use Rattle.aeth_chip.specs.Chip.{ChipData, IsChip}
 use Rattle.aeth_chip.specs.Wires.{wires_of}
 use Rattle.aeth_clocked.specs.Wires.{flit_on}
 use Rattle.aeth_clocked.specs.declared.flit.Flit.{Flit}
+use Rattle.aeth_clocked.proofs.ClearLemmas.{flit_on-replicate}
 use Rattle.aeth_ni.specs.Limits.{queues_of_interface}
 use Rattle.aeth_ni.specs.Queue.{empty_queue}
 use Rattle.aeth_router.specs.Router.{RouterState, entering_wires, new_router}
@@ -31,10 +32,7 @@ use Rattle.aeth_invariant.specs.Beginning.{AreEmpty, HasRoom}
 use Rattle.aeth_invariant.specs.Framed.{IsFramed}
 use Rattle.aeth_stimuli.specs.OnChip.{HaveRooms, IsOver, rooms_at}
 
--- Wires that hold nothing carry no flit.
-no-flit : (size l : ℕ) → flit_on (replicate size None) l ≡ None
-no-flit size l = unwrap_or-slice_get (replicate size None) l None ∙ get_or-same None size l
-
+-- Where none of a list has a flit, it is a list of none.
 no-flits : (f : ℕ → Option Flit) → ((x : ℕ) → f x ≡ None) → (xs : List ℕ)
     → replicate (length xs) None ≡ map f xs
 no-flits f none [] = refl
@@ -57,7 +55,7 @@ module _ (chip : ChipData) (is_chip : IsChip chip) (rooms : List ℕ)
     | IsRouter r small place is ↦
         let same : router ≡ new_router (record { 0 = r }) chip.links = cc is in
         ap (λ (s : RouterState). s.held) same
-        ∙ no-flits (flit_on wires) (no-flit (wires_of chip.links))
+        ∙ no-flits (flit_on wires) (flit_on-replicate (wires_of chip.links))
         (entering_wires (record { 0 = r }) chip.links)
         ∙ ap (λ (s : RouterState). map (flit_on wires) s.incoming) (sym same)
     | IsStage k small place stage ↦
@@ -84,7 +82,7 @@ module _ (chip : ChipData) (is_chip : IsChip chip) (rooms : List ℕ)
     | IsStage k small place stage ↦
         let made : Stage own ≡ made_stage chip.links stage.link stage.place = stage.is in
         let none : own.held ≡ None = cc made in
-        none ∙ sym (no-flit (wires_of chip.links) own.input.0)
+        none ∙ sym (flit_on-replicate (wires_of chip.links) own.input.0)
   ]
 
   -- No slot has an entry.
@@ -148,7 +146,7 @@ module _ (chip : ChipData) (is_chip : IsChip chip) (rooms : List ℕ)
           framed = subst (IsFramed fabric frames) (sym size)
               (framed chip is_chip rooms rooms_are count passage opposite over);
           latched = record { routers = router-empty; tables = table-empty; stages = stage-empty };
-          wires = no-flit (wires_of chip.links);
+          wires = flit_on-replicate (wires_of chip.links);
           entries = entry-of;
           queues = has-room lanes words;
           lanes = closed;

@@ -58,12 +58,6 @@ module _ (chip : ChipData) (is_chip : IsChip chip) (rooms : List ℕ)
         (port_of chip.links (record { 0 = l })) l → Sender l
     ByStage : (m : ℕ) → start_of chip.links l ≡ AtStage m → IsFromStage frames m l → Sender l
 
-  -- A first wire starts where its link begins.
-  starts-at : (l : ℕ) (link : Link) → slice_get links l ≡ Some link
-      → start_of links l ≡ node_end link.from
-  starts-at l link at =
-      first-starts links (have_delays chip is_chip) l link at
-
   by-interface : (i l : ℕ) (frame : Frame) → slice_get frames i ≡ Some frame → i < length chip.nis
       → frame ≡ frame_of (made_interface chip rooms i) → sends_by frame l ≡ true → Sender l
   by-interface i l frame at within is sends =
@@ -79,7 +73,8 @@ module _ (chip : ChipData) (is_chip : IsChip chip) (rooms : List ℕ)
       (ap (λ (ls : List ℕ). slice_get ls 0) single.sends ∙ ap (λ n. Some n) leaving) in
       let passes = passes-from_is_among (begins_at node) links l among in
       let from = same_node-true passes.0.from node passes.2 in
-      ByInterface i (starts-at l passes.0 passes.1 ∙ ap node_end from) (record {
+      ByInterface i
+      (first-starts links (have_delays chip is_chip) l passes.0 passes.1 ∙ ap node_end from) (record {
         number = record { 0 = i };
         leaving = record { 0 = slice_index (sends_on node links) 0 };
         entering = record { 0 = last_wire links (slice_index (receives_on node links) 0) };
@@ -98,7 +93,8 @@ module _ (chip : ChipData) (is_chip : IsChip chip) (rooms : List ℕ)
       let passes = passes-from_is_among (begins_at node) links l among in
       let from = same_node-true passes.0.from node passes.2 in
       let port = port_at links l passes.0 (record { 0 = r }) passes.1 from in
-      ByRouter r (starts-at l passes.0 passes.1 ∙ ap node_end from) (record {
+      ByRouter r
+      (first-starts links (have_delays chip is_chip) l passes.0 passes.1 ∙ ap node_end from) (record {
         place = i;
         outgoing = sends_on node links;
         face = at ∙ ap (λ (f : Frame). Some f) is;

@@ -19,7 +19,7 @@ use Rattle.aeth_group.specs.declared.grant.SeatLine.{SeatLine}
 use Rattle.aeth_group.proofs.ListLemmas.{all_at}
 use Rattle.aeth_seats.specs.Seats.{queue_of}
 use Rattle.aeth_plan.specs.Plan.{PlanData}
-use Rattle.aeth_check.specs.Channels.{receiver, sender}
+use Rattle.aeth_check.specs.Channels.{sender}
 use Rattle.aeth_check.specs.Firsts.{NoTwo}
 use Rattle.aeth_check.specs.Seats.{IsOneSeat}
 use Rattle.aeth_tables.specs.Granted.{sending_seat}
@@ -67,11 +67,6 @@ sender_ends connection Fwd =
 sender_ends connection Back =
     or_right (eqb connection.from.0 connection.to.0) (eqb connection.to.0 connection.to.0)
     (eq-eqb connection.to.0 connection.to.0 refl)
-
-pub receiver_ends : (connection : Connection) (side : Side)
-    → is_end (receiver connection side) connection ≡ true
-receiver_ends connection Fwd = sender_ends connection Back
-receiver_ends connection Back = sender_ends connection Fwd
 
 -- A connection with an end at a core has it there.
 pub ends_there : (app : AppData) (granted : GrantedConnection) (core : CoreId)

@@ -1,5 +1,5 @@
 -- The lag and the writes of switches, by what each connection adds.
-use Rattle.std.proofs.Common.{◌≡◌, ◌<◌, ◌≤◌, ◌+◌, ◌++◌, ◌∙◌, ℕ, zero, suc, Bool, true, false, cond}
+use Rattle.std.proofs.Common.{◌≡◌, ◌<◌, ◌≤◌, ◌+◌, ◌++◌, ◌∙◌, ℕ, zero, suc, Bool, true, false}
 use Rattle.std.proofs.Common.{List, [], ◌∷◌, length, map, max, not, refl, sym, ap, inl, inr}
 use Rattle.std.proofs.Common.{Some, append_assoc, arith, drop, get_or}
 use Rattle.std.specs.Prelude.{flat_map, sum_by}
@@ -58,12 +58,6 @@ module _ (chip : ChipData) (app : AppData) (groups : GroupsData) (u v : ℕ) whe
   -- Whether a switch changes a connection.
   abbrev changes : GrantedConnection → Bool
   changes one = not (is_kept groups u v one.conn.0)
-
-  made-cons : (one : GrantedConnection) (rest : List GrantedConnection)
-      → made groups u v (map (change_of chip) (one ∷ rest))
-      ≡ cond (changes one) (change_of chip one ∷ made groups u v (map (change_of chip) rest))
-      (made groups u v (map (change_of chip) rest))
-  made-cons one rest = refl
 
   -- The greatest delay of two paths and others.
   greater : (one other rest : ℕ) → max (max one other) rest ≡ max one (max other rest)

@@ -33,11 +33,3 @@ item_step out new first word words total is so_far =
     ap (λ text. text ++ joined_on false words) is
     ∙ append_assoc out (item first word) (joined_on false words)
     ∙ ap (λ text. out ++ text) (sym (item_on first word words)) ∙ so_far
-
--- All are printed.
-pub items_end : (out : List ℕ) (first : Bool) (words : List (List ℕ)) (total : List ℕ)
-    → words ≡ [] → out ++ joined_on first words ≡ total → out ≡ total
-items_end out true words total none so_far =
-    sym (append-nil out) ∙ ap (λ ws. out ++ joined_on true ws) (sym none) ∙ so_far
-items_end out false words total none so_far =
-    sym (append-nil out) ∙ ap (λ ws. out ++ joined_on false ws) (sym none) ∙ so_far
