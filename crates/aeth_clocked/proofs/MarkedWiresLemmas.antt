@@ -134,6 +134,31 @@ pub flit_on-some : (marks : List ℕ) (flits : List Flit) (link : ℕ)
 flit_on-some marks flits link are marked =
     has_flit-marked_wires marks flits link are ∙ ap (λ bit. eqb bit 1) marked
 
+-- A link with a flit is one of the links, and the flit stands at its place.
+module _ (marks : List ℕ) (flits : List Flit) (link : ℕ)
+    (some : IsSome (flit_on (marked_wires marks flits) link)) where
+  pub flit-within : link < length flits
+  flit-within =
+      let size = as_many_wires marks flits in
+      elim (cases_lt link (length flits)) [
+        | inl within ↦ within
+        | inr past ↦
+            absurd (cc (sym some ∙ ap (λ (found : Option (Option Flit)). is_some (unwrap_or found None))
+            (slice_get_past (marked_wires marks flits) link (omega arith))))
+      ]
+
+  pub flit-there : AreMarksOf (length flits) marks
+      → flit_on (marked_wires marks flits) link ≡ slice_get flits link
+  flit-there are =
+      elim (cases_eq (bit_of marks link) 1) [
+        | inl marked ↦
+            ap (λ (found : Option (Option Flit)). unwrap_or found None)
+            (slice_get-marked_wires marks flits link flit-within)
+            ∙ marked_flit-some marks flits link marked
+        | inr unmarked ↦
+            absurd (cc (sym some ∙ ap is_some (flit_on-none marks flits link are unmarked)))
+      ]
+
 -- A link is empty just where it isn't marked.
 pub empty-unmarked : (marks : List ℕ) (flits : List Flit) (link : ℕ) (has : Bool)
     → AreMarksOf (length flits) marks → (IsTrue has ↔ (bit_of marks link ≡ 1))

@@ -64,6 +64,15 @@ impl Wires {
         }
     }
 
+    /// The flit on a link that has one.
+    #[tactic(auto, using(crate::proofs::MarkedWiresLemmas::as_many_wires))]
+    pub fn flit(&self, link: LinkId) -> Flit
+        requires { IsSome (flit_on self.now link.0) }
+        ensures { flit_on self.now link.0 ≡ Some result }
+    {
+        self.flits[link.0 as usize]
+    }
+
     /// Whether a link is empty.
     #[tactic(auto, using(crate::proofs::MarkedWiresLemmas::as_many_wires))]
     pub fn is_empty(&self, link: LinkId) -> bool
@@ -82,8 +91,8 @@ impl Wires {
         let place = link.0 as usize;
         match flit {
             Some(flit) => {
-                self.flits[place] = flit;
                 self.used.mark(place);
+                self.flits[place] = flit;
             }
             None => self.used.unmark(place),
         }

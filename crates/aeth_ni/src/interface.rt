@@ -1,14 +1,15 @@
 // A network interface: a slot table and 32 queues between two links.
 
 ghost use Rattle.std.specs.Prelude.{◌≡◌, ◌<◌, ◌≤◌, ◌↔◌, length, slice_get, IfOk, IfSome, map};
-ghost use Rattle.std.specs.Prelude.{◌≢◌, ℕ, IsTrue, None};
+ghost use Rattle.std.specs.Prelude.{◌≢◌, ℕ, IsTrue, None, Some};
+ghost use Rattle.std.specs.List.{slice_index_or};
 ghost use Rattle.std.specs.Bool.{IsFalse, OnTrue, OnFalse};
 ghost use Rattle.std.proofs.Common.{refl};
 ghost use Rattle.aeth_ni.specs.Limits.{queues_of_interface, waiting_words};
 ghost use Rattle.aeth_ni.specs.Queue.{empty_queue, offered, word_taken, finished, stopped};
 ghost use Rattle.aeth_ni.specs.Interface.{IsInterface, queue_at, changed, new_interface};
 ghost use Rattle.aeth_ni.specs.Component.{queue_at_cycle, emitted_by, flit_sent_by, arrival_of};
-ghost use Rattle.aeth_ni.specs.Component.{landed_at, last_of};
+ghost use Rattle.aeth_ni.specs.Component.{absorbed, landed_at, last_of};
 ghost use Rattle.aeth_ni.specs.Component.{interface_outputs, interface_inputs, interface_emit};
 ghost use Rattle.aeth_ni.specs.Component.{interface_after, interface_absorb};
 ghost use Rattle.aeth_ni.specs.Agreement.{interface_absorb-agrees};
@@ -194,13 +195,32 @@ impl Ni {
         to
     }
 
+    /// Lands a flit that came on the entering link, as `latch` does, and gives its queue and its word count,
+    /// which is what `last` tells then.
+    pub fn land(&mut self, flit: Flit) -> Option<(u8, u8)>
+        ensures landed { self.new ≡ absorbed (arrival_of (Some flit)) self.old }
+        ensures last { result ≡ last_of (arrival_of (Some flit)) }
+    {
+        self.last = land(&mut self.queues, Some(flit));
+        self.last
+    }
+
     /// Whether the queue of a cycle's slot sends nothing, as the interface stands.
     pub fn is_mute(&self, cycle: u64) -> bool
         ensures { IsTrue result
             ↔ (emitted_by (queue_at_cycle self.now.entries cycle) self.now.queues ≡ None) }
     {
         let slot = cycle % self.entries.len() as u64;
-        is_mute(&self.queues, self.entries[slot as usize])
+        self.is_mute_in(slot as usize)
+    }
+
+    /// Whether the queue of a slot sends nothing, as the interface stands.
+    pub fn is_mute_in(&self, slot: usize) -> bool
+        requires { slot < length self.now.entries }
+        ensures { IsTrue result
+            ↔ (emitted_by (slice_index_or self.now.entries slot None) self.now.queues ≡ None) }
+    {
+        is_mute(&self.queues, self.entries[slot])
     }
 }
 

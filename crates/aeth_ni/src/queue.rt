@@ -169,9 +169,9 @@ impl Queue {
     pub(crate) fn is_mute(&self) -> bool
         ensures { IsTrue result ↔ (emitted self.now ≡ None) }
     {
-        let sends_words = self.counter > 0 && !self.waiting.is_empty();
-        let sends_credits = self.owed > 0;
-        self.halted || self.route.is_none() || !(sends_words || sends_credits)
+        self.owed == 0 && (self.waiting.is_empty() || self.counter == 0)
+            || self.halted
+            || self.route.is_none()
     }
 
     /// Puts the words of a flit behind those that were received, of which the newest stay, and

@@ -1,11 +1,12 @@
 -- What components send on of the flits that they have, one by one.
 --
 --   passed      what a component sends on an output of the flit on one of its inputs
+--   forwarded, has_table      what it sends on in every cycle alike, and which components look a table up
 --   IsSole      what is sent is what one of some senders sends, where just one does
 --
 -- This project's own.
 use Rattle.std.specs.Prelude.{◌≡◌, ◌≢◌, ℕ, ◌==◌, ◌%◌, if◌then◌else◌, Option, Some, None, IsSome}
-use Rattle.std.specs.Prelude.{option_map}
+use Rattle.std.specs.Prelude.{Bool, false, option_map, true}
 use Rattle.aeth_clocked.specs.declared.flit.Flit.{Flit}
 use Rattle.aeth_router.specs.Ports.{hopped, toward}
 use Rattle.aeth_router.specs.Single.{is_sent_by}
@@ -23,6 +24,21 @@ passed (TableRouter router) cycle out wire flit =
     sent_on router.outgoing (λ port. if is_sent_by router (cycle % router.slots) wire port
     then option_map hopped flit else None) out
 passed (Stage stage) cycle out wire flit = if stage.output.0 == out then flit else None
+
+-- What a component sends on an output of a flit in every cycle alike: a router by the flit's header, and a
+-- stage. What a router with a table sends depends on the cycle, and an interface sends none on.
+abbrev pub forwarded : Part → ℕ → Option Flit → Option Flit
+forwarded (Interface ni) out flit = None
+forwarded (Router router) out flit = sent_on router.outgoing (λ port. toward port flit) out
+forwarded (TableRouter router) out flit = None
+forwarded (Stage stage) out flit = if stage.output.0 == out then flit else None
+
+-- Whether a component is a router with a table.
+abbrev pub has_table : Part → Bool
+has_table (Interface ni) = false
+has_table (Router router) = false
+has_table (TableRouter router) = true
+has_table (Stage stage) = false
 
 -- What is sent is what some senders send, where just one of them does; nothing where none does, or
 -- several do.

@@ -1,13 +1,13 @@
 // A component of any kind.
 
-ghost use Rattle.std.specs.Prelude.{Some, length};
+ghost use Rattle.std.specs.Prelude.{◌≡◌, Some, length};
 ghost use Rattle.aeth_clocked.specs.Wires.{AreLinks};
 ghost use Rattle.aeth_router.specs.Onward.{Adds};
 ghost use Rattle.aeth_router.specs.Part.{outputs_of, inputs_of, emit_of, after_of, absorb_of};
 ghost use Rattle.aeth_router.specs.PartAgreement.{outputs_of-after, inputs_of-after};
 ghost use Rattle.aeth_router.specs.PartAgreement.{outputs_of-absorb, inputs_of-absorb};
 ghost use Rattle.aeth_router.specs.PartAgreement.{absorb_of-agrees};
-ghost use Rattle.aeth_router.specs.Passing.{passed};
+ghost use Rattle.aeth_router.specs.Passing.{forwarded, has_table, passed};
 
 use crate::onward::Onward;
 use crate::router::Router;
@@ -46,6 +46,28 @@ impl Part {
             Part::Router(router) => router.pass(flit, onward),
             Part::TableRouter(router) => router.pass(cycle, wire, flit, onward),
             Part::Stage(stage) => stage.pass(flit, onward),
+        }
+    }
+}
+
+impl Part {
+    /// Whether the component is a router that looks a table up.
+    pub fn has_table(&self) -> bool
+        ensures { result ≡ has_table self.now }
+    {
+        matches!(self, Part::TableRouter(_))
+    }
+
+    /// Passes on a flit that was on a wire in the cycle before, where it goes on alike in every cycle: by
+    /// its header, or through a stage. A router with a table and an interface pass none on here.
+    pub fn forward(&self, flit: Flit, onward: &mut Onward)
+        requires { AreLinks (outputs_of self.now) (length onward.old) }
+        ensures { Adds (λ out. forwarded self.now out (Some flit)) onward.old onward.new }
+    {
+        match self {
+            Part::Router(router) => router.pass(flit, onward),
+            Part::Stage(stage) => stage.pass(flit, onward),
+            Part::Interface(_) | Part::TableRouter(_) => {}
         }
     }
 }
