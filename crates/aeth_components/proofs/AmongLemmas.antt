@@ -6,13 +6,11 @@ use Rattle.std.specs.List.{All}
 use Rattle.std.specs.Option.{option_map_or}
 use Rattle.std.proofs.lemmas.Bool.{cases_Bool, cases_lt, eqb-true}
 use Rattle.std.proofs.lemmas.Option.{get_or_from_slice_get, slice_get_within}
-use Rattle.aeth_base.specs.Marks.{bit_of}
 use Rattle.aeth_router.specs.declared.part.Part.{Part}
 use Rattle.aeth_components.specs.declared.lane.Lane.{Lane}
 use Rattle.aeth_components.specs.Channels.{OfLane}
 use Rattle.aeth_components.specs.Counting.{brings, brought_at, counted, counted_among, noted}
 use Rattle.aeth_components.specs.Counting.{noted_among}
-use Rattle.aeth_components.specs.Homes.{AreBrought}
 use Rattle.aeth_components.specs.Lanes.{IsLane, with_lane}
 use Rattle.aeth_components.specs.Queues.{brought_by}
 use Rattle.aeth_components.proofs.CountingLemmas.{IsLane-counted, brings-none, brings-silent}
@@ -138,7 +136,7 @@ module _ (parts : List Part) where
       ]
 
   -- Nor does one where no words came to the component that receives.
-  brings-found : (lane : Lane) (found : Option Part) → slice_get parts lane.receiver.ni.0 ≡ found
+  pub brings-found : (lane : Lane) (found : Option Part) → slice_get parts lane.receiver.ni.0 ≡ found
       → ((part : Part) → found ≡ Some part → brought_by lane.receiver.queue part ≡ 0)
       → brings parts lane ≡ 0
   brings-found lane None there none =
@@ -146,14 +144,3 @@ module _ (parts : List Part) where
       ap (λ (found : Option Part). option_map_or (brought_by lane.receiver.queue) found 0) there in
       omega (arith, zero)
   brings-found lane (Some part) there none = brings-silent parts lane part there (none part refl)
-
-  pub brings-unmarked : (telling : List ℕ) → AreBrought parts telling → (lane : Lane)
-      → (bit_of telling lane.receiver.ni.0 ≡ 1 → ⊥) → brings parts lane ≡ 0
-  brings-unmarked telling brought lane bit =
-      let i = lane.receiver.ni.0 in
-      brings-found lane (slice_get parts i) refl (λ part there.
-      elim (cases_lt 0 (brought_by lane.receiver.queue part)) [
-        | inl some ↦ absurd (bit (brought i lane.receiver.queue part there some))
-        | inr none ↦
-            (let zero : brought_by lane.receiver.queue part ≡ 0 = omega (arith, none) in zero)
-      ])

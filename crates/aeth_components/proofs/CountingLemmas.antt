@@ -137,19 +137,18 @@ IsLane-ahead words parts f xs now i default within is sound =
     subst (IsLane words parts) (sym (map-ahead f xs now i default within is)) sound
 
 -- One channel more is noted.
-pub noted-more : (cycle : ℕ) (parts : List Part) (lanes : List Lane)
+pub noted-more : (count : Lane → Lane) (note : List ℕ → Lane → List ℕ) (lanes : List Lane)
     (lanes_now : List Lane) (before now new : List ℕ) (place : ℕ) (default : Lane)
     → place < length lanes
-    → lanes_now ≡ map (counted cycle parts) (take place lanes) ++ drop place lanes
-    → now ≡ fold (noted cycle parts) before (take place lanes)
-    → new ≡ noted cycle parts now (get_or lanes_now place default)
-    → new ≡ fold (noted cycle parts) before (take (place + 1) lanes)
-noted-more cycle parts lanes lanes_now before now new place default within ahead so_far to =
-    to ∙ ap (noted cycle parts now)
-    (map-ahead (counted cycle parts) lanes lanes_now place default within ahead)
-    ∙ ap (λ (list : List ℕ). noted cycle parts list (get_or lanes place default)) so_far
-    ∙ sym (fold_push (noted cycle parts) before (take place lanes) (get_or lanes place default))
-    ∙ ap (fold (noted cycle parts) before) (sym (take_more lanes place default within))
+    → lanes_now ≡ map count (take place lanes) ++ drop place lanes
+    → now ≡ fold note before (take place lanes)
+    → new ≡ note now (get_or lanes_now place default)
+    → new ≡ fold note before (take (place + 1) lanes)
+noted-more count note lanes lanes_now before now new place default within ahead so_far to =
+    to ∙ ap (note now) (map-ahead count lanes lanes_now place default within ahead)
+    ∙ ap (λ (list : List ℕ). note list (get_or lanes place default)) so_far
+    ∙ sym (fold_push note before (take place lanes) (get_or lanes place default))
+    ∙ ap (fold note before) (sym (take_more lanes place default within))
 
 -- Writing keeps the length.
 pub length-written_over : (count from value : ℕ) (list : List ℕ)

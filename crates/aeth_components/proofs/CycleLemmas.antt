@@ -4,11 +4,10 @@ use Rattle.std.proofs.Common.{arith, fold}
 use Rattle.std.proofs.Common.{zero, suc, [], ◌∷◌, Some, slice_get}
 use Rattle.std.specs.Prelude.{slice_set}
 use Rattle.std.proofs.lemmas.Option.{same_Some}
-use Rattle.std.specs.List.{All, range_with_len}
+use Rattle.std.specs.List.{All}
 use Rattle.std.proofs.lemmas.List.Elements.{All-map}
 use Rattle.std.proofs.lemmas.List.{length-map}
 use Rattle.aeth_clocked.specs.declared.flit.Flit.{Flit}
-use Rattle.aeth_router.specs.Part.{absorb_of, after_of}
 use Rattle.aeth_router.specs.declared.part.Part.{Part}
 use Rattle.aeth_components.specs.declared.event.Event.{Event}
 use Rattle.aeth_components.specs.declared.lane.Lane.{Lane}
@@ -16,52 +15,13 @@ use Rattle.aeth_components.proofs.CountingLemmas.{IsLane-counted, length-flits_c
 use Rattle.aeth_components.proofs.CountingLemmas.{length-notes}
 use Rattle.aeth_components.proofs.FrameLemmas.{length-wires_driven}
 use Rattle.aeth_components.proofs.PartLemmas.{frames-switched}
-use Rattle.aeth_components.proofs.SkipLemmas.{length-turns}
 use Rattle.aeth_components.specs.Changes.{switched}
 use Rattle.aeth_components.specs.Components.{ComponentsState, Cycle, IsComponents, Runs}
-use Rattle.aeth_components.specs.Components.{components_of, driven_from, frames_of, latched_from}
-use Rattle.aeth_components.specs.Components.{wires_driven}
-use Rattle.aeth_components.specs.Components.{moment_of, ready_of}
+use Rattle.aeth_components.specs.Components.{components_of, frames_of, moment_of, ready_of}
 use Rattle.aeth_components.specs.Counting.{counted, flits_counted, noted}
 use Rattle.aeth_components.specs.Frames.{frame_of}
 use Rattle.aeth_components.specs.Lanes.{IsLane}
-use Rattle.aeth_components.specs.Phases.{Moment, in_turn, pulled, refilled}
-
--- The phases of a cycle, one after the other, are a run.
-pub Runs-from : (words : List ℕ) (events : List Event) (cycle : ℕ) (wires : List (Option Flit))
-    (old ready drained : Moment) (switched_parts driven latched : List Part)
-    (new_wires : List (Option Flit))
-    → switched_parts ≡ switched events old.parts
-    → ready ≡ in_turn (refilled words cycle) (record { parts = switched_parts; lanes = old.lanes })
-    → new_wires ≡ wires_driven ready.parts (length wires) cycle
-    → driven ≡ map (λ part. after_of part cycle) ready.parts
-    → drained ≡ in_turn (pulled cycle) (record { parts = driven; lanes = ready.lanes })
-    → latched ≡ map (λ part. absorb_of part new_wires) drained.parts
-    → map frame_of latched ≡ map frame_of old.parts
-    → Runs words events cycle wires new_wires old (record { parts = latched; lanes = drained.lanes })
-Runs-from words events cycle wires old ready drained switched_parts driven latched new_wires
-    switches refills drives drove takes latches frames =
-    let is_ready : ready ≡ ready_of words events cycle old =
-    refills ∙ ap (λ (parts : List Part).
-    in_turn (refilled words cycle) (record { parts = parts; lanes = old.lanes })) switches in
-    let is_driven : record { parts = driven; lanes = ready.lanes } ≡ driven_from cycle ready =
-    ap (λ (parts : List Part). record { parts = parts; lanes = ready.lanes }) drove in
-    let is_latched : record { parts = latched; lanes = drained.lanes }
-    ≡ latched_from new_wires drained =
-    ap (λ (parts : List Part). record { parts = parts; lanes = drained.lanes }) latches in
-    record {
-      wires = drives ∙ ap (λ (moment : Moment). wires_driven moment.parts (length wires) cycle)
-          is_ready;
-      moment = is_latched ∙ ap (latched_from new_wires) (takes ∙ ap (in_turn (pulled cycle))
-          (is_driven ∙ ap (driven_from cycle) is_ready));
-      frames = frames;
-      count = ap (λ (moment : Moment). length moment.lanes) takes
-          ∙ length-turns (pulled cycle) (range_with_len 0 (length ready.lanes))
-          (record { parts = driven; lanes = ready.lanes })
-          ∙ ap (λ (moment : Moment). length moment.lanes) refills
-          ∙ length-turns (refilled words cycle) (range_with_len 0 (length old.lanes))
-          (record { parts = switched_parts; lanes = old.lanes });
-    }
+use Rattle.aeth_components.specs.Phases.{Moment}
 
 -- A run and what is counted behind it are a cycle.
 module _ (events : List Event) (cycle : ℕ) (old : ComponentsState) (wires : List (Option Flit))

@@ -31,13 +31,14 @@ use Rattle.aeth_components.specs.Sending.{Injects}
 use Rattle.aeth_components.specs.Turns.{sends_own}
 use Rattle.aeth_components.specs.declared.ends.Ends.{Ends}
 
--- An interface is seen as it is.
-seen-interface : (wires : List (Option Flit)) (part : Part) → is_interface (frame_of part) ≡ true
-    → seen wires part ≡ part
-seen-interface wires (Interface ni) is = refl
-seen-interface wires (Router router) is = absurd (cc is)
-seen-interface wires (TableRouter router) is = absurd (cc is)
-seen-interface wires (Stage stage) is = absurd (cc is)
+-- What an interface emits doesn't depend on what came to it last.
+emits-seen : (wires : List (Option Flit)) (cycle wire : ℕ) (part : Part)
+    → is_interface (frame_of part) ≡ true
+    → emit_of part cycle wire ≡ emit_of (seen wires part) cycle wire
+emits-seen wires cycle wire (Interface ni) is = refl
+emits-seen wires cycle wire (Router router) is = absurd (cc is)
+emits-seen wires cycle wire (TableRouter router) is = absurd (cc is)
+emits-seen wires cycle wire (Stage stage) is = absurd (cc is)
 
 module _ (parts : List Part) (wires : List (Option Flit)) (ends : Ends) (cycle : ℕ)
     (wired : IsWired (map frame_of parts) (length wires))
@@ -85,7 +86,7 @@ module _ (parts : List Part) (wires : List (Option Flit)) (ends : Ends) (cycle :
                   injects.other i wire part at mute own
                   ∙ empty-outputs settled is i wire part at less own
                   ∙ sym (emits-mute cycle part first mute wire)
-            ] ∙ ap (λ (part : Part). emit_of part cycle wire) (sym (seen-interface wires part first))
+            ] ∙ emits-seen wires cycle wire part first
         | inr over ↦
             injects.other i wire part at
             (mute-other cycle part (are.others i (frame_of part) framed over)) own
@@ -133,7 +134,7 @@ module _ (parts : List Part) (wires : List (Option Flit)) (ends : Ends) (cycle :
       })
       ∙ ap (λ (n : ℕ). wires_driven seen_parts n cycle) sized
 
--- As many send something of their own, whatever routers and stages hold.
+-- As many send something of their own, whatever came to components.
 pub sending-seen : (wires : List (Option Flit)) (cycle : ℕ) (parts : List Part)
     → count_by (sends_own cycle) (all_seen wires parts) ≡ count_by (sends_own cycle) parts
 sending-seen wires cycle [] = refl

@@ -9,7 +9,7 @@ use Rattle.aeth_components.specs.Components.{ComponentsState, IsComponents}
 use Rattle.aeth_components.specs.Entering.{entered, with_rows}
 use Rattle.aeth_components.specs.Frames.{RouterFrame, frame_of}
 use Rattle.aeth_components.specs.Injecting.{entries_of}
-use Rattle.aeth_components.specs.Telling.{last_of}
+use Rattle.aeth_components.specs.Passing.{way_of}
 use Rattle.aeth_components.proofs.CycleLemmas.{IsComponents-framed}
 use Rattle.aeth_components.proofs.FrameLemmas.{views-map}
 
@@ -22,11 +22,11 @@ frame-entered rows (TableRouter router) =
     (with_table-kept rows router)
 frame-entered rows (Stage stage) = refl
 
-last-entered : (rows : List RouterRow) (part : Part) → last_of (entered rows part) ≡ last_of part
-last-entered rows (Interface ni) = refl
-last-entered rows (Router router) = refl
-last-entered rows (TableRouter router) = refl
-last-entered rows (Stage stage) = refl
+way-entered : (rows : List RouterRow) (part : Part) → way_of (entered rows part) ≡ way_of part
+way-entered rows (Interface ni) = refl
+way-entered rows (Router router) = refl
+way-entered rows (TableRouter router) = refl
+way-entered rows (Stage stage) = refl
 
 entries-entered : (rows : List RouterRow) (part : Part)
     → entries_of (entered rows part) ≡ entries_of part
@@ -35,14 +35,14 @@ entries-entered rows (Router router) = refl
 entries-entered rows (TableRouter router) = refl
 entries-entered rows (Stage stage) = refl
 
--- So the frames stay, what is told of flits, and the slot tables of the interfaces.
+-- So the frames stay, how flits are passed on alike in every cycle, and the slot tables of the interfaces.
 pub frames-entered : (rows : List RouterRow) (parts : List Part)
     → map frame_of (with_rows rows parts) ≡ map frame_of parts
 frames-entered rows = views-map frame_of (entered rows) (frame-entered rows)
 
-pub lasts-entered : (rows : List RouterRow) (parts : List Part)
-    → map last_of (with_rows rows parts) ≡ map last_of parts
-lasts-entered rows = views-map last_of (entered rows) (last-entered rows)
+pub ways-entered : (rows : List RouterRow) (parts : List Part)
+    → map way_of (with_rows rows parts) ≡ map way_of parts
+ways-entered rows = views-map way_of (entered rows) (way-entered rows)
 
 pub tables-entered : (rows : List RouterRow) (parts : List Part)
     → map entries_of (with_rows rows parts) ≡ map entries_of parts

@@ -1,28 +1,39 @@
--- Before the first cycle: the ends of a chip's wires, and that nothing is told of flits.
-use Rattle.std.proofs.Common.{ℕ, ◌≡◌, ◌<◌, ◌≤◌, ◌∙◌, refl, sym, ap, arith, subst}
-use Rattle.std.proofs.Common.{List, length, map, None, replicate, true, false}
+-- Before the first cycle: the ends of a chip's wires, and that no wire has a flit.
+use Rattle.std.proofs.Common.{ℕ, ◌≡◌, ◌<◌, ◌≤◌, ◌*◌, ◌∙◌, refl, sym, ap, arith, subst, cond, is_some}
+use Rattle.std.proofs.Common.{List, get_or, length, map, None, Option, replicate, slice_get, Some}
+use Rattle.std.proofs.Common.{true, false}
 use Rattle.std.specs.List.{All}
+use Rattle.std.specs.Option.{option_and_then, option_map}
 use Rattle.std.proofs.lemmas.List.{length-map, length-replicate}
+use Rattle.std.proofs.lemmas.List.Elements.{All-map}
+use Rattle.std.proofs.lemmas.List.Folds.{sum_by-replicate}
+use Rattle.std.proofs.lemmas.Option.{slice_get-get_or, slice_get-map}
 use Rattle.aeth_chip.specs.Chip.{ChipData, IsChip}
 use Rattle.aeth_chip.specs.Wires.{wires_of}
-use Rattle.aeth_base.specs.Marks.{bit_of, room_of}
+use Rattle.aeth_clocked.proofs.ClearLemmas.{flit_on-replicate}
+use Rattle.aeth_clocked.specs.Wires.{flit_on}
+use Rattle.aeth_clocked.specs.declared.flit.Flit.{Flit}
+use Rattle.aeth_router.proofs.OnwardLemmas.{arrival_at-none}
 use Rattle.aeth_router.specs.Onward.{Nothing}
+use Rattle.aeth_router.specs.Passing.{forwarded, has_table}
 use Rattle.aeth_router.specs.declared.part.Part.{Part}
 use Rattle.aeth_components.specs.Components.{part_count}
 use Rattle.aeth_components.specs.Ends.{AreEnds, AreEndsOf, is_interface}
 use Rattle.aeth_components.specs.Frames.{frame_of}
 use Rattle.aeth_components.specs.Making.{new_parts}
+use Rattle.aeth_components.specs.Passing.{way_of}
 use Rattle.aeth_components.specs.Ready.{AreReady}
-use Rattle.aeth_components.specs.Telling.{AreTelling, last_of}
+use Rattle.aeth_components.specs.Turns.{flits_on}
 use Rattle.aeth_components.specs.declared.ends.Ends.{Ends}
-use Rattle.aeth_components.specs.declared.turns.Turns.{Turns}
+use Rattle.aeth_components.specs.declared.making.RouterKind.{RouterKind}
 use Rattle.aeth_components.specs.declared.making.RouterKind.TheVariants.{ByHeader}
+use Rattle.aeth_components.specs.declared.turns.Turns.{Turns}
 use Rattle.aeth_components.proofs.EndLemmas.{IsAtEnds-receivers, IsAtEnds-senders}
-use Rattle.aeth_components.proofs.FrameLemmas.{from-map}
+use Rattle.aeth_components.proofs.KindLemmas.{frames-kind}
 use Rattle.aeth_components.proofs.MadeLemmas.{Made, IsInterface, IsRouter, IsStage, length-new_parts}
 use Rattle.aeth_components.proofs.MadeLemmas.{made-at, part-at}
-use Rattle.aeth_components.proofs.MarkedLemmas.{marks_below-none}
 use Rattle.aeth_components.proofs.ReceivedLemmas.{AreReceived-new}
+use Rattle.aeth_components.proofs.WayLemmas.{forwarded-empty}
 
 module _ (chip : ChipData) (rooms : List ℕ) where
   -- The interfaces are the first components.
@@ -38,20 +49,20 @@ module _ (chip : ChipData) (rooms : List ℕ) where
   made-others i part (IsRouter r within place is) over = rw is refl
   made-others i part (IsStage k few place stage) over = rw stage.is refl
 
-  -- A component that was just made tells of no flit.
-  made-last : (i : ℕ) (part : Part) → Made chip rooms i part → last_of part ≡ None
-  made-last i part (IsInterface within is) = rw is refl
-  made-last i part (IsRouter r within place is) = rw is refl
-  made-last i part (IsStage k few place stage) = rw stage.is refl
+  -- None has a table where routers read headers.
+  made-way : (i : ℕ) (part : Part) → Made chip rooms i part → has_table part ≡ false
+  made-way i part (IsInterface within is) = ap has_table is
+  made-way i part (IsRouter r within place is) = ap has_table is
+  made-way i part (IsStage k few place stage) = ap has_table stage.is
 
-  AreTelling-new : (interfaces : ℕ) (marks : List ℕ) → ((number : ℕ) → bit_of marks number ≡ 0)
-      → AreTelling interfaces (map last_of (new_parts chip ByHeader rooms)) marks
-  AreTelling-new interfaces marks none = record {
-    below = λ number marked. absurd (let bit = none number in omega (arith, bit, marked));
-    none = λ number last at unmarked.
-        let found = from-map last_of (new_parts chip ByHeader rooms) number last at in
-        found.2 ∙ made-last number found.0 (part-at chip rooms number found.0 found.1);
-  }
+  ways-new : All (λ way. way.by_table ≡ false) (map way_of (new_parts chip ByHeader rooms))
+  ways-new =
+      let parts = new_parts chip ByHeader rooms in
+      All-map (λ way. way.by_table ≡ false) way_of parts
+      (λ place default within.
+      made-way place (get_or parts place default)
+      (part-at chip rooms place (get_or parts place default)
+      (slice_get-get_or parts place default within)))
 
 module _ (chip : ChipData) (is_chip : IsChip chip) (rooms : List ℕ) where
   AreEnds-new : (ends : Ends) → AreEndsOf chip ends
@@ -85,26 +96,53 @@ module _ (chip : ChipData) (is_chip : IsChip chip) (rooms : List ℕ) where
             rw made.2 (made-others chip rooms i made.0 made.1 (omega (arith, over, interfaces)));
       }
 
-  -- Nothing is marked, and nothing has been passed on.
-  pub AreReady-new : (turns : Turns) → AreEndsOf chip turns.ends
-      → turns.ends.interfaces < room_of turns.telling
-      → turns.ends.interfaces < room_of turns.spare
-      → ((number : ℕ) → bit_of turns.telling number ≡ 0)
-      → ((number : ℕ) → bit_of turns.spare number ≡ 0)
+-- Of empty wires nothing is passed on.
+sent-none : (found : Option Part) (wires : List (Option Flit)) (out wire : ℕ)
+    → flit_on wires wire ≡ None
+    → option_and_then (λ way. way.sent out (flit_on wires wire)) (option_map way_of found) ≡ None
+sent-none None wires out wire empty = refl
+sent-none (Some part) wires out wire empty = ap (forwarded part out) empty ∙ forwarded-empty part out
+
+forwarded-none : (end : Option ℕ) (parts : List Part) (wires : List (Option Flit)) (out wire : ℕ)
+    → flit_on wires wire ≡ None
+    → option_and_then (λ way. way.sent out (flit_on wires wire))
+    (option_and_then (slice_get (map way_of parts)) end) ≡ None
+forwarded-none None parts wires out wire empty = refl
+forwarded-none (Some i) parts wires out wire empty =
+    rw (slice_get-map way_of parts i) (sent-none (slice_get parts i) wires out wire empty)
+
+-- So components are ready where no wire has a flit, and nothing has been passed on.
+pub AreReady-none : (parts : List Part) (count : ℕ) (turns : Turns)
+    → AreEnds (map frame_of parts) count turns.ends → turns.flits ≡ 0
+    → turns.onward ≡ replicate count Nothing
+    → (turns.has_tables ≡ false → All (λ way. way.by_table ≡ false) (map way_of parts))
+    → AreReady (map frame_of parts) (map way_of parts) (replicate count None) turns
+AreReady-none parts count turns ends flits onward tables =
+    let empty = flit_on-replicate count in
+    let size = length-replicate {A = Option Flit} count None in
+    record {
+      ends = rw size ends;
+      flits = (
+          let none : flits_on (replicate count None) ≡ count * 0 =
+          sum_by-replicate (λ (flit : Option Flit). cond (is_some flit) 1 0) count None in
+          omega (arith, flits, none));
+      size = rw (onward, size) (length-replicate count Nothing);
+      forwarded = λ out below.
+          rw (onward, arrival_at-none count out)
+          (λ wire within.
+          forwarded-none (slice_get turns.ends.receivers.items wire) parts (replicate count None) out
+          wire (empty wire));
+      tables = tables;
+    }
+
+module _ (chip : ChipData) (is_chip : IsChip chip) (kind : RouterKind) (rooms : List ℕ) where
+  -- So they are before the first cycle.
+  pub AreReady-new : (turns : Turns) → AreEndsOf chip turns.ends → turns.flits ≡ 0
       → turns.onward ≡ replicate (wires_of chip.links) Nothing
-      → AreReady (map frame_of (new_parts chip ByHeader rooms))
-      (map last_of (new_parts chip ByHeader rooms)) (replicate (wires_of chip.links) None) turns
-  AreReady-new turns are room spare_room telling spare onward =
-      let size = length-replicate (wires_of chip.links) None in
-      record {
-        ends = subst (λ n. AreEnds (map frame_of (new_parts chip ByHeader rooms)) n turns.ends)
-            (sym size) (AreEnds-new turns.ends are);
-        telling_room = room;
-        spare_room = spare_room;
-        telling = AreTelling-new chip rooms turns.ends.interfaces turns.telling telling;
-        few = (
-            let none = marks_below-none turns.telling turns.ends.parts (λ number below. telling number) in
-            omega (arith, none));
-        spare = spare;
-        onward = onward ∙ ap (λ (n : ℕ). replicate n Nothing) (sym size);
-      }
+      → (turns.has_tables ≡ false → kind ≡ ByHeader)
+      → AreReady (map frame_of (new_parts chip kind rooms)) (map way_of (new_parts chip kind rooms))
+      (replicate (wires_of chip.links) None) turns
+  AreReady-new turns are flits onward by_header =
+      AreReady-none (new_parts chip kind rooms) (wires_of chip.links) turns
+      (rw (frames-kind chip kind rooms) (AreEnds-new chip is_chip rooms turns.ends are)) flits onward
+      (λ none. rw (by_header none) (ways-new chip rooms))

@@ -22,7 +22,8 @@ use Rattle.aeth_router.specs.Part.{absorb_of, after_of, inputs_of, outputs_of}
 use Rattle.aeth_components.specs.Components.{wires_driven}
 use Rattle.aeth_components.specs.Frames.{Frame, InterfaceFrame, IsWired, frame_of, receives_by}
 use Rattle.aeth_components.specs.Frames.{sends_by}
-use Rattle.aeth_ni.specs.Component.{Arrival, arrival_of, flit_sent_by, landed_at, queue_at_cycle}
+use Rattle.aeth_ni.specs.Component.{Arrival, absorbed, arrival_of, flit_sent_by, landed_at}
+use Rattle.aeth_ni.specs.Component.{queue_at_cycle}
 use Rattle.aeth_ni.specs.Interface.{InterfaceState, changed, with_queue}
 use Rattle.aeth_ni.specs.Queue.{QueueState, flit_landed}
 use Rattle.aeth_ni.specs.Sending.{flit_sent}
@@ -146,11 +147,15 @@ length-landed_at None queues = refl
 length-landed_at (Some arrival) queues =
     length-with_queue arrival.header.queue (flit_landed arrival.header.credits arrival.words) queues
 
+pub frame_of-absorbed : (arrival : Option Arrival) (ni : InterfaceState)
+    → frame_of (Interface (absorbed arrival ni)) ≡ frame_of (Interface ni)
+frame_of-absorbed arrival ni =
+    frame_of-queues ni (landed_at arrival ni.queues) (length-landed_at arrival ni.queues)
+
 frame_of-absorb : (part : Part) (wires : List (Option Flit))
     → frame_of (absorb_of part wires) ≡ frame_of part
 frame_of-absorb (Interface ni) wires =
-    let arrival = arrival_of (flit_on wires ni.entering.0) in
-    frame_of-queues ni (landed_at arrival ni.queues) (length-landed_at arrival ni.queues)
+    frame_of-absorbed (arrival_of (flit_on wires ni.entering.0)) ni
 frame_of-absorb (Router router) wires = refl
 frame_of-absorb (TableRouter router) wires = refl
 frame_of-absorb (Stage stage) wires = refl

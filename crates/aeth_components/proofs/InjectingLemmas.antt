@@ -239,7 +239,16 @@ entry-sends cycle (Router router) sends = absurd (cc sends)
 entry-sends cycle (TableRouter router) sends = absurd (cc sends)
 entry-sends cycle (Stage stage) sends = absurd (cc sends)
 
--- So its table has as many slots as there are.
+-- The table of a component has as many slots as there are, if it has any.
+pub length-table : (parts : List Part) (slots : List (List ℕ))
+    → AreInjecting (map entries_of parts) slots → (number : ℕ) (part : Part)
+    → slice_get parts number ≡ Some part → 0 < length (entries_of part)
+    → length (entries_of part) ≡ length slots
+length-table parts slots are number part at some =
+    let size = ap length (table_at-parts parts number part at) in
+    sym size ∙ are.size number (omega (arith, some, size))
+
+-- So has that of one that sends.
 pub length-sends : (cycle : ℕ) (parts : List Part) (slots : List (List ℕ))
     → AreInjecting (map entries_of parts) slots → (number : ℕ) (part : Part)
     → slice_get parts number ≡ Some part → sends_own cycle part ≡ true
@@ -247,8 +256,7 @@ pub length-sends : (cycle : ℕ) (parts : List Part) (slots : List (List ℕ))
 length-sends cycle parts slots are number part at sends =
     let entry = entry-sends cycle part sends in
     let within = entry-within (entries_of part) (cycle % length (entries_of part)) entry.0 entry.1 in
-    let size = ap length (table_at-parts parts number part at) in
-    sym size ∙ are.size number (omega (arith, within, size))
+    length-table parts slots are number part at (omega (arith, within))
 
 -- And it is marked.
 pub AreInjecting-sends : (cycle : ℕ) (parts : List Part) (slots : List (List ℕ))

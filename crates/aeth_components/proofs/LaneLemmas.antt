@@ -1,8 +1,8 @@
 -- Laws of a change of one lane.
-use Rattle.std.proofs.Common.{ℕ, zero, suc, ◌≡◌, ◌≢◌, ◌<◌, refl, ap, arith}
+use Rattle.std.proofs.Common.{ℕ, zero, suc, ◌≡◌, ◌≢◌, ◌<◌, ◌∙◌, refl, sym, ap, arith}
 use Rattle.std.proofs.Common.{List, [], ◌∷◌, length, get_or, set}
 use Rattle.std.proofs.Common.{Some, slice_get}
-use Rattle.std.proofs.lemmas.Option.{same_Some}
+use Rattle.std.proofs.lemmas.Option.{get_or_from_slice_get, same_Some, slice_get_within}
 use Rattle.aeth_components.specs.declared.lane.Lane.{Lane}
 use Rattle.aeth_components.specs.Lanes.{with_lane}
 
@@ -16,6 +16,22 @@ set-with_lane (first ∷ lanes) zero change default within = refl
 set-with_lane (first ∷ lanes) (suc number) change default within =
     ap (λ (rest : List Lane). first ∷ rest)
     (set-with_lane lanes number change default (omega arith))
+
+-- A lane of a number below the count of lanes.
+pub lane-within : (lanes : List Lane) (number : ℕ) → number < length lanes
+    → (lane : Lane) × (slice_get lanes number ≡ Some lane)
+lane-within [] number within = absurd (omega (arith, within))
+lane-within (first ∷ lanes) zero within = (first, refl)
+lane-within (first ∷ lanes) (suc number) within = lane-within lanes number (omega (arith, within))
+
+-- So where it is known.
+pub with_lane-set : (lanes : List Lane) (number : ℕ) (change : Lane → Lane) (lane : Lane)
+    → slice_get lanes number ≡ Some lane
+    → with_lane number change lanes ≡ set lanes number (change lane)
+with_lane-set lanes number change lane at =
+    sym (set-with_lane lanes number change lane (slice_get_within lanes number lane at))
+    ∙ ap (λ (lane : Lane). set lanes number (change lane))
+    (get_or_from_slice_get lanes number lane lane at)
 
 -- There are as many as before.
 pub length-with_lane : (number : ℕ) (change : Lane → Lane) (lanes : List Lane)

@@ -1,7 +1,9 @@
 pub mod AloneLemmas
 mod AmongLemmas
-mod CameLemmas
+mod ArrivalLemmas
+mod AskedLemmas
 mod CarriedLemmas
+mod ComeLemmas
 mod CountedCycle
 mod CountedLemmas
 pub mod CountingLemmas
@@ -10,6 +12,8 @@ mod DriveLemmas
 mod EndLemmas
 pub mod EnteringLemmas
 mod FirstLemmas
+mod FlitLemmas
+mod ForwardedLemmas
 pub mod FrameLemmas
 mod FullLemmas
 mod HomeLemmas
@@ -17,12 +21,13 @@ mod InjectLemmas
 mod InjectingLemmas
 pub mod KeptLemmas
 pub mod KindLemmas
-mod LandingLemmas
+mod LandedLemmas
 pub mod LaneLemmas
+mod LookUpLemmas
 pub mod MadeLemmas
 pub mod MadeParts
+mod MapLemmas
 mod MarkLemmas
-mod MarkedLemmas
 mod NextLemmas
 pub mod NoteLemmas
 mod OwnLemmas
@@ -42,9 +47,11 @@ mod SkipLemmas
 mod SlotLemmas
 mod SwitchingLemmas
 mod TableLemmas
-mod TellingLemmas
+mod TakenLemmas
+mod ThereLemmas
 pub mod TurnLemmas
 mod TurnsAlone
 mod WaitingLemmas
 mod WakingLemmas
 mod WalkedLemmas
+mod WayLemmas

@@ -1,5 +1,5 @@
 -- Who receives on each wire of a chip, noted link by link and wire by wire.
-use Rattle.std.proofs.Common.{ℕ, ◌≡◌, ◌+◌, ◌≤◌, ◌<◌, refl, sym, ap, ◌∙◌, arith, inl, inr}
+use Rattle.std.proofs.Common.{ℕ, ◌≡◌, ◌+◌, ◌≤◌, ◌<◌, sym, ap, ◌∙◌, arith, inl, inr}
 use Rattle.std.proofs.Common.{List, length, length-set, set, Some, slice_get}
 use Rattle.std.specs.List.{All}
 use Rattle.std.proofs.lemmas.Bool.{cases_eq}
@@ -28,15 +28,6 @@ module _ (chip : ChipData) (is_chip : IsChip chip) where
 
   module _ (number : ℕ) (link : Link) (found : slice_get chip.links number ≡ Some link)
       (old : List ℕ) where
-    pub NotedTo-first : All (λ number. number < part_count chip) old
-        → NotedTo chip number link old old 0
-    NotedTo-first below = record {
-      size = refl;
-      at = λ place short. absurd (omega arith);
-      away = λ wire other. refl;
-      below = below;
-    }
-
     pub NotedTo-more : (now : List ℕ) (to receiver : ℕ) → NotedTo chip number link old now to
         → to < link.delay → length old ≡ wires_of chip.links
         → receiver ≡ receiver_for chip number to link → receiver < part_count chip

@@ -10,10 +10,8 @@ use Rattle.std.proofs.Math.ListN.{get_or-map}
 use Rattle.std.proofs.Math.Seq.{map-set_same}
 use Rattle.std.proofs.lemmas.Bool.{cases_Bool, cases_eq, eq-eqb}
 use Rattle.std.proofs.lemmas.Option.{slice_get-map}
-use Rattle.aeth_clocked.specs.Wires.{flit_on}
 use Rattle.aeth_clocked.specs.declared.flit.Flit.{Flit}
-use Rattle.aeth_ni.specs.Component.{Arrival, arrival_of, interface_absorb, interface_after}
-use Rattle.aeth_ni.specs.Component.{landed_at}
+use Rattle.aeth_ni.specs.Component.{Arrival, interface_after, landed_at}
 use Rattle.aeth_ni.specs.Interface.{changed, queue_at}
 use Rattle.aeth_ni.specs.Limits.{waiting_words}
 use Rattle.aeth_ni.specs.Queue.{QueueState, empty_queue, word_taken}
@@ -27,6 +25,7 @@ use Rattle.aeth_components.proofs.AloneLemmas.{slice_get-with_part_other}
 use Rattle.aeth_components.proofs.OwnLemmas.{still-mute}
 use Rattle.aeth_components.proofs.PartLemmas.{views-with_part}
 use Rattle.aeth_components.proofs.QueueLemmas.{taken-none, taken-some}
+use Rattle.aeth_components.proofs.SeenPhases.{views-landed}
 use Rattle.aeth_components.proofs.TurnLemmas.{views-turns}
 use Rattle.aeth_components.specs.Changes.{event_done, happened, on_interface, switched}
 use Rattle.aeth_components.specs.Changes.{told_at, told_by}
@@ -36,7 +35,7 @@ use Rattle.aeth_components.specs.Lanes.{is_open}
 use Rattle.aeth_components.specs.Phases.{Moment, asked_of, in_turn, pulled}
 use Rattle.aeth_components.specs.Queues.{drawn}
 use Rattle.aeth_components.specs.Handing.{HasEvent, IsFull, room_left}
-use Rattle.aeth_components.specs.Seen.{interfaces_driven, interfaces_latched}
+use Rattle.aeth_components.specs.Seen.{flits_landed, interfaces_driven}
 use Rattle.aeth_components.specs.Sending.{IsSending}
 use Rattle.aeth_components.specs.Turns.{sends_own}
 
@@ -111,32 +110,27 @@ rooms-pulled cycle parts lane = elim (cases_Bool (is_open lane cycle)) [
   | inr closed ↦ rw closed refl
 ]
 
--- Nor do flits that land.
+-- So behind it full queues are full.
+pub IsFull-pulled : (cycle : ℕ) (moment : Moment) (end : ChannelEnd) → IsFull moment.parts end
+    → IsFull (in_turn (pulled cycle) moment).parts end
+IsFull-pulled cycle moment =
+    IsFull-same moment.parts (in_turn (pulled cycle) moment).parts
+    (views-turns (pulled cycle) rooms_of (rooms-pulled cycle)
+    (range_with_len 0 (length moment.lanes)) moment)
+
+-- So they are where flits land.
 rooms-landed : (arrival : Option Arrival) (queues : List QueueState)
     → map room_left (landed_at arrival queues) ≡ map room_left queues
 rooms-landed None queues = refl
 rooms-landed (Some arrival) queues =
     map-set_same room_left queues arrival.header.queue _ (empty_queue 0) refl
 
-rooms-absorbed : (wires : List (Option Flit)) (part : Part)
-    → rooms_of (on_interface (λ ni. interface_absorb ni wires) part) ≡ rooms_of part
-rooms-absorbed wires (Interface ni) =
-    ap (λ (rooms : List ℕ). Some rooms)
-    (rooms-landed (arrival_of (flit_on wires ni.entering.0)) ni.queues)
-rooms-absorbed wires (Router router) = refl
-rooms-absorbed wires (TableRouter router) = refl
-rooms-absorbed wires (Stage stage) = refl
-
--- So behind taking and latching full queues are full.
-pub IsFull-latched : (cycle : ℕ) (wires : List (Option Flit)) (moment : Moment) (end : ChannelEnd)
-    → IsFull moment.parts end
-    → IsFull (interfaces_latched wires (in_turn (pulled cycle) moment).parts) end
-IsFull-latched cycle wires moment =
-    let taken = in_turn (pulled cycle) moment in
-    IsFull-same moment.parts (interfaces_latched wires taken.parts)
-    (rooms-map (on_interface (λ ni. interface_absorb ni wires)) (rooms-absorbed wires) taken.parts
-    ∙ views-turns (pulled cycle) rooms_of (rooms-pulled cycle)
-    (range_with_len 0 (length moment.lanes)) moment)
+pub IsFull-landed : (wires : List (Option Flit)) (parts : List Part) (end : ChannelEnd)
+    → IsFull parts end → IsFull (flits_landed wires parts) end
+IsFull-landed wires parts =
+    IsFull-same parts (flits_landed wires parts)
+    (views-landed rooms_of (λ arrival ni. ap (λ (rooms : List ℕ). Some rooms)
+    (rooms-landed arrival ni.queues)) wires parts)
 
 -- And where rows enter the tables of routers.
 rooms-entered : (rows : List RouterRow) (part : Part) → rooms_of (entered rows part) ≡ rooms_of part

@@ -1,13 +1,14 @@
--- Components that hold what their wires have: rows that enter, what is counted of them, who sends, and
--- what they are at first.
-use Rattle.std.proofs.Common.{ℕ, ◌≡◌, ◌∙◌, refl, sym, ap, ap₂, subst, arith, inl, inr}
+-- Components that are seen with what their wires have: rows that enter, what is counted of them, who sends,
+-- and what they are at first.
+use Rattle.std.proofs.Common.{ℕ, zero, suc, ◌≡◌, ◌∙◌, refl, sym, ap, ap₂, subst, arith, inl, inr}
 use Rattle.std.proofs.Common.{List, [], ◌∷◌, ◌++◌, length, map, fold, replicate, get_or, slice_get}
 use Rattle.std.proofs.Common.{Option, Some, None}
 use Rattle.std.specs.List.{All, flat_map, range_with_len}
-use Rattle.std.specs.Option.{option_map, option_map_or}
+use Rattle.std.specs.Option.{option_map_or}
 use Rattle.std.proofs.lemmas.Bool.{cases_Bool}
 use Rattle.std.proofs.lemmas.List.{get_or-map, length-map, map-append}
-use Rattle.std.proofs.lemmas.Option.{slice_get-map, unwrap_or-slice_get}
+use Rattle.std.proofs.lemmas.Option.{unwrap_or-slice_get}
+use Rattle.aeth_base.specs.declared.ids.LinkId.{LinkId}
 use Rattle.aeth_chip.specs.Chip.{ChipData}
 use Rattle.aeth_chip.specs.Wires.{wire_at}
 use Rattle.aeth_chip.specs.declared.node.Link.{Link}
@@ -20,15 +21,18 @@ use Rattle.aeth_router.specs.declared.part.Part.{Part}
 use Rattle.aeth_router.specs.declared.part.Part.TheVariants.{Interface, Router, Stage, TableRouter}
 use Rattle.aeth_router.specs.declared.router_row.RouterRow.{RouterRow}
 use Rattle.aeth_router.proofs.TableLemmas.{get_or-same}
-use Rattle.aeth_components.specs.Counting.{brought_at, counted, noted}
+use Rattle.aeth_ni.specs.Component.{arrival_of, interface_absorb, last_of}
+use Rattle.aeth_ni.specs.Interface.{InterfaceState}
+use Rattle.aeth_components.specs.Changes.{on_interface}
+use Rattle.aeth_components.specs.Counting.{counted, noted}
 use Rattle.aeth_components.specs.Entering.{TakesRows, entered, with_rows}
 use Rattle.aeth_components.specs.First.{HasSender, IsFirst}
 use Rattle.aeth_components.specs.Making.{link_stages, made_interface, made_router, made_stage}
 use Rattle.aeth_components.specs.Making.{made_stages, new_parts}
-use Rattle.aeth_components.specs.Queues.{brought_by}
-use Rattle.aeth_components.specs.Seen.{all_seen, seen}
+use Rattle.aeth_components.specs.Queues.{brought_by, words_for}
+use Rattle.aeth_components.specs.Seen.{all_seen, flits_landed, interfaces_latched, landed}
+use Rattle.aeth_components.specs.Seen.{seen}
 use Rattle.aeth_components.specs.Turns.{sends_own}
-use Rattle.aeth_components.specs.declared.lane.ChannelEnd.{ChannelEnd}
 use Rattle.aeth_components.specs.declared.lane.Lane.{Lane}
 use Rattle.aeth_components.specs.declared.making.RouterKind.{RouterKind}
 use Rattle.aeth_components.specs.declared.making.RouterKind.TheVariants.{ByHeader, ByTable}
@@ -82,39 +86,51 @@ module _ (wires : List (Option Flit)) where
       (subst (TakesRows rows) (get_or-map (seen wires) parts place default (seen wires default) within)
       (all place (seen wires default) (let size = length-map parts (seen wires) in omega arith)))
 
-  -- The same words were brought, so the same is counted and noted.
-  pub brought_by-seen : (queue : ℕ) (part : Part)
-      → brought_by queue (seen wires part) ≡ brought_by queue part
-  brought_by-seen queue (Interface ni) = refl
-  brought_by-seen queue (Router router) = refl
-  brought_by-seen queue (TableRouter router) = refl
-  brought_by-seen queue (Stage stage) = refl
+  -- Behind the landing as many words were brought to a component that is seen with what the wires have as to one
+  -- that has latched it.
+  entering-landed : (flit : Option Flit) (ni : InterfaceState)
+      → (landed flit ni).entering ≡ ni.entering
+  entering-landed None ni = refl
+  entering-landed (Some flit) ni = refl
 
-  brought_from-seen : (queue : ℕ) (found : Option Part)
-      → option_map_or (brought_by queue) (option_map (seen wires) found) 0
-      ≡ option_map_or (brought_by queue) found 0
-  brought_from-seen queue None = refl
-  brought_from-seen queue (Some part) = brought_by-seen queue part
+  brought_by-landed : (queue : ℕ) (part : Part)
+      → brought_by queue (on_interface (λ ni. interface_absorb ni wires) part)
+      ≡ brought_by queue (seen wires
+      (on_interface (λ ni. landed (flit_on wires ni.entering.0) ni) part))
+  brought_by-landed queue (Interface ni) =
+      ap (λ (link : LinkId). words_for queue (last_of (arrival_of (flit_on wires link.0))))
+      (sym (entering-landed (flit_on wires ni.entering.0) ni))
+  brought_by-landed queue (Router router) = refl
+  brought_by-landed queue (TableRouter router) = refl
+  brought_by-landed queue (Stage stage) = refl
 
-  pub brought_at-seen : (end : ChannelEnd) (parts : List Part)
-      → brought_at end (all_seen wires parts) ≡ brought_at end parts
-  brought_at-seen end parts =
-      ap (λ (found : Option Part). option_map_or (brought_by end.queue) found 0)
-      (slice_get-map (seen wires) parts end.ni.0)
-      ∙ brought_from-seen end.queue (slice_get parts end.ni.0)
+  brought_from-landed : (queue place : ℕ) (parts : List Part)
+      → option_map_or (brought_by queue) (slice_get (interfaces_latched wires parts) place) 0
+      ≡ option_map_or (brought_by queue)
+      (slice_get (all_seen wires (flits_landed wires parts)) place) 0
+  brought_from-landed queue place [] = refl
+  brought_from-landed queue zero (part ∷ parts) = brought_by-landed queue part
+  brought_from-landed queue (suc place) (part ∷ parts) = brought_from-landed queue place parts
 
-  pub counted-seen : (cycle : ℕ) (parts : List Part) (lanes : List Lane)
-      → map (counted cycle (all_seen wires parts)) lanes ≡ map (counted cycle parts) lanes
-  counted-seen cycle parts [] = refl
-  counted-seen cycle parts (lane ∷ lanes) =
-      rw (brought_at-seen lane.receiver parts, counted-seen cycle parts lanes) refl
+  -- So the same is counted and noted.
+  pub counted-landed : (cycle : ℕ) (parts : List Part) (lanes : List Lane)
+      → map (counted cycle (interfaces_latched wires parts)) lanes
+      ≡ map (counted cycle (all_seen wires (flits_landed wires parts))) lanes
+  counted-landed cycle parts [] = refl
+  counted-landed cycle parts (lane ∷ lanes) =
+      rw (
+        brought_from-landed lane.receiver.queue lane.receiver.ni.0 parts,
+        counted-landed cycle parts lanes,
+      ) refl
 
-  pub noted-seen : (cycle : ℕ) (parts : List Part) (lanes : List Lane) (landings : List ℕ)
-      → fold (noted cycle (all_seen wires parts)) landings lanes
-      ≡ fold (noted cycle parts) landings lanes
-  noted-seen cycle parts [] landings = refl
-  noted-seen cycle parts (lane ∷ lanes) landings =
-      rw (brought_at-seen lane.receiver parts) (noted-seen cycle parts lanes (noted cycle parts landings lane))
+  pub noted-landed : (cycle : ℕ) (parts : List Part) (lanes : List Lane) (landings : List ℕ)
+      → fold (noted cycle (interfaces_latched wires parts)) landings lanes
+      ≡ fold (noted cycle (all_seen wires (flits_landed wires parts))) landings lanes
+  noted-landed cycle parts [] landings = refl
+  noted-landed cycle parts (lane ∷ lanes) landings =
+      rw (brought_from-landed lane.receiver.queue lane.receiver.ni.0 parts)
+      (noted-landed cycle parts lanes
+      (noted cycle (all_seen wires (flits_landed wires parts)) landings lane))
 
   -- The same components send something of their own.
   pub sends_own-seen : (cycle : ℕ) (part : Part)
@@ -174,6 +190,11 @@ module _ (count : ℕ) where
       ap (λ held. TableRouter (record (new_table_router (record { 0 = number }) chip) { held = held }))
       (held-none (entering_wires (record { 0 = number }) chip.links))
 
+  interface-new : (chip : ChipData) (rooms : List ℕ) (number : ℕ)
+      → seen (replicate count None) (made_interface chip rooms number)
+      ≡ made_interface chip rooms number
+  interface-new chip rooms number = rw (flit-none _) refl
+
   stage-new : (links : List Link) (link place : ℕ)
       → seen (replicate count None) (made_stage links link place) ≡ made_stage links link place
   stage-new links link place =
@@ -204,7 +225,8 @@ module _ (count : ℕ) where
       ∙ ap₂ (λ (some others : List Part). some ++ others)
       (map-append (seen (replicate count None)) interfaces routers
       ∙ ap₂ (λ (some others : List Part). some ++ others)
-      (made-new (made_interface chip rooms) (λ n. refl) (range_with_len 0 (length chip.nis)))
+      (made-new (made_interface chip rooms) (interface-new chip rooms)
+      (range_with_len 0 (length chip.nis)))
       (made-new (made_router chip kind) (router-new chip kind)
       (range_with_len 0 (length chip.routers))))
       (stages-new chip.links (range_with_len 0 (length chip.links)))

@@ -1,5 +1,5 @@
--- Changes of interfaces and the turns of channels commute with a map of components that leaves
--- interfaces as they are, as what routers and stages hold of wires does.
+-- Changes of queues, events and the turns of channels commute with what components are seen to have of
+-- wires.
 use Rattle.std.proofs.Common.{ℕ, zero, suc, ◌≡◌, ◌∙◌, ◌+◌, refl, sym, ap, ap₂, inl, inr}
 use Rattle.std.proofs.Common.{List, [], ◌∷◌, length, map, fold}
 use Rattle.std.proofs.Common.{Option, Some, None, slice_get}
@@ -10,6 +10,9 @@ use Rattle.std.proofs.lemmas.Option.{slice_get-map}
 use Rattle.aeth_clocked.specs.declared.flit.Flit.{Flit}
 use Rattle.aeth_ni.specs.Interface.{InterfaceState, changed}
 use Rattle.aeth_ni.specs.Queue.{QueueState}
+use Rattle.aeth_ni.specs.Writes.{written}
+use Rattle.aeth_ni.specs.declared.write.Write.{Write}
+use Rattle.aeth_ni.specs.declared.write.Write.TheVariants.{ClearSlot, ClearRoute, SetRoute, SetSlot}
 use Rattle.aeth_router.specs.Part.{outputs_of}
 use Rattle.aeth_router.specs.declared.part.Part.{Part}
 use Rattle.aeth_router.specs.declared.part.Part.TheVariants.{Interface, Router, Stage, TableRouter}
@@ -23,16 +26,20 @@ use Rattle.aeth_components.specs.Phases.{pulled, refilled, turned, turned_at}
 use Rattle.aeth_components.specs.Queues.{drawn, draws, filled, fits}
 use Rattle.aeth_components.specs.Seen.{all_seen, seen}
 use Rattle.aeth_components.specs.declared.event.Event.{Event}
+use Rattle.aeth_components.specs.declared.event.Event.TheVariants.{Halt, Finish, Change}
 use Rattle.aeth_components.specs.declared.lane.ChannelEnd.{ChannelEnd}
 use Rattle.aeth_components.specs.declared.lane.Lane.{Lane}
 use Rattle.aeth_components.proofs.FrameLemmas.{views-map}
 use Rattle.aeth_components.proofs.TurnLemmas.{pulled-closed, pulled-open, refilled-closed}
 use Rattle.aeth_components.proofs.TurnLemmas.{refilled-open}
 
--- A map of components with which every change of interfaces commutes.
-abbrev pub Keeps : (Part → Part) → Type 0
-Keeps maps = (change : InterfaceState → InterfaceState) (part : Part)
-    → maps (on_interface change part) ≡ on_interface change (maps part)
+-- A map of components commutes with a change of interfaces.
+abbrev pub Keeps : (Part → Part) → (InterfaceState → InterfaceState) → Type 0
+Keeps maps change = (part : Part) → maps (on_interface change part) ≡ on_interface change (maps part)
+
+-- So it does with changes of queues.
+abbrev pub KeepsQueues : (Part → Part) → Type 0
+KeepsQueues maps = (queue : ℕ) (change : QueueState → QueueState) → Keeps maps (changed queue change)
 
 -- It leaves what queues tell.
 abbrev pub KeepsTold : (Part → Part) → Type 0
@@ -69,95 +76,115 @@ module _ (maps : Part → Part) (turn : List Part → Lane → List Part × Lane
       → in_turn turn (moment_with maps moment) ≡ moment_with maps (in_turn turn moment)
   in_turn-map moment = turns-map (range_with_len 0 (length moment.lanes)) moment
 
-module _ (maps : Part → Part) (keeps : Keeps maps) where
-  -- A change of one interface.
-  pub with_part-map : (number : ℕ) (change : InterfaceState → InterfaceState) (parts : List Part)
-      → with_part number (on_interface change) (map maps parts)
-      ≡ map maps (with_part number (on_interface change) parts)
-  with_part-map number change [] = refl
-  with_part-map zero change (part ∷ parts) =
-      ap (λ (first : Part). first ∷ map maps parts) (sym (keeps change part))
-  with_part-map (suc number) change (part ∷ parts) =
-      ap (λ (rest : List Part). maps part ∷ rest) (with_part-map number change parts)
+-- A change of one interface.
+with_part-map : (maps : Part → Part) (number : ℕ) (change : InterfaceState → InterfaceState)
+    → Keeps maps change → (parts : List Part)
+    → with_part number (on_interface change) (map maps parts)
+    ≡ map maps (with_part number (on_interface change) parts)
+with_part-map maps number change keeps [] = refl
+with_part-map maps zero change keeps (part ∷ parts) =
+    ap (λ (first : Part). first ∷ map maps parts) (sym (keeps part))
+with_part-map maps (suc number) change keeps (part ∷ parts) =
+    ap (λ (rest : List Part). maps part ∷ rest) (with_part-map maps number change keeps parts)
 
-  pub at_end-map : (end : ChannelEnd) (change : QueueState → QueueState) (parts : List Part)
-      → at_end end change (map maps parts) ≡ map maps (at_end end change parts)
-  at_end-map end change parts = with_part-map end.ni.0 (changed end.queue change) parts
-
-  -- Events.
-  pub happened-map : (event : Event) (parts : List Part)
+-- Events.
+module _ (maps : Part → Part) (keeps : (event : Event) → Keeps maps (event_done event)) where
+  happened-map : (event : Event) (parts : List Part)
       → happened (map maps parts) event ≡ map maps (happened parts event)
-  happened-map event parts = with_part-map (event_part event) (event_done event) parts
+  happened-map event = with_part-map maps (event_part event) (event_done event) (keeps event)
 
-  pub switched-map : (events : List Event) (parts : List Part)
+  switched-map : (events : List Event) (parts : List Part)
       → switched events (map maps parts) ≡ map maps (switched events parts)
   switched-map [] parts = refl
   switched-map (event ∷ events) parts =
       ap (switched events) (happened-map event parts)
       ∙ switched-map events (happened parts event)
 
-  module _ (told : KeepsTold maps) where
-    -- What is told of a queue stays.
-    told_from-map : (queue : ℕ) (tells : QueueState → ℕ) (found : Option Part)
-        → option_map_or (told_by queue tells) (option_map maps found) 0
-        ≡ option_map_or (told_by queue tells) found 0
-    told_from-map queue tells None = refl
-    told_from-map queue tells (Some part) = told queue tells part
+-- The turns of a channel.
+module _ (maps : Part → Part) (keeps : KeepsQueues maps) (told : KeepsTold maps) where
+  at_end-map : (end : ChannelEnd) (change : QueueState → QueueState) (parts : List Part)
+      → at_end end change (map maps parts) ≡ map maps (at_end end change parts)
+  at_end-map end change =
+      with_part-map maps end.ni.0 (changed end.queue change) (keeps end.queue change)
 
-    pub told_at-map : (end : ChannelEnd) (tells : QueueState → ℕ) (parts : List Part)
-        → told_at end tells (map maps parts) ≡ told_at end tells parts
-    told_at-map end tells parts =
-        ap (λ (found : Option Part). option_map_or (told_by end.queue tells) found 0)
-        (slice_get-map maps parts end.ni.0)
-        ∙ told_from-map end.queue tells (slice_get parts end.ni.0)
+  -- What is told of a queue stays.
+  told_from-map : (queue : ℕ) (tells : QueueState → ℕ) (found : Option Part)
+      → option_map_or (told_by queue tells) (option_map maps found) 0
+      ≡ option_map_or (told_by queue tells) found 0
+  told_from-map queue tells None = refl
+  told_from-map queue tells (Some part) = told queue tells part
 
-    -- The turns of a channel.
-    handed_on-map : (left : List ℕ) (parts : List Part) (lane : Lane)
-        → handed_on left (map maps parts) lane ≡ done_with maps (handed_on left parts lane)
-    handed_on-map left parts lane =
-        ap₂ (λ (parts : List Part) (n : ℕ). (parts, record lane { handed = lane.handed + n }))
-        (at_end-map lane.sender (filled left) parts) (told_at-map lane.sender (fits left) parts)
+  pub told_at-map : (end : ChannelEnd) (tells : QueueState → ℕ) (parts : List Part)
+      → told_at end tells (map maps parts) ≡ told_at end tells parts
+  told_at-map end tells parts =
+      ap (λ (found : Option Part). option_map_or (told_by end.queue tells) found 0)
+      (slice_get-map maps parts end.ni.0)
+      ∙ told_from-map end.queue tells (slice_get parts end.ni.0)
 
-    pub refilled-map : (words : List ℕ) (cycle : ℕ) (parts : List Part) (lane : Lane)
-        → refilled words cycle (map maps parts) lane
-        ≡ done_with maps (refilled words cycle parts lane)
-    refilled-map words cycle parts lane =
-        elim (cases_Bool (is_open lane cycle)) [
-          | inl opened ↦
-              refilled-open words cycle (map maps parts) lane opened
-              ∙ handed_on-map (left_of words lane) parts lane
-              ∙ ap (done_with maps) (sym (refilled-open words cycle parts lane opened))
-          | inr closed ↦
-              refilled-closed words cycle (map maps parts) lane closed
-              ∙ ap (done_with maps) (sym (refilled-closed words cycle parts lane closed))
-        ]
+  -- A channel hands on, and its receiver takes.
+  handed_on-map : (left : List ℕ) (parts : List Part) (lane : Lane)
+      → handed_on left (map maps parts) lane ≡ done_with maps (handed_on left parts lane)
+  handed_on-map left parts lane =
+      ap₂ (λ (parts : List Part) (n : ℕ). (parts, record lane { handed = lane.handed + n }))
+      (at_end-map lane.sender (filled left) parts) (told_at-map lane.sender (fits left) parts)
 
-    drawn_out-map : (parts : List Part) (lane : Lane)
-        → drawn_out (map maps parts) lane ≡ done_with maps (drawn_out parts lane)
-    drawn_out-map parts lane =
-        ap₂ (λ (parts : List Part) (n : ℕ). (parts, record lane { taken = lane.taken + n }))
-        (at_end-map lane.receiver (drawn (asked_of lane)) parts)
-        (told_at-map lane.receiver (draws (asked_of lane)) parts)
+  pub refilled-map : (words : List ℕ) (cycle : ℕ) (parts : List Part) (lane : Lane)
+      → refilled words cycle (map maps parts) lane
+      ≡ done_with maps (refilled words cycle parts lane)
+  refilled-map words cycle parts lane =
+      elim (cases_Bool (is_open lane cycle)) [
+        | inl opened ↦
+            refilled-open words cycle (map maps parts) lane opened
+            ∙ handed_on-map (left_of words lane) parts lane
+            ∙ ap (done_with maps) (sym (refilled-open words cycle parts lane opened))
+        | inr closed ↦
+            refilled-closed words cycle (map maps parts) lane closed
+            ∙ ap (done_with maps) (sym (refilled-closed words cycle parts lane closed))
+      ]
 
-    pub pulled-map : (cycle : ℕ) (parts : List Part) (lane : Lane)
-        → pulled cycle (map maps parts) lane ≡ done_with maps (pulled cycle parts lane)
-    pulled-map cycle parts lane =
-        elim (cases_Bool (is_open lane cycle)) [
-          | inl opened ↦
-              pulled-open cycle (map maps parts) lane opened
-              ∙ drawn_out-map parts lane
-              ∙ ap (done_with maps) (sym (pulled-open cycle parts lane opened))
-          | inr closed ↦
-              pulled-closed cycle (map maps parts) lane closed
-              ∙ ap (done_with maps) (sym (pulled-closed cycle parts lane closed))
-        ]
+  drawn_out-map : (parts : List Part) (lane : Lane)
+      → drawn_out (map maps parts) lane ≡ done_with maps (drawn_out parts lane)
+  drawn_out-map parts lane =
+      ap₂ (λ (parts : List Part) (n : ℕ). (parts, record lane { taken = lane.taken + n }))
+      (at_end-map lane.receiver (drawn (asked_of lane)) parts)
+      (told_at-map lane.receiver (draws (asked_of lane)) parts)
 
--- What routers and stages hold of wires is such a map.
-pub keeps-seen : (wires : List (Option Flit)) → Keeps (seen wires)
-keeps-seen wires change (Interface ni) = refl
-keeps-seen wires change (Router router) = refl
-keeps-seen wires change (TableRouter router) = refl
-keeps-seen wires change (Stage stage) = refl
+  pub pulled-map : (cycle : ℕ) (parts : List Part) (lane : Lane)
+      → pulled cycle (map maps parts) lane ≡ done_with maps (pulled cycle parts lane)
+  pulled-map cycle parts lane =
+      elim (cases_Bool (is_open lane cycle)) [
+        | inl opened ↦
+            pulled-open cycle (map maps parts) lane opened
+            ∙ drawn_out-map parts lane
+            ∙ ap (done_with maps) (sym (pulled-open cycle parts lane opened))
+        | inr closed ↦
+            pulled-closed cycle (map maps parts) lane closed
+            ∙ ap (done_with maps) (sym (pulled-closed cycle parts lane closed))
+      ]
+
+-- Interfaces tell of what came last whatever is done to their queues.
+keeps-seen : (wires : List (Option Flit)) → KeepsQueues (seen wires)
+keeps-seen wires queue change (Interface ni) = refl
+keeps-seen wires queue change (Router router) = refl
+keeps-seen wires queue change (TableRouter router) = refl
+keeps-seen wires queue change (Stage stage) = refl
+
+-- And whatever is written.
+written-seen : (wires : List (Option Flit)) (write : Write) (ni : InterfaceState)
+    → seen wires (Interface (written write ni))
+    ≡ on_interface (written write) (seen wires (Interface ni))
+written-seen wires (ClearSlot to slot) ni = refl
+written-seen wires (ClearRoute to queue) ni = refl
+written-seen wires (SetRoute to queue route remote credits) ni = refl
+written-seen wires (SetSlot to slot queue) ni = refl
+
+event-seen : (wires : List (Option Flit)) (event : Event) → Keeps (seen wires) (event_done event)
+event-seen wires (Halt end) (Interface ni) = refl
+event-seen wires (Finish end) (Interface ni) = refl
+event-seen wires (Change write) (Interface ni) = written-seen wires write ni
+event-seen wires event (Router router) = refl
+event-seen wires event (TableRouter router) = refl
+event-seen wires event (Stage stage) = refl
 
 pub told-seen : (wires : List (Option Flit)) → KeepsTold (seen wires)
 told-seen wires queue tells (Interface ni) = refl
@@ -169,7 +196,7 @@ told-seen wires queue tells (Stage stage) = refl
 module _ (wires : List (Option Flit)) where
   pub switched-seen : (events : List Event) (parts : List Part)
       → switched events (all_seen wires parts) ≡ all_seen wires (switched events parts)
-  switched-seen = switched-map (seen wires) (keeps-seen wires)
+  switched-seen = switched-map (seen wires) (event-seen wires)
 
   pub refilled-seen : (words : List ℕ) (cycle : ℕ) (moment : Moment)
       → in_turn (refilled words cycle) (moment_with (seen wires) moment)

@@ -1,66 +1,77 @@
--- A cycle of components that hold what their wires have, from one of components whose interfaces alone
--- are stepped.
-use Rattle.std.proofs.Common.{ℕ, ◌≡◌, ◌∙◌, refl, sym, ap, subst, List, [], ◌∷◌, length, map, Option}
+-- A cycle of components that are seen with what their wires have, from one of components whose interfaces
+-- alone are stepped.
+use Rattle.std.proofs.Common.{ℕ, ◌≡◌, ◌∙◌, refl, sym, ap, List, [], ◌∷◌, length, map, Option}
+use Rattle.std.proofs.Common.{None, Some}
 use Rattle.std.specs.List.{range_with_len}
 use Rattle.aeth_clocked.specs.declared.flit.Flit.{Flit}
-use Rattle.aeth_ni.specs.Component.{interface_absorb, interface_after}
+use Rattle.aeth_clocked.specs.Wires.{flit_on}
+use Rattle.aeth_ni.specs.Component.{Arrival, absorbed, arrival_of, interface_after}
 use Rattle.aeth_ni.specs.Interface.{InterfaceState, changed}
 use Rattle.aeth_ni.specs.Queue.{QueueState}
-use Rattle.aeth_ni.specs.Writes.{written}
-use Rattle.aeth_ni.specs.declared.write.Write.{Write}
-use Rattle.aeth_ni.specs.declared.write.Write.TheVariants.{ClearSlot, ClearRoute, SetRoute, SetSlot}
 use Rattle.aeth_router.specs.Part.{absorb_of, after_of}
 use Rattle.aeth_router.specs.declared.part.Part.{Part}
 use Rattle.aeth_router.specs.declared.part.Part.TheVariants.{Interface, Router, Stage, TableRouter}
 use Rattle.aeth_components.specs.Changes.{event_done, on_interface, switched}
-use Rattle.aeth_components.specs.Components.{Runs, wires_driven}
+use Rattle.aeth_components.specs.Components.{Runs, driven_from, latched_from, latched_of, ready_of}
+use Rattle.aeth_components.specs.Components.{switched_from, wires_driven}
 use Rattle.aeth_components.specs.Frames.{frame_of}
 use Rattle.aeth_components.specs.Injecting.{entries_of}
 use Rattle.aeth_components.specs.Phases.{Moment, in_turn, pulled, refilled}
-use Rattle.aeth_components.specs.Seen.{all_seen, interfaces_driven, interfaces_latched, seen}
-use Rattle.aeth_components.specs.Telling.{last_of}
+use Rattle.aeth_components.specs.Passing.{way_of}
+use Rattle.aeth_components.specs.Seen.{all_seen, flits_landed, interfaces_driven, landed, seen}
+use Rattle.aeth_components.specs.Seen.{taken_of}
 use Rattle.aeth_components.specs.declared.event.Event.{Event}
-use Rattle.aeth_components.specs.declared.event.Event.TheVariants.{Halt, Finish, Change}
 use Rattle.aeth_components.specs.declared.lane.Lane.{Lane}
-use Rattle.aeth_components.proofs.CycleLemmas.{Runs-from}
-use Rattle.aeth_components.proofs.FrameLemmas.{frames-absorb, frames-after, views-map}
+use Rattle.aeth_components.proofs.FrameLemmas.{frame_of-absorbed, frames-after, views-map}
 use Rattle.aeth_components.proofs.PartLemmas.{frames-switched, views-switched}
 use Rattle.aeth_components.proofs.SeenLemmas.{frames-seen, moment_with, pulled-seen, refilled-seen}
 use Rattle.aeth_components.proofs.SeenLemmas.{switched-seen}
+use Rattle.aeth_components.proofs.SkipLemmas.{length-turns}
 use Rattle.aeth_components.proofs.TurnLemmas.{frames-pulled, frames-refilled, frames-turns}
 use Rattle.aeth_components.proofs.TurnLemmas.{views-pulled, views-refilled, views-turns}
 
--- What a component held before it latches is nothing to it; and one that holds what the wires have
--- latches them, where it is an interface, and else has latched them.
-pub absorb-held : (wires : List (Option Flit)) (part : Part)
+-- What a component had before it latches is nothing to it.
+absorb-held : (wires : List (Option Flit)) (part : Part)
     → absorb_of part wires ≡ absorb_of (seen wires part) wires
 absorb-held wires (Interface ni) = refl
 absorb-held wires (Router router) = refl
 absorb-held wires (TableRouter router) = refl
 absorb-held wires (Stage stage) = refl
 
-pub absorb-seen : (wires : List (Option Flit)) (part : Part)
-    → absorb_of (seen wires part) wires
-    ≡ seen wires (on_interface (λ ni. interface_absorb ni wires) part)
-absorb-seen wires (Interface ni) = refl
-absorb-seen wires (Router router) = refl
-absorb-seen wires (TableRouter router) = refl
-absorb-seen wires (Stage stage) = refl
-
-pub all-held : (wires : List (Option Flit)) (parts : List Part)
+all-held : (wires : List (Option Flit)) (parts : List Part)
     → map (λ part. absorb_of part wires) parts
     ≡ map (λ part. absorb_of part wires) (all_seen wires parts)
 all-held wires [] = refl
 all-held wires (part ∷ parts) = rw (absorb-held wires part, all-held wires parts) refl
 
-pub all-latched : (wires : List (Option Flit)) (parts : List Part)
-    → map (λ part. absorb_of part wires) (all_seen wires parts)
-    ≡ all_seen wires (interfaces_latched wires parts)
-all-latched wires [] = refl
-all-latched wires (part ∷ parts) = rw (absorb-seen wires part, all-latched wires parts) refl
+-- Where a flit comes to it an interface has latched it; where none comes it just tells of none, which is
+-- what is seen of it.
+landed-seen : (wires : List (Option Flit)) (ni : InterfaceState) (flit : Option Flit)
+    → flit_on wires ni.entering.0 ≡ flit
+    → Interface (absorbed (arrival_of flit) ni) ≡ seen wires (Interface (landed flit ni))
+landed-seen wires ni None is = rw is refl
+landed-seen wires ni (Some flit) is = rw is refl
 
--- What a component that isn't an interface held before it drove is nothing to what it holds later.
-pub after-seen : (old new : List (Option Flit)) (cycle : ℕ) (part : Part)
+absorb-landed : (before wires : List (Option Flit)) (part : Part)
+    → absorb_of (seen before part) wires
+    ≡ seen wires (on_interface (λ ni. landed (flit_on wires ni.entering.0) ni) part)
+absorb-landed before wires (Interface ni) =
+    landed-seen wires ni (flit_on wires ni.entering.0) refl
+absorb-landed before wires (Router router) = refl
+absorb-landed before wires (TableRouter router) = refl
+absorb-landed before wires (Stage stage) = refl
+
+-- So what is seen of components behind the landing is what they have latched, whatever was seen of them
+-- before.
+pub absorbed-landed : (before wires : List (Option Flit)) (parts : List Part)
+    → map (λ part. absorb_of part wires) (all_seen before parts)
+    ≡ all_seen wires (flits_landed wires parts)
+absorbed-landed before wires [] = refl
+absorbed-landed before wires (part ∷ parts) =
+    rw (absorb-landed before wires part, absorbed-landed before wires parts) refl
+
+-- What was seen of a component before it drove is nothing to what is seen of it later.
+after-seen : (old new : List (Option Flit)) (cycle : ℕ) (part : Part)
     → seen new (after_of (seen old part) cycle)
     ≡ seen new (on_interface (λ ni. interface_after ni cycle) part)
 after-seen old new cycle (Interface ni) = refl
@@ -68,46 +79,52 @@ after-seen old new cycle (Router router) = refl
 after-seen old new cycle (TableRouter router) = refl
 after-seen old new cycle (Stage stage) = refl
 
-pub all-driven : (old new : List (Option Flit)) (cycle : ℕ) (parts : List Part)
+all-driven : (old new : List (Option Flit)) (cycle : ℕ) (parts : List Part)
     → all_seen new (map (λ part. after_of part cycle) (all_seen old parts))
     ≡ all_seen new (interfaces_driven cycle parts)
 all-driven old new cycle [] = refl
 all-driven old new cycle (part ∷ parts) =
     rw (after-seen old new cycle part, all-driven old new cycle parts) refl
 
+-- Events and refilling commute with what is seen.
+pub ready-seen : (words : List ℕ) (events : List Event) (cycle : ℕ) (wires : List (Option Flit))
+    (moment : Moment) → ready_of words events cycle (moment_with (seen wires) moment)
+    ≡ moment_with (seen wires) (ready_of words events cycle moment)
+ready-seen words events cycle wires moment =
+    ap (λ (parts : List Part).
+    in_turn (refilled words cycle) (record { parts = parts; lanes = moment.lanes }))
+    (switched-seen wires events moment.parts)
+    ∙ refilled-seen wires words cycle (switched_from events moment)
+
 -- From the drive to the latch interfaces alone are stepped.
-module _ (cycle : ℕ) (parts : List Part) (lanes : List Lane) (old new : List (Option Flit)) where
-  taken-seen : let driven = map (λ part. after_of part cycle) (all_seen old parts) in
-      moment_with (seen new) (in_turn (pulled cycle) (record { parts = driven; lanes = lanes }))
-      ≡ moment_with (seen new) (in_turn (pulled cycle)
-      (record { parts = interfaces_driven cycle parts; lanes = lanes }))
-  taken-seen =
-      let driven = map (λ part. after_of part cycle) (all_seen old parts) in
-      sym (pulled-seen new cycle (record { parts = driven; lanes = lanes }))
-      ∙ ap (λ (parts : List Part). in_turn (pulled cycle) (record { parts = parts; lanes = lanes }))
-      (all-driven old new cycle parts)
-      ∙ pulled-seen new cycle (record { parts = interfaces_driven cycle parts; lanes = lanes })
+taken-seen : (cycle : ℕ) (old new : List (Option Flit)) (moment : Moment)
+    → moment_with (seen new)
+    (in_turn (pulled cycle) (driven_from cycle (moment_with (seen old) moment)))
+    ≡ moment_with (seen new) (in_turn (pulled cycle)
+    (record moment { parts = interfaces_driven cycle moment.parts }))
+taken-seen cycle old new moment =
+    sym (pulled-seen new cycle (driven_from cycle (moment_with (seen old) moment)))
+    ∙ ap (λ (parts : List Part).
+    in_turn (pulled cycle) (record { parts = parts; lanes = moment.lanes }))
+    (all-driven old new cycle moment.parts)
+    ∙ pulled-seen new cycle (record moment { parts = interfaces_driven cycle moment.parts })
 
-  pub latched-seen : let driven = map (λ part. after_of part cycle) (all_seen old parts) in
-      map (λ part. absorb_of part new)
-      (in_turn (pulled cycle) (record { parts = driven; lanes = lanes })).parts
-      ≡ all_seen new (interfaces_latched new (in_turn (pulled cycle)
-      (record { parts = interfaces_driven cycle parts; lanes = lanes })).parts)
-  latched-seen =
-      let driven = map (λ part. after_of part cycle) (all_seen old parts) in
-      let taken = in_turn (pulled cycle) (record { parts = driven; lanes = lanes }) in
-      let bare = in_turn (pulled cycle)
-      (record { parts = interfaces_driven cycle parts; lanes = lanes }) in
-      all-held new taken.parts
-      ∙ ap (λ (moment : Moment). map (λ part. absorb_of part new) moment.parts) taken-seen
-      ∙ all-latched new bare.parts
-
-  -- And the channels are the same.
-  pub lanes-seen : let driven = map (λ part. after_of part cycle) (all_seen old parts) in
-      (in_turn (pulled cycle) (record { parts = driven; lanes = lanes })).lanes
-      ≡ (in_turn (pulled cycle)
-      (record { parts = interfaces_driven cycle parts; lanes = lanes })).lanes
-  lanes-seen = ap (λ (moment : Moment). moment.lanes) taken-seen
+latched-seen : (words : List ℕ) (events : List Event) (cycle : ℕ)
+    (wires new_wires : List (Option Flit)) (moment : Moment)
+    → latched_of words events cycle new_wires (moment_with (seen wires) moment)
+    ≡ (let taken = taken_of words events cycle moment in
+    record taken { parts = all_seen new_wires (flits_landed new_wires taken.parts) })
+latched-seen words events cycle wires new_wires moment =
+    let ready = ready_of words events cycle moment in
+    let taken = taken_of words events cycle moment in
+    let drained = in_turn (pulled cycle) (driven_from cycle (moment_with (seen wires) ready)) in
+    ap (λ (moment : Moment). latched_from new_wires (in_turn (pulled cycle) (driven_from cycle moment)))
+    (ready-seen words events cycle wires moment)
+    ∙ ap (λ (parts : List Part). record { parts = parts; lanes = drained.lanes })
+    (all-held new_wires drained.parts)
+    ∙ ap (latched_from new_wires) (taken-seen cycle wires new_wires ready)
+    ∙ ap (λ (parts : List Part). record { parts = parts; lanes = taken.lanes })
+    (absorbed-landed new_wires new_wires taken.parts)
 
 -- A change of interfaces keeps of all components what it keeps of interfaces.
 pub view-kept : {X : Type 0} (view : Part → X) (change : InterfaceState → InterfaceState)
@@ -130,105 +147,100 @@ frames-driven cycle =
     views-kept frame_of (λ ni. interface_after ni cycle)
     (λ ni. cc (frames-after (Interface ni ∷ []) cycle))
 
-pub frames-latched : (wires : List (Option Flit)) (parts : List Part)
-    → map frame_of (interfaces_latched wires parts) ≡ map frame_of parts
-frames-latched wires =
-    views-kept frame_of (λ ni. interface_absorb ni wires)
-    (λ ni. cc (frames-absorb (Interface ni ∷ []) wires))
+-- What stays of an interface however it latches stays where flits land.
+module _ {X : Type 0} (view : Part → X)
+    (kept : (arrival : Option Arrival) (ni : InterfaceState)
+    → view (Interface (absorbed arrival ni)) ≡ view (Interface ni)) where
+  view-landed : (flit : Option Flit) (ni : InterfaceState)
+      → view (Interface (landed flit ni)) ≡ view (Interface ni)
+  view-landed None ni = refl
+  view-landed (Some flit) ni = kept (arrival_of (Some flit)) ni
+
+  pub views-landed : (wires : List (Option Flit)) (parts : List Part)
+      → map view (flits_landed wires parts) ≡ map view parts
+  views-landed wires =
+      views-kept view (λ ni. landed (flit_on wires ni.entering.0) ni)
+      (λ ni. view-landed (flit_on wires ni.entering.0) ni)
+
+pub frames-landed : (wires : List (Option Flit)) (parts : List Part)
+    → map frame_of (flits_landed wires parts) ≡ map frame_of parts
+frames-landed = views-landed frame_of frame_of-absorbed
 
 pub tables-driven : (cycle : ℕ) (parts : List Part)
     → map entries_of (interfaces_driven cycle parts) ≡ map entries_of parts
 tables-driven cycle = views-kept entries_of (λ ni. interface_after ni cycle) (λ ni. refl)
 
-pub tables-latched : (wires : List (Option Flit)) (parts : List Part)
-    → map entries_of (interfaces_latched wires parts) ≡ map entries_of parts
-tables-latched wires = views-kept entries_of (λ ni. interface_absorb ni wires) (λ ni. refl)
+pub tables-landed : (wires : List (Option Flit)) (parts : List Part)
+    → map entries_of (flits_landed wires parts) ≡ map entries_of parts
+tables-landed = views-landed entries_of (λ arrival ni. refl)
 
--- Of the flit that came last interfaces tell the same until they latch.
-last-written : (write : Write) (ni : InterfaceState) → (written write ni).last ≡ ni.last
-last-written (ClearSlot to slot) ni = refl
-last-written (ClearRoute to queue) ni = refl
-last-written (SetRoute to queue route remote credits) ni = refl
-last-written (SetSlot to slot queue) ni = refl
+-- How components pass flits on stays in every phase.
+way-changed : (queue : ℕ) (change : QueueState → QueueState) (part : Part)
+    → way_of (on_interface (changed queue change) part) ≡ way_of part
+way-changed queue change = view-kept way_of (changed queue change) (λ ni. refl)
 
-last-event : (event : Event) (ni : InterfaceState) → (event_done event ni).last ≡ ni.last
-last-event (Halt end) ni = refl
-last-event (Finish end) ni = refl
-last-event (Change write) ni = last-written write ni
+pub ways-switched : (events : List Event) (parts : List Part)
+    → map way_of (switched events parts) ≡ map way_of parts
+ways-switched =
+    views-switched way_of (λ event. view-kept way_of (event_done event) (λ ni. refl))
 
-last-changed : (queue : ℕ) (change : QueueState → QueueState) (part : Part)
-    → last_of (on_interface (changed queue change) part) ≡ last_of part
-last-changed queue change = view-kept last_of (changed queue change) (λ ni. refl)
-
-pub lasts-switched : (events : List Event) (parts : List Part)
-    → map last_of (switched events parts) ≡ map last_of parts
-lasts-switched =
-    views-switched last_of (λ event. view-kept last_of (event_done event) (last-event event))
-
-pub lasts-refilled : (words : List ℕ) (cycle : ℕ) (moment : Moment)
-    → map last_of (in_turn (refilled words cycle) moment).parts ≡ map last_of moment.parts
-lasts-refilled words cycle moment =
-    views-turns (refilled words cycle) last_of (views-refilled last_of last-changed words cycle)
+pub ways-refilled : (words : List ℕ) (cycle : ℕ) (moment : Moment)
+    → map way_of (in_turn (refilled words cycle) moment).parts ≡ map way_of moment.parts
+ways-refilled words cycle moment =
+    views-turns (refilled words cycle) way_of (views-refilled way_of way-changed words cycle)
     (range_with_len 0 (length moment.lanes)) moment
 
-pub lasts-driven : (cycle : ℕ) (parts : List Part)
-    → map last_of (interfaces_driven cycle parts) ≡ map last_of parts
-lasts-driven cycle = views-kept last_of (λ ni. interface_after ni cycle) (λ ni. refl)
+pub ways-driven : (cycle : ℕ) (parts : List Part)
+    → map way_of (interfaces_driven cycle parts) ≡ map way_of parts
+ways-driven cycle = views-kept way_of (λ ni. interface_after ni cycle) (λ ni. refl)
 
-pub lasts-pulled : (cycle : ℕ) (moment : Moment)
-    → map last_of (in_turn (pulled cycle) moment).parts ≡ map last_of moment.parts
-lasts-pulled cycle moment =
-    views-turns (pulled cycle) last_of (views-pulled last_of last-changed cycle)
+pub ways-pulled : (cycle : ℕ) (moment : Moment)
+    → map way_of (in_turn (pulled cycle) moment).parts ≡ map way_of moment.parts
+ways-pulled cycle moment =
+    views-turns (pulled cycle) way_of (views-pulled way_of way-changed cycle)
     (range_with_len 0 (length moment.lanes)) moment
 
--- A run of components that hold what their wires have, from the phases of ones whose interfaces alone
--- are stepped.
-pub Runs-seen : (words : List ℕ) (events : List Event) (cycle : ℕ)
-    (wires new_wires : List (Option Flit)) (parts switched_parts refilled_parts : List Part)
-    (taken_parts latched_parts : List Part) (lanes refilled_lanes taken_lanes : List Lane)
-    → switched_parts ≡ switched events parts
-    → record { parts = refilled_parts; lanes = refilled_lanes }
-    ≡ in_turn (refilled words cycle) (record { parts = switched_parts; lanes = lanes })
-    → new_wires ≡ wires_driven (all_seen wires refilled_parts) (length wires) cycle
+pub ways-landed : (wires : List (Option Flit)) (parts : List Part)
+    → map way_of (flits_landed wires parts) ≡ map way_of parts
+ways-landed = views-landed way_of (λ arrival ni. refl)
+
+-- The phases of a cycle whose interfaces alone are stepped, and the landing, are a run of components that
+-- are seen with what their wires have.
+pub Runs-landed : (words : List ℕ) (events : List Event) (cycle : ℕ)
+    (wires new_wires : List (Option Flit)) (parts taken_parts landed_parts : List Part)
+    (lanes taken_lanes : List Lane)
     → record { parts = taken_parts; lanes = taken_lanes }
-    ≡ in_turn (pulled cycle)
-    (record { parts = interfaces_driven cycle refilled_parts; lanes = refilled_lanes })
-    → latched_parts ≡ interfaces_latched new_wires taken_parts
+    ≡ taken_of words events cycle (record { parts = parts; lanes = lanes })
+    → new_wires ≡ wires_driven (ready_of words events cycle
+    (record { parts = all_seen wires parts; lanes = lanes })).parts (length wires) cycle
+    → landed_parts ≡ flits_landed new_wires taken_parts
     → Runs words events cycle wires new_wires
     (record { parts = all_seen wires parts; lanes = lanes })
-    (record { parts = all_seen new_wires latched_parts; lanes = taken_lanes })
-Runs-seen words events cycle wires new_wires parts switched_parts refilled_parts taken_parts
-    latched_parts lanes refilled_lanes taken_lanes switches refills drives takes latches =
-    let old : Moment = record { parts = all_seen wires parts; lanes = lanes } in
-    let ready : Moment = record {
-      parts = all_seen wires refilled_parts;
-      lanes = refilled_lanes;
-    } in
-    let driven = map (λ part. after_of part cycle) ready.parts in
-    let drained = in_turn (pulled cycle) (record { parts = driven; lanes = refilled_lanes }) in
-    let is_latched : all_seen new_wires latched_parts
-    ≡ map (λ part. absorb_of part new_wires) drained.parts =
-    ap (all_seen new_wires) latches
-    ∙ ap (λ (moment : Moment). all_seen new_wires (interfaces_latched new_wires moment.parts)) takes
-    ∙ sym (latched-seen cycle refilled_parts refilled_lanes wires new_wires) in
-    let is_refilled = ap (moment_with (seen wires)) refills
-    ∙ sym (refilled-seen wires words cycle (record { parts = switched_parts; lanes = lanes })) in
-    let frames = frames-seen new_wires latched_parts
-    ∙ ap (map frame_of) latches ∙ frames-latched new_wires taken_parts
-    ∙ ap (λ (moment : Moment). map frame_of moment.parts) takes
-    ∙ frames-turns (pulled cycle) (frames-pulled cycle) (range_with_len 0 (length refilled_lanes))
-    (record { parts = interfaces_driven cycle refilled_parts; lanes = refilled_lanes })
-    ∙ frames-driven cycle refilled_parts
-    ∙ ap (λ (moment : Moment). map frame_of moment.parts) refills
-    ∙ frames-turns (refilled words cycle) (frames-refilled words cycle)
-    (range_with_len 0 (length lanes)) (record { parts = switched_parts; lanes = lanes })
-    ∙ ap (map frame_of) switches ∙ frames-switched events parts
-    ∙ sym (frames-seen wires parts) in
-    subst (λ (left : List Lane). Runs words events cycle wires new_wires old
-    (record { parts = all_seen new_wires latched_parts; lanes = left }))
-    (lanes-seen cycle refilled_parts refilled_lanes wires new_wires
-    ∙ sym (ap (λ (moment : Moment). moment.lanes) takes))
-    (Runs-from words events cycle wires old ready drained (all_seen wires switched_parts) driven
-    (all_seen new_wires latched_parts) new_wires
-    (ap (all_seen wires) switches ∙ sym (switched-seen wires events parts)) is_refilled drives refl
-    refl is_latched frames)
+    (record { parts = all_seen new_wires landed_parts; lanes = taken_lanes })
+Runs-landed words events cycle wires new_wires parts taken_parts landed_parts lanes taken_lanes
+    takes drives lands =
+    let moment : Moment = record { parts = parts; lanes = lanes } in
+    let ready = ready_of words events cycle moment in
+    record {
+      wires = drives;
+      moment = ap (λ (parts : List Part).
+          record { parts = all_seen new_wires parts; lanes = taken_lanes }) lands
+          ∙ ap (λ (moment : Moment).
+          record moment { parts = all_seen new_wires (flits_landed new_wires moment.parts) }) takes
+          ∙ sym (latched-seen words events cycle wires new_wires moment);
+      frames = frames-seen new_wires landed_parts ∙ ap (map frame_of) lands
+          ∙ frames-landed new_wires taken_parts
+          ∙ ap (λ (moment : Moment). map frame_of moment.parts) takes
+          ∙ frames-turns (pulled cycle) (frames-pulled cycle)
+          (range_with_len 0 (length ready.lanes))
+          (record ready { parts = interfaces_driven cycle ready.parts })
+          ∙ frames-driven cycle ready.parts
+          ∙ frames-turns (refilled words cycle) (frames-refilled words cycle)
+          (range_with_len 0 (length lanes)) (switched_from events moment)
+          ∙ frames-switched events parts ∙ sym (frames-seen wires parts);
+      count = ap (λ (moment : Moment). length moment.lanes) takes
+          ∙ length-turns (pulled cycle) (range_with_len 0 (length ready.lanes))
+          (record ready { parts = interfaces_driven cycle ready.parts })
+          ∙ length-turns (refilled words cycle) (range_with_len 0 (length lanes))
+          (switched_from events moment);
+    }

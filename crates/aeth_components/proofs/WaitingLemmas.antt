@@ -11,11 +11,13 @@ use Rattle.std.proofs.lemmas.List.{length-map, length-set}
 use Rattle.std.proofs.lemmas.Option.{get_or_from_slice_get, same_Some, slice_get-map, slice_get_within}
 use Rattle.aeth_base.proofs.Lists.{map-slice_get, slice_get-slice_set_other, slice_get-slice_set_same}
 use Rattle.aeth_base.specs.Marks.{bit_of, room_of}
+use Rattle.aeth_clocked.specs.declared.flit.Flit.{Flit}
 use Rattle.aeth_router.specs.declared.part.Part.{Part}
 use Rattle.aeth_components.specs.declared.lane.ChannelEnd.{ChannelEnd}
 use Rattle.aeth_components.specs.declared.lane.Lane.{Lane}
 use Rattle.aeth_components.specs.declared.handing.Handing.{Handing}
 use Rattle.aeth_components.proofs.FullLemmas.{IsFull-refilled}
+use Rattle.aeth_components.proofs.RoomLemmas.{IsFull-landed}
 use Rattle.aeth_components.specs.Busy.{HandsNothing}
 use Rattle.aeth_components.specs.Counting.{counted}
 use Rattle.aeth_components.specs.Lanes.{is_open}
@@ -23,6 +25,7 @@ use Rattle.aeth_components.specs.Phases.{Moment, in_turn, pulled, refilled}
 use Rattle.aeth_components.specs.Phases.{turned, turned_at}
 use Rattle.aeth_components.specs.Handing.{AreHanding, IsFull, IsResting, IsWaiting, Settles}
 use Rattle.aeth_components.specs.Handing.{Wakes}
+use Rattle.aeth_components.specs.Seen.{flits_landed}
 
 -- The channels stay so where interfaces with room wake theirs, and all other queues stay full.
 pub AreHanding-woken : (Is : ℕ → Type 0) (parts now : List Part) (lanes : List Lane)
@@ -129,11 +132,13 @@ sent-counted cycle parts (lane ∷ lanes) =
     ap₂ (λ (lane : Lane) (lanes : List Lane). lane ∷ lanes)
     (sent-count cycle parts lane) (sent-counted cycle parts lanes)
 
-pub AreHanding-counted : (cycle : ℕ) (parts : List Part) (lanes : List Lane) (handing : Handing)
-    → AreHanding parts lanes handing → AreHanding parts (map (counted cycle parts) lanes) handing
-AreHanding-counted cycle parts lanes handing =
-    AreHanding-sent parts parts lanes (map (counted cycle parts) lanes) handing
-    (sent-counted cycle parts lanes) (λ end full. full)
+-- So the channels stay so where flits land.
+pub AreHanding-landed : (cycle : ℕ) (wires : List (Option Flit)) (parts brought : List Part)
+    (lanes : List Lane) (handing : Handing) → AreHanding parts lanes handing
+    → AreHanding (flits_landed wires parts) (map (counted cycle brought) lanes) handing
+AreHanding-landed cycle wires parts brought lanes handing =
+    AreHanding-sent parts (flits_landed wires parts) lanes (map (counted cycle brought) lanes) handing
+    (sent-counted cycle brought lanes) (IsFull-landed wires parts)
 
 -- A channel that isn't marked behind its turn hands nothing on.
 own-rests : (cycle : ℕ) (now : List Part) (lane : Lane) (settled : Handing) (number : ℕ)

@@ -1,17 +1,17 @@
--- Laws of the walk over interfaces: of the channels that receive at those so far, and at the next.
-use Rattle.std.proofs.Common.{ℕ, zero, suc, ◌≡◌, ◌<◌, ◌≤◌, ◌+◌, ◌==◌, ◌⊎◌, ◌∙◌, refl, sym, ap}
-use Rattle.std.proofs.Common.{arith, inl, inr, Bool, true, false, List, [], ◌∷◌, fold, map, set, nat_lt}
-use Rattle.std.proofs.lemmas.Bool.{cases_Bool, cases_eq, cases_lt, eq-eqb, eqb-true, lt-ltb, ltb-true}
-use Rattle.std.proofs.lemmas.Bool.{false_from_ne_true}
+-- Laws of the walk over interfaces: of the channels that receive at those so far, and at one more.
+use Rattle.std.proofs.Common.{ℕ, zero, suc, ◌≡◌, ◌≢◌, ◌+◌, ◌==◌, ◌⊎◌, ◌∙◌, refl, sym, ap, inl, inr}
+use Rattle.std.proofs.Common.{Bool, true, false, List, [], ◌∷◌, fold, length, map, set}
+use Rattle.std.proofs.lemmas.Bool.{cases_Bool, cases_eq, eq-eqb, eqb-true, false_from_ne_true}
 use Rattle.aeth_router.specs.declared.part.Part.{Part}
 use Rattle.aeth_components.specs.declared.lane.ChannelEnd.{ChannelEnd}
 use Rattle.aeth_components.specs.declared.lane.Lane.{Lane}
-use Rattle.aeth_components.specs.Counting.{brings, counted, counted_among, noted, noted_among}
+use Rattle.aeth_components.specs.Counting.{brings, counted, counted_among, noted_among}
 use Rattle.aeth_components.specs.Counting.{written_over}
 use Rattle.aeth_components.specs.Lanes.{is_open}
 use Rattle.aeth_components.proofs.AmongLemmas.{stays}
-use Rattle.aeth_components.proofs.CountingLemmas.{noted-closed, noted-open}
+use Rattle.aeth_components.proofs.CountingLemmas.{length-written_over, noted-closed, noted-open}
 use Rattle.aeth_components.proofs.HomeLemmas.{StaysAtHome-counted}
+use Rattle.aeth_components.proofs.MapLemmas.{fold-agree, map-agree}
 
 -- One value is written at two places, in either order.
 set-swap : (list : List ℕ) (i j value : ℕ)
@@ -57,7 +57,17 @@ module _ (cycle : ℕ) (parts : List Part) where
         | inr away ↦ (0, λ landings. rw away refl)
       ]
 
-  -- So the order of two channels makes no difference, nor that of one and others.
+  -- There are as many places as before.
+  pub length-notes_among : (among : ℕ → Bool) (lanes : List Lane) (landings : List ℕ)
+      → length (fold (noted_among among cycle parts) landings lanes) ≡ length landings
+  length-notes_among among [] landings = refl
+  length-notes_among among (lane ∷ lanes) landings =
+      let one = noted_among-written among lane in
+      length-notes_among among lanes (noted_among among cycle parts landings lane)
+      ∙ ap length (one.1 landings)
+      ∙ length-written_over one.0 (lane.first + lane.landed) (cycle + 1) landings
+
+  -- The order of two channels makes no difference, nor that of one and others.
   noted_among-swap : (among other : ℕ → Bool) (landings : List ℕ) (lane next : Lane)
       → noted_among among cycle parts (noted_among other cycle parts landings lane) next
       ≡ noted_among other cycle parts (noted_among among cycle parts landings next) lane
@@ -97,98 +107,77 @@ module _ (cycle : ℕ) (parts : List Part) where
       let two = stays cycle parts other lane (λ here. none) in
       (one.0 ∙ sym two.0, λ landings. one.1 landings ∙ sym (two.1 landings))
 
-  -- So for all channels, where one choice is all interfaces.
-  module _ (among : ℕ → Bool) (agree : (lane : Lane) → Agree among (λ i. true) lane) where
-    pub counts-all : (lanes : List Lane)
-        → map (counted_among among cycle parts) lanes ≡ map (counted cycle parts) lanes
-    counts-all [] = refl
-    counts-all (lane ∷ lanes) =
-        ap (λ (lane : Lane). lane ∷ map (counted_among among cycle parts) lanes)
-        (agreed among (λ i. true) lane (agree lane)).0
-        ∙ ap (λ (rest : List Lane). counted cycle parts lane ∷ rest) (counts-all lanes)
+  -- So for all channels.
+  module _ (among other : ℕ → Bool) (agree : (lane : Lane) → Agree among other lane) where
+    pub counts-agree : (lanes : List Lane)
+        → map (counted_among among cycle parts) lanes ≡ map (counted_among other cycle parts) lanes
+    counts-agree lanes =
+        map-agree (counted_among among cycle parts) (counted_among other cycle parts) lanes
+        (λ k lane at. (agreed among other lane (agree lane)).0)
 
-    pub notes-all : (lanes : List Lane) (landings : List ℕ)
+    pub notes-agree : (lanes : List Lane) (landings : List ℕ)
         → fold (noted_among among cycle parts) landings lanes
-        ≡ fold (noted cycle parts) landings lanes
-    notes-all [] landings = refl
-    notes-all (lane ∷ lanes) landings =
-        ap (λ (list : List ℕ). fold (noted_among among cycle parts) list lanes)
-        ((agreed among (λ i. true) lane (agree lane)).1 landings)
-        ∙ notes-all lanes (noted cycle parts landings lane)
+        ≡ fold (noted_among other cycle parts) landings lanes
+    notes-agree =
+        fold-agree (noted_among among cycle parts) (noted_among other cycle parts)
+        (λ lane. (agreed among other lane (agree lane)).1)
 
-  -- The next interface is passed, where no words came to those up to it.
-  module _ (from next : ℕ) (order : from ≤ next)
-      (none : (lane : Lane) → from ≤ lane.receiver.ni.0 → lane.receiver.ni.0 < next
-      → brings parts lane ≡ 0) where
+  -- One interface more is counted.
+  module _ (before after : ℕ → Bool) (next : ℕ) (was : before next ≡ false) (is : after next ≡ true)
+      (others : (i : ℕ) → i ≢ next → after i ≡ before i) where
     -- A channel that was counted isn't at it.
-    passed : (lane : Lane) → lane.receiver.ni.0 < from
+    passed : (lane : Lane) → lane.receiver.ni.0 ≢ next
         → ((counted cycle parts lane).receiver.ni.0 == next) ≡ false
-    passed lane less =
+    passed lane apart =
         let same = ap (λ (end : ChannelEnd). end.ni.0) (StaysAtHome-counted cycle parts lane).same in
         false_from_ne_true ((counted cycle parts lane).receiver.ni.0 == next)
-        (λ is. omega (arith, less, same, eqb-true (counted cycle parts lane).receiver.ni.0 next is))
-
-    -- Of the others those at it are now among the interfaces so far, and all that get words are at it or
-    -- behind it.
-    ahead : (lane : Lane) → from ≤ lane.receiver.ni.0
-        → Agree (λ i. nat_lt i (next + 1)) (λ i. i == next) lane
-    ahead lane over =
-        let i = lane.receiver.ni.0 in
-        elim (cases_eq i next) [
-          | inl same ↦ inl (lt-ltb i (next + 1) (omega (arith, same)) ∙ sym (eq-eqb i next same))
-          | inr apart ↦ elim (cases_lt i next) [
-            | inl less ↦ inr (none lane over less)
-            | inr past ↦
-                inl (false_from_ne_true (nat_lt i (next + 1))
-                (λ is. omega (arith, apart, past, ltb-true i (next + 1) is))
-                ∙ sym (false_from_ne_true (i == next) (λ is. apart (eqb-true i next is))))
-          ]
-        ]
+        (λ here. apart (sym same ∙ eqb-true (counted cycle parts lane).receiver.ni.0 next here))
 
     -- One channel, and all.
     among-next : (lane : Lane)
-        → (counted_among (λ i. nat_lt i (next + 1)) cycle parts lane
-        ≡ counted_among (λ i. i == next) cycle parts
-        (counted_among (λ i. nat_lt i from) cycle parts lane))
-        × ((landings : List ℕ) → noted_among (λ i. nat_lt i (next + 1)) cycle parts landings lane
-        ≡ noted_among (λ i. i == next) cycle parts
-        (noted_among (λ i. nat_lt i from) cycle parts landings lane)
-        (counted_among (λ i. nat_lt i from) cycle parts lane))
+        → (counted_among after cycle parts lane
+        ≡ counted_among (λ i. i == next) cycle parts (counted_among before cycle parts lane))
+        × ((landings : List ℕ) → noted_among after cycle parts landings lane
+        ≡ noted_among (λ i. i == next) cycle parts (noted_among before cycle parts landings lane)
+        (counted_among before cycle parts lane))
     among-next lane =
         let i = lane.receiver.ni.0 in
-        elim (cases_lt i from) [
-          | inl less ↦
-              let before = lt-ltb i from less in
-              let after = lt-ltb i (next + 1) (omega (arith, less)) in
-              let gone = passed lane less in
-              (rw (before, after, gone) refl, λ landings. rw (before, after, gone) refl)
-          | inr over ↦
-              let before = false_from_ne_true (nat_lt i from)
-              (λ is. omega (arith, over, ltb-true i from is)) in
-              let both = agreed (λ i. nat_lt i (next + 1)) (λ i. i == next) lane (ahead lane over) in
-              (rw before both.0, λ landings. rw before (both.1 landings))
+        elim (cases_eq i next) [
+          | inl same ↦
+              let now = ap after same ∙ is in
+              let first = ap before same ∙ was in
+              let here = eq-eqb i next same in
+              (rw (now, first, here) refl, λ landings. rw (now, first, here) refl)
+          | inr apart ↦
+              let same = others i apart in
+              elim (cases_Bool (before i)) [
+                | inl done ↦
+                    let gone = passed lane apart in
+                    (rw (same, done, gone) refl, λ landings. rw (same, done, gone) refl)
+                | inr not ↦
+                    let away = false_from_ne_true (i == next) (λ here. apart (eqb-true i next here)) in
+                    (rw (same, not, away) refl, λ landings. rw (same, not, away) refl)
+              ]
         ]
 
     pub counts-next : (lanes : List Lane)
         → map (counted_among (λ i. i == next) cycle parts)
-        (map (counted_among (λ i. nat_lt i from) cycle parts) lanes)
-        ≡ map (counted_among (λ i. nat_lt i (next + 1)) cycle parts) lanes
+        (map (counted_among before cycle parts) lanes)
+        ≡ map (counted_among after cycle parts) lanes
     counts-next [] = refl
     counts-next (lane ∷ lanes) =
-        let one = counted_among (λ i. nat_lt i (next + 1)) cycle parts lane in
         ap (λ (lane : Lane). lane ∷ map (counted_among (λ i. i == next) cycle parts)
-        (map (counted_among (λ i. nat_lt i from) cycle parts) lanes))
+        (map (counted_among before cycle parts) lanes))
         (sym (among-next lane).0)
-        ∙ ap (λ (rest : List Lane). one ∷ rest) (counts-next lanes)
+        ∙ ap (λ (rest : List Lane). counted_among after cycle parts lane ∷ rest) (counts-next lanes)
 
     pub notes-next : (lanes : List Lane) (landings : List ℕ)
         → fold (noted_among (λ i. i == next) cycle parts)
-        (fold (noted_among (λ i. nat_lt i from) cycle parts) landings lanes)
-        (map (counted_among (λ i. nat_lt i from) cycle parts) lanes)
-        ≡ fold (noted_among (λ i. nat_lt i (next + 1)) cycle parts) landings lanes
+        (fold (noted_among before cycle parts) landings lanes)
+        (map (counted_among before cycle parts) lanes)
+        ≡ fold (noted_among after cycle parts) landings lanes
     notes-next [] landings = refl
     notes-next (lane ∷ lanes) landings =
-        let before = λ (i : ℕ). nat_lt i from in
         let here = λ (i : ℕ). i == next in
         ap (λ (list : List ℕ). fold (noted_among here cycle parts) list
         (map (counted_among before cycle parts) lanes))
@@ -196,4 +185,4 @@ module _ (cycle : ℕ) (parts : List Part) where
         (counted_among before cycle parts lane))
         ∙ ap (λ (list : List ℕ). fold (noted_among before cycle parts) list lanes)
         (sym ((among-next lane).1 landings)))
-        ∙ notes-next lanes (noted_among (λ i. nat_lt i (next + 1)) cycle parts landings lane)
+        ∙ notes-next lanes (noted_among after cycle parts landings lane)

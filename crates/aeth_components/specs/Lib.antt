@@ -22,6 +22,5 @@ pub mod Ready
 pub mod Seen
 pub mod Sending
 pub mod Switching
-pub mod Telling
 pub mod Turns
 pub mod View

@@ -1,9 +1,14 @@
 -- What is passed on within a cycle of the flits on wires.
+--
+--   part_at, passed_from      the component at the end of a wire, and what it sends on of what the wire has
+--   Way, way_of      how a component passes flits on, and whether it needs to know the cycle for that
+--   forwarded_from      what is sent on of what a wire has in every cycle alike
+--
 -- Components whose state is read off the wires: this project's own.
-use Rattle.std.specs.Prelude.{ℕ, List, Option, option_and_then, slice_get}
+use Rattle.std.specs.Prelude.{ℕ, Bool, List, Option, option_and_then, slice_get}
 use Rattle.aeth_clocked.specs.Wires.{flit_on}
 use Rattle.aeth_clocked.specs.declared.flit.Flit.{Flit}
-use Rattle.aeth_router.specs.Passing.{passed}
+use Rattle.aeth_router.specs.Passing.{forwarded, has_table, passed}
 use Rattle.aeth_router.specs.declared.part.Part.{Part}
 
 -- The component at the end of a wire.
@@ -16,3 +21,18 @@ abbrev pub passed_from : List ℕ → List Part → List (Option Flit) → ℕ �
 passed_from ends parts wires cycle out wire =
     option_and_then (λ part. passed part cycle out wire (flit_on wires wire))
     (part_at ends parts wire)
+
+-- What a component sends on of a flit to each output in every cycle alike, and whether it sends others on by a
+-- table.
+pub record Way : Type 0 where
+  pub sent : ℕ → Option Flit → Option Flit
+  pub by_table : Bool
+
+abbrev pub way_of : Part → Way
+way_of part = record { sent = forwarded part; by_table = has_table part }
+
+-- What goes to an output in every cycle alike of what a wire has.
+abbrev pub forwarded_from : List ℕ → List Way → List (Option Flit) → ℕ → ℕ → Option Flit
+forwarded_from ends ways wires out wire =
+    option_and_then (λ way. way.sent out (flit_on wires wire))
+    (option_and_then (slice_get ways) (slice_get ends wire))

@@ -1,22 +1,31 @@
--- What routers and stages hold is on the wires: between cycles each holds what its incoming wires have.
+-- What components latched last is on the wires: between cycles routers and stages hold what their incoming wires
+-- have, and interfaces tell of it.
 --
---   seen, all_seen      a component, and all, with what they hold
+--   seen, all_seen      a component, and all, with what the wires have
 --   interfaces_driven, interfaces_latched      the components once the interfaces among them have driven, or latched
+--   landed, flits_landed      once those have latched to which a flit comes
+--   taken_of      the components and channels up to where flits land
 --
 -- Components whose state is read off the wires: this project's own.
-use Rattle.std.specs.Prelude.{ℕ, List, Option, map}
+use Rattle.std.specs.Prelude.{ℕ, List, Option, None, Some, map}
 use Rattle.aeth_clocked.specs.declared.flit.Flit.{Flit}
-use Rattle.aeth_ni.specs.Component.{interface_absorb, interface_after}
+use Rattle.aeth_clocked.specs.Wires.{flit_on}
+use Rattle.aeth_ni.specs.Component.{absorbed, arrival_of, interface_absorb, interface_after, last_of}
+use Rattle.aeth_ni.specs.Interface.{InterfaceState}
 use Rattle.aeth_router.specs.Router.{router_absorb}
 use Rattle.aeth_router.specs.Stage.{stage_absorb}
 use Rattle.aeth_router.specs.TableRouter.{table_absorb}
 use Rattle.aeth_router.specs.declared.part.Part.{Part}
 use Rattle.aeth_router.specs.declared.part.Part.TheVariants.{Interface, Router, Stage, TableRouter}
+use Rattle.aeth_components.specs.declared.event.Event.{Event}
 use Rattle.aeth_components.specs.Changes.{on_interface}
+use Rattle.aeth_components.specs.Components.{ready_of}
+use Rattle.aeth_components.specs.Phases.{Moment, in_turn, pulled}
 
--- A router or a stage holds what these wires have where it receives; an interface is as it is.
+-- An interface tells of what these wires have where it receives; a router or a stage holds that.
 abbrev pub seen : List (Option Flit) → Part → Part
-seen wires (Interface ni) = Interface ni
+seen wires (Interface ni) =
+    Interface (record ni { last = last_of (arrival_of (flit_on wires ni.entering.0)) })
 seen wires (Router router) = Router (router_absorb router wires)
 seen wires (TableRouter router) = TableRouter (table_absorb router wires)
 seen wires (Stage stage) = Stage (stage_absorb stage wires)
@@ -31,3 +40,19 @@ interfaces_driven cycle parts = map (on_interface (λ ni. interface_after ni cyc
 -- They have latched, and no other has changed.
 abbrev pub interfaces_latched : List (Option Flit) → List Part → List Part
 interfaces_latched wires parts = map (on_interface (λ ni. interface_absorb ni wires)) parts
+
+-- An interface has latched where a flit comes to it, and else is as it was.
+abbrev pub landed : Option Flit → InterfaceState → InterfaceState
+landed None ni = ni
+landed (Some flit) ni = absorbed (arrival_of (Some flit)) ni
+
+-- So have the interfaces to which these wires have a flit, and no other component has changed.
+abbrev pub flits_landed : List (Option Flit) → List Part → List Part
+flits_landed wires parts =
+    map (on_interface (λ ni. landed (flit_on wires ni.entering.0) ni)) parts
+
+-- The components and channels up to where flits land, where just the interfaces among the components drive.
+abbrev pub taken_of : List ℕ → List Event → ℕ → Moment → Moment
+taken_of words events cycle moment =
+    let ready = ready_of words events cycle moment in
+    in_turn (pulled cycle) (record ready { parts = interfaces_driven cycle ready.parts })

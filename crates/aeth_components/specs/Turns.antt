@@ -1,11 +1,10 @@
--- Marks of components, and which of them send something of their own.
+-- How many flits there are, and which components send something of their own.
 --
---   marks_below, flits_on      how many numbers are marked, and how many wires have a flit
---   StayMarked      what is marked stays marked
+--   flits_on      how many wires have a flit
 --   sends_own, AreSendersMarked      who sends something of its own in a cycle
 --
 -- This project's own.
-use Rattle.std.specs.Prelude.{◌≡◌, ℕ, zero, suc, ◌+◌, List, Option, Some}
+use Rattle.std.specs.Prelude.{◌≡◌, ℕ, List, Option, Some}
 use Rattle.std.specs.Prelude.{Bool, count_by, false, is_some, slice_get, true}
 use Rattle.aeth_base.specs.Marks.{bit_of}
 use Rattle.aeth_clocked.specs.declared.flit.Flit.{Flit}
@@ -13,18 +12,9 @@ use Rattle.aeth_ni.specs.Component.{emitted_by, queue_at_cycle}
 use Rattle.aeth_router.specs.declared.part.Part.{Part}
 use Rattle.aeth_router.specs.declared.part.Part.TheVariants.{Interface, Router, Stage, TableRouter}
 
--- How many of the numbers below one are marked.
-abbrev pub marks_below : List ℕ → ℕ → ℕ
-marks_below marks zero = 0
-marks_below marks (suc number) = marks_below marks number + bit_of marks number
-
 -- How many wires have a flit.
 abbrev pub flits_on : List (Option Flit) → ℕ
 flits_on wires = count_by is_some wires
-
--- What is marked stays marked.
-abbrev pub StayMarked : List ℕ → List ℕ → Type 0
-StayMarked old new = (number : ℕ) → bit_of old number ≡ 1 → bit_of new number ≡ 1
 
 -- Whether a component sends something of its own in a cycle, as an interface does from its queues.
 abbrev pub sends_own : ℕ → Part → Bool

@@ -1,18 +1,17 @@
 // The channels of a network, and which of them have something to do.
 
-ghost use Rattle.std.specs.Prelude.{◌≡◌, ◌<◌, ◌≤◌, ◌+◌, ◌^◌, ℕ, All, IfOk, fold, length, map};
+ghost use Rattle.std.specs.Prelude.{◌≡◌, ◌<◌, ◌≤◌, ◌+◌, ◌^◌, ◌==◌, ℕ, All, IfOk, fold, length, map};
 ghost use Rattle.std.specs.Prelude.{slice_set};
 ghost use Rattle.aeth_base.specs.Marks.{bit_of, room_of};
 ghost use Rattle.aeth_components.specs.Busy.{IsIdle, TakesNothing};
 ghost use Rattle.aeth_components.specs.Channels.{AreStill, OfLane};
-ghost use Rattle.aeth_components.specs.Counting.{counted, noted};
+ghost use Rattle.aeth_components.specs.Counting.{counted, counted_among, noted, noted_among};
 ghost use Rattle.aeth_components.specs.Frames.{frame_of};
-ghost use Rattle.aeth_components.specs.Homes.{AreBrought};
 ghost use Rattle.aeth_components.specs.Lanes.{IsLane, with_lane};
 ghost use Rattle.aeth_components.specs.Phases.{in_turn, pulled, refilled, turned};
 ghost use Rattle.aeth_components.specs.Handing.{AreHanding};
 
-use crate::counting::{count_one, count_telling};
+use crate::counting::{count_one, count_received};
 use crate::handing::Handing;
 use crate::homes::Homes;
 use crate::lane::Lane;
@@ -120,52 +119,67 @@ impl Channels {
         }
     }
 
-    /// Counts what has landed of each channel, and notes the cycle. The components that got words
-    /// are marked.
-    pub(crate) fn count(
+    /// So many words of a channel's session are accepted. Its receiver takes as before.
+    pub(crate) fn accept(&mut self, number: usize, accepted: u32)
+        requires { number < length self.old.lanes }
+        ensures { self.new ≡ record self.old {
+          lanes = with_lane number (λ now. record now { accepted = accepted }) self.old.lanes;
+        } }
+    {
+        self.lanes[number].accepted = accepted;
+        self.busy.mark(number);
+        self.homes.note(number, &self.lanes[number]);
+    }
+
+    /// Counts what has landed of the channels that receive at an interface, and notes the cycle.
+    pub(crate) fn count_at(
         &mut self,
         parts: &[Part],
-        telling: &Marks,
+        number: usize,
         landings: &mut [u32],
         cycle: u32,
     )
         requires cycle { cycle + 1 < 2 ^ 32 }
-        requires lanes { All (IsLane (length landings.old) (length parts.now)) self.old.lanes }
-        requires below { (number : ℕ) → bit_of telling.now number ≡ 1
-            → number < length parts.now }
+        requires number { number < length parts.now }
         requires few { length parts.now < 2 ^ 32 }
-        requires brought { AreBrought parts.now telling.now }
-        ensures lanes { self.new.lanes ≡ map (counted cycle parts.now) self.old.lanes }
+        requires lanes { All (IsLane (length landings.old) (length parts.now)) self.old.lanes }
+        ensures lanes { self.new.lanes
+            ≡ map (counted_among (λ i. i == number) cycle parts.now) self.old.lanes }
         ensures words { self.new.words ≡ self.old.words }
-        ensures landings { landings.new ≡ fold (noted cycle parts.now) landings.old self.old.lanes }
+        ensures landings { landings.new
+            ≡ fold (noted_among (λ i. i == number) cycle parts.now) landings.old self.old.lanes }
     {
         if self.homes.is_apart {
-            count_telling(
+            count_received(
                 &mut self.lanes,
                 &mut self.taking,
                 &self.homes,
                 parts,
-                telling,
+                number,
                 landings,
                 cycle,
             );
         } else {
-            self.count_busy(parts, landings, cycle);
+            self.count_busy(parts, number, landings, cycle);
         }
     }
 
-    // The same, where it isn't known to which channels words come.
-    fn count_busy(&mut self, parts: &[Part], landings: &mut [u32], cycle: u32)
+    // The same, where it isn't known which channels words come to.
+    fn count_busy(&mut self, parts: &[Part], number: usize, landings: &mut [u32], cycle: u32)
         requires cycle { cycle + 1 < 2 ^ 32 }
         requires lanes { All (IsLane (length landings.old) (length parts.now)) self.old.lanes }
-        ensures lanes { self.new.lanes ≡ map (counted cycle parts.now) self.old.lanes }
+        ensures lanes { self.new.lanes
+            ≡ map (counted_among (λ i. i == number) cycle parts.now) self.old.lanes }
         ensures words { self.new.words ≡ self.old.words }
-        ensures landings { landings.new ≡ fold (noted cycle parts.now) landings.old self.old.lanes }
+        ensures landings { landings.new
+            ≡ fold (noted_among (λ i. i == number) cycle parts.now) landings.old self.old.lanes }
     {
-        let mut number = self.next_busy(0);
-        'turns: while number < self.len() {
-            self.count_one(parts, number, landings, cycle);
-            number = self.next_busy(number + 1);
+        let mut channel = self.next_busy(0);
+        'turns: while channel < self.len() {
+            if self.lanes[channel].receiver.ni.0 as usize == number {
+                self.count_one(parts, channel, landings, cycle);
+            }
+            channel = self.next_busy(channel + 1);
         }
     }
 

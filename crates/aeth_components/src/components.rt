@@ -5,12 +5,12 @@ ghost use Rattle.std.specs.Prelude.{length, map, replicate, slice_get, slice_set
 ghost use Rattle.aeth_base.specs.Limits.{max_cycles};
 ghost use Rattle.aeth_ni.specs.Limits.{queues_of_interface};
 ghost use Rattle.aeth_clocked.specs.Wires.{flit_on};
+ghost use Rattle.aeth_router.specs.Onward.{Nothing};
 ghost use Rattle.aeth_components.specs.Busy.{TakesNothing};
 ghost use Rattle.aeth_components.specs.Changes.{switched};
 ghost use Rattle.aeth_components.specs.Channels.{AreStill};
 ghost use Rattle.aeth_components.specs.Components.{Cycle, first_components};
-ghost use Rattle.aeth_components.specs.Counting.{flits_counted};
-ghost use Rattle.aeth_components.specs.Components.{Runs, frames_of, part_count};
+ghost use Rattle.aeth_components.specs.Components.{frames_of, part_count, ready_of, wires_driven};
 ghost use Rattle.aeth_components.specs.Entering.{TakesRows, with_rows};
 ghost use Rattle.aeth_components.specs.Events.{IsDoable};
 ghost use Rattle.aeth_components.specs.First.{HasSender, IsFirst};
@@ -18,14 +18,14 @@ ghost use Rattle.aeth_components.specs.Frames.{IsWired, frame_of};
 ghost use Rattle.aeth_components.specs.Injecting.{AreInjecting, entries_of};
 ghost use Rattle.aeth_components.specs.Lanes.{IsLane, with_lane};
 ghost use Rattle.aeth_components.specs.Handing.{AreHanding};
+ghost use Rattle.aeth_components.specs.Passing.{way_of};
 ghost use Rattle.aeth_components.specs.Ready.{AreReady};
-ghost use Rattle.aeth_components.specs.Seen.{all_seen};
-ghost use Rattle.aeth_components.specs.Telling.{last_of};
+ghost use Rattle.aeth_components.specs.Seen.{all_seen, taken_of};
 ghost use Rattle.aeth_components.specs.Turns.{flits_on};
 
 use crate::channels::Channels;
+use crate::counts::Counts;
 use crate::driving::drive;
-use crate::ends::are_empty;
 use crate::event::Event;
 use crate::handing::Handing;
 use crate::landing::land;
@@ -56,8 +56,7 @@ pub struct Components {
     turns: Turns,
     channels: Channels,
     handing: Handing,
-    landings: Vec<u32>,
-    flits: Vec<u32>,
+    counts: Counts,
 }
 
 impl Model for Components {
@@ -67,19 +66,19 @@ impl Model for Components {
     ghost use Rattle.aeth_components.specs.Frames.{frame_of};
     ghost use Rattle.aeth_components.specs.Injecting.{AreInjecting, entries_of};
     ghost use Rattle.aeth_components.specs.Handing.{AreHanding};
+    ghost use Rattle.aeth_components.specs.Passing.{way_of};
     ghost use Rattle.aeth_components.specs.Ready.{AreReady};
     ghost use Rattle.aeth_components.specs.Seen.{all_seen};
-    ghost use Rattle.aeth_components.specs.Telling.{last_of};
 
     ghost Value = { ComponentsState };
 
-    // What routers and stages hold is on the wires.
+    // What components latched last is on the wires.
     ghost view = { λ all. components_of (all_seen all.wires all.parts.items) all.wires
-        all.channels.lanes all.channels.words all.landings.items all.flits.items };
+        all.channels.lanes all.channels.words all.counts.landings.items all.counts.flits.items };
 
     ghost invariant = { λ all. IsComponents (components_of all.parts.items all.wires
-        all.channels.lanes all.channels.words all.landings.items all.flits.items)
-        × AreReady (map frame_of all.parts.items) (map last_of all.parts.items) all.wires all.turns
+        all.channels.lanes all.channels.words all.counts.landings.items all.counts.flits.items)
+        × AreReady (map frame_of all.parts.items) (map way_of all.parts.items) all.wires all.turns
         × AreInjecting (map entries_of all.parts.items) all.turns.injecting.slots.items
         × AreHanding all.parts.items all.channels.lanes all.handing };
 }
@@ -108,19 +107,17 @@ impl Components {
         let _ = chip.slots();
         let parts = parts_of(alloc, chip, kind, rooms)?;
         let wires = Wires::new(alloc, chip.wires())?;
-        let turns = Turns::new(alloc, chip)?;
-        let landings = vec![in alloc; 0; words.len()]?;
+        let turns = Turns::new(alloc, chip, kind)?;
+        let counts = Counts::new(alloc, words.len(), chip.links() as usize)?;
         let handing = Handing::new(alloc, lanes.len())?;
         let channels = Channels::new(alloc, lanes, words)?;
-        let flits = vec![in alloc; 0; chip.links() as usize]?;
         Ok(Components {
             parts,
             wires,
             turns,
             channels,
             handing,
-            landings,
-            flits,
+            counts,
         })
     }
 
@@ -142,7 +139,7 @@ impl Components {
     pub fn are_wires_empty(&self) -> bool
         ensures { IsTrue result ↔ ((wire : ℕ) → flit_on self.now.wires wire ≡ None) }
     {
-        are_empty(&self.wires, &self.turns.ends)
+        self.turns.flits == 0
     }
 
     /// The channels, each with its session of the time.
@@ -156,17 +153,17 @@ impl Components {
     pub fn landings(&self) -> &[u32]
         ensures { result.now ≡ self.now.landings }
     {
-        &self.landings
+        &self.counts.landings
     }
 
     /// For each link the number of cycles in which its first wire carried a flit.
     pub fn flits(&self) -> &[u32]
         ensures { result.now ≡ self.now.flits }
     {
-        &self.flits
+        &self.counts.flits
     }
 
-    /// The first cycle from `from` on, and below `to`, in which a component sends words of its own as
+    /// The first cycle from `from` on, and below `to`, in which a component sends words or credits as
     /// it stands; `to` where there is none.
     pub fn next_sending(&self, from: u32, to: u32) -> u32
         requires { from ≤ to }
@@ -206,9 +203,8 @@ impl Components {
           lanes = with_lane channel (λ now. record now { accepted = accepted }) self.old.lanes;
         } }
     {
-        let mut lane = self.channels.lanes()[channel];
-        lane.accepted = accepted;
-        self.load(channel, lane);
+        self.channels.accept(channel, accepted);
+        self.handing.marks.mark(channel);
     }
 
     /// A channel's receiver takes so many words in a cycle, at most.
@@ -251,9 +247,9 @@ impl Components {
         self.step_from::<Brand>(order, cycle, events, Blank::new(1));
     }
 
-    /// The same, in which only components take a turn that have something to do: a flit comes to them or
-    /// came in the last cycle, or they send words of their own. It counts a step for each flit that a router
-    /// or a stage drives, one for each interface that does, and one for each interface that latches.
+    /// The same, in which only components take a turn that have something to do: a flit comes to them, or
+    /// they send words or credits. It counts a step for each flit that an interface latches, or that a router or
+    /// a stage passes on, and one for each interface that sends.
     pub fn step_counted<L: Ledger>(
         &mut self,
         order: &Order,
@@ -275,14 +271,19 @@ impl Components {
             &mut self.channels,
             &mut self.handing,
             &mut self.turns,
-            &mut self.flits,
             cycle,
             events,
             steps,
         );
-        let telling = &self.turns.telling;
-        self.channels
-            .count(&self.parts, telling, &mut self.landings, cycle);
+        land(
+            &mut self.parts,
+            &mut self.turns,
+            &self.wires,
+            &mut self.channels,
+            &mut self.counts,
+            cycle,
+            steps,
+        );
     }
 
     // One cycle, with a counter of its own.
@@ -300,40 +301,44 @@ impl Components {
     }
 }
 
-// One cycle of components, wires and channels, but for the landings of words.
+// One cycle of components, wires and channels up to where flits land: events, refilling, driving, and taking.
 fn run<L: Ledger>(
     parts: &mut [Part],
     wires: &mut Wires,
     channels: &mut Channels,
     handing: &mut Handing,
     turns: &mut Turns,
-    flits: &mut [u32],
     cycle: u32,
     events: &[Event],
     steps: &mut Steps<L>,
 )
     requires wired { IsWired (map frame_of parts.old) (length wires.old) }
-    requires ready { AreReady (map frame_of parts.old) (map last_of parts.old) wires.old turns.old }
+    requires ready { AreReady (map frame_of parts.old) (map way_of parts.old) wires.old turns.old }
     requires injecting { AreInjecting (map entries_of parts.old) turns.old.injecting.slots.items }
     requires lanes { All (IsLane (length channels.old.words) (length parts.old)) channels.old.lanes }
     requires events { All (IsDoable (map frame_of parts.old)) events.now }
     requires handing { AreHanding parts.old channels.old.lanes handing.old }
-    requires flits { length flits.old ≤ length wires.old }
-    ensures runs { Runs channels.old.words events.now cycle wires.old wires.new
-        (record { parts = all_seen wires.old parts.old; lanes = channels.old.lanes })
-        (record { parts = all_seen wires.new parts.new; lanes = channels.new.lanes }) }
+    ensures moment { record { parts = parts.new; lanes = channels.new.lanes }
+        ≡ taken_of channels.old.words events.now cycle
+        (record { parts = parts.old; lanes = channels.old.lanes }) }
+    ensures wires { wires.new ≡ wires_driven (ready_of channels.old.words events.now cycle
+        (record { parts = all_seen wires.old parts.old; lanes = channels.old.lanes })).parts
+        (length wires.old) cycle }
     ensures words { channels.new.words ≡ channels.old.words }
     ensures lanes { All (IsLane (length channels.new.words) (length parts.new)) channels.new.lanes }
-    ensures ready { AreReady (map frame_of parts.new) (map last_of parts.new) wires.new turns.new }
+    ensures frames { map frame_of parts.new ≡ map frame_of parts.old }
+    ensures ways { map way_of parts.new ≡ map way_of parts.old }
+    ensures turns { turns.new ≡ record turns.old {
+      onward = replicate (length wires.old) Nothing;
+      injecting = turns.new.injecting;
+    } }
     ensures injecting { AreInjecting (map entries_of parts.new) turns.new.injecting.slots.items }
     ensures handing { AreHanding parts.new channels.new.lanes handing.new }
-    ensures flits { flits.new ≡ flits_counted wires.new flits.old }
-    ensures steps { steps.new ≤ steps.old + 2 * flits_on wires.old + 2 * flits_on wires.new }
+    ensures steps { steps.new ≤ steps.old + flits_on wires.old + flits_on wires.new }
 {
     switch(parts, &mut turns.injecting, events);
     handing.wake_for(events);
     channels.refill(handing, parts, cycle);
     drive(parts, turns, cycle, wires, handing, steps);
     channels.take(parts, cycle);
-    land(parts, turns, wires, flits, steps);
 }

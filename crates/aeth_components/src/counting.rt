@@ -2,12 +2,11 @@
 
 ghost use Rattle.std.specs.Prelude.{◌≡◌, ◌<◌, ◌≤◌, ◌+◌, ◌^◌, ◌==◌, ℕ, All, List, None, Some};
 ghost use Rattle.std.specs.Prelude.{false, fold, length, map, slice_get, take, true};
-ghost use Rattle.aeth_base.specs.Marks.{bit_of};
 ghost use Rattle.aeth_components.specs.Busy.{AreMarked, TakesNothing};
 ghost use Rattle.aeth_components.specs.Channels.{OfLane};
 ghost use Rattle.aeth_components.specs.Counting.{counted, counted_among, noted};
 ghost use Rattle.aeth_components.specs.Counting.{noted_among, written_over};
-ghost use Rattle.aeth_components.specs.Homes.{AreBrought, AreHomes};
+ghost use Rattle.aeth_components.specs.Homes.{AreHomes};
 ghost use Rattle.aeth_components.specs.Lanes.{IsLane, with_lane};
 
 use crate::homes::{Homes, channel_of};
@@ -66,7 +65,7 @@ fn count_at(
 }
 
 // Counts what has landed of the channels that receive at one interface.
-fn count_received(
+pub(crate) fn count_received(
     lanes: &mut [Lane],
     taking: &mut Marks,
     homes: &Homes,
@@ -90,34 +89,6 @@ fn count_received(
 {
     if let Some(channel) = channel_of(homes, lanes, &parts[number], number as u32) {
         count_at(lanes, taking, parts, channel, landings, cycle);
-    }
-}
-
-// Counts what has landed of the channels that receive at the marked interfaces, where words came to
-// no other.
-pub(crate) fn count_telling(
-    lanes: &mut [Lane],
-    taking: &mut Marks,
-    homes: &Homes,
-    parts: &[Part],
-    telling: &Marks,
-    landings: &mut [u32],
-    cycle: u32,
-)
-    requires cycle { cycle + 1 < 2 ^ 32 }
-    requires below { (number : ℕ) → bit_of telling.now number ≡ 1 → number < length parts.now }
-    requires few { length parts.now < 2 ^ 32 }
-    requires brought { AreBrought parts.now telling.now }
-    requires lanes { All (IsLane (length landings.old) (length parts.now)) lanes.old }
-    requires homes { AreHomes homes.now lanes.old }
-    requires apart { homes.now.is_apart ≡ true }
-    requires taking { AreMarked TakesNothing taking.old lanes.old }
-    ensures lanes { lanes.new ≡ map (counted cycle parts.now) lanes.old }
-    ensures landings { landings.new ≡ fold (noted cycle parts.now) landings.old lanes.old }
-    ensures taking { AreMarked TakesNothing taking.new lanes.new }
-{
-    for number in telling.iter() {
-        count_received(lanes, taking, homes, parts, number, landings, cycle);
     }
 }
 

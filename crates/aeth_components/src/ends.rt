@@ -1,18 +1,16 @@
 // The components at the ends of the wires of a chip.
 
-ghost use Rattle.std.specs.Prelude.{◌≡◌, ◌<◌, ◌+◌, ◌^◌, ◌↔◌, ℕ, All, IfOk, IfSome, IsTrue, None, length};
+ghost use Rattle.std.specs.Prelude.{◌≡◌, ◌<◌, ◌+◌, ◌^◌, All, IfOk, IfSome, length};
 ghost use Rattle.std.specs.Prelude.{slice_get};
 ghost use Rattle.aeth_chip.specs.Chip.{IsNode};
 ghost use Rattle.aeth_chip.specs.Paths.{delay_of};
 ghost use Rattle.aeth_chip.specs.Wires.{wires_of};
-ghost use Rattle.aeth_clocked.specs.Wires.{flit_on};
 ghost use Rattle.aeth_components.specs.Components.{part_count};
 ghost use Rattle.aeth_components.specs.Ends.{AreEndsOf, AreReceivers, AreSenders, FitsWires, IsSender};
 ghost use Rattle.aeth_components.specs.Ends.{NotedTo, part_number, receiver_for};
 
 use aeth_base::{LinkId, NoMemory};
 use aeth_chip::{Chip, Node};
-use aeth_clocked::Wires;
 use std::alloc::Global;
 
 // For each wire the component that sends on it and the one that receives there; how many components
@@ -131,12 +129,4 @@ fn number_of(chip: &Chip, node: Node) -> u32
         Node::Ni(ni) => ni.0,
         Node::Router(router) => chip.nis() + router.0,
     }
-}
-
-// Whether no wire has a flit.
-pub(crate) fn are_empty(wires: &Wires, ends: &Ends) -> bool
-    requires { FitsWires (length wires.now) ends.now }
-    ensures { IsTrue result ↔ ((wire : ℕ) → flit_on wires.now wire ≡ None) }
-{
-    wires.next(0) as usize == ends.senders.len()
 }

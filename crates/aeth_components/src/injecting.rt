@@ -6,15 +6,15 @@ ghost use Rattle.aeth_ni.specs.Writes.{addressee};
 ghost use Rattle.aeth_components.specs.Events.{event_part};
 ghost use Rattle.aeth_components.specs.Frames.{IsWired, frame_of};
 ghost use Rattle.aeth_components.specs.Handing.{HasWaitingPlaces, Wakes};
-ghost use Rattle.aeth_components.specs.Injecting.{NotesWrite, marks_at};
+ghost use Rattle.aeth_components.specs.Injecting.{AreInjecting, NotesWrite, entries_of, marks_at};
 ghost use Rattle.aeth_components.specs.Seen.{interfaces_driven};
 ghost use Rattle.aeth_components.specs.Sending.{Injects, IsSending};
-ghost use Rattle.aeth_components.specs.Turns.{AreSendersMarked, sends_own as sends_in};
+ghost use Rattle.aeth_components.specs.Turns.{sends_own};
 ghost use Rattle.aeth_components.specs.declared.event.Event.TheVariants.{Change};
 
 use crate::event::Event;
 use crate::handing::Handing;
-use crate::parts::sends_own;
+use crate::parts::sends_in;
 use aeth_base::{Marks, NoMemory, Steps};
 use aeth_clocked::{Clocked, Wires};
 use aeth_ni::Write;
@@ -44,13 +44,20 @@ impl Injecting {
         Ok(Injecting { slots: marks })
     }
 
-    // Marks of those in the slot of a cycle.
-    pub(crate) fn at(&self, cycle: u32) -> &Marks
+    // The slot of a cycle.
+    pub(crate) fn slot(&self, cycle: u32) -> usize
         requires { 0 < length self.now.slots.items }
-        ensures { result.now
-            ≡ marks_at self.now.slots.items (cycle % length self.now.slots.items) }
+        ensures { result ≡ cycle % length self.now.slots.items }
     {
-        &self.slots[cycle as usize % self.slots.len()]
+        cycle as usize % self.slots.len()
+    }
+
+    // Marks of those in a slot.
+    pub(crate) fn at(&self, slot: usize) -> &Marks
+        requires { slot < length self.now.slots.items }
+        ensures { result.now ≡ marks_at self.now.slots.items slot }
+    {
+        &self.slots[slot]
     }
 
     // Notes what an event enters in a table, or takes out of one.
@@ -89,24 +96,24 @@ impl Injecting {
 // passed over. It counts a step for each that sends.
 pub(crate) fn inject<L: Ledger>(
     parts: &mut [Part],
-    injecting: &Marks,
+    injecting: &Injecting,
     cycle: u32,
     wires: &mut Wires,
     handing: &mut Handing,
     steps: &mut Steps<L>,
 )
     requires few { length parts.old < 2 ^ 32 }
-    requires below { (number : ℕ) → bit_of injecting.now number ≡ 1 → number < length parts.old }
-    requires senders { AreSendersMarked cycle parts.old injecting.now }
+    requires injecting { AreInjecting (map entries_of parts.old) injecting.now.slots.items }
     requires wired { IsWired (map frame_of parts.old) (length wires.old) }
     requires waiting { HasWaitingPlaces handing.old }
     ensures parts { parts.new ≡ interfaces_driven cycle parts.old }
     ensures wires { Injects cycle parts.old wires.old wires.new }
     ensures handing { Wakes (IsSending cycle parts.old) handing.old handing.new }
-    ensures steps { steps.new ≤ steps.old + count_by (sends_in cycle) parts.old }
+    ensures steps { steps.new ≤ steps.old + count_by (sends_own cycle) parts.old }
 {
-    for number in injecting.iter() {
-        if sends_own(&parts[number], cycle) {
+    let slot = injecting.slot(cycle);
+    for number in injecting.at(slot).iter() {
+        if sends_in(&parts[number], slot) {
             let part = &mut parts[number];
             part.drive(u64::from(cycle), wires);
             handing.wake(number as u32);

@@ -4,6 +4,7 @@
 mod channels;
 mod components;
 mod counting;
+mod counts;
 mod driving;
 mod ends;
 mod event;

@@ -1,13 +1,14 @@
 // What is done at one queue of a component, where this is an interface, or to the table of one that is
 // a router with a table.
 
-ghost use Rattle.std.specs.Prelude.{◌≡◌, ◌<◌, ◌≤◌, ◌^◌, ℕ, All, length, true};
+ghost use Rattle.std.specs.Prelude.{◌≡◌, ◌<◌, ◌≤◌, ◌%◌, ◌^◌, ℕ, All, length, true};
 ghost use Rattle.aeth_ni.specs.Interface.{changed};
 ghost use Rattle.aeth_ni.specs.Limits.{queues_of_interface};
 ghost use Rattle.aeth_components.specs.Changes.{event_done, on_interface, told_by};
 ghost use Rattle.aeth_components.specs.Entering.{TakesRows, entered, with_rows};
 ghost use Rattle.aeth_components.specs.Events.{Suits};
 ghost use Rattle.aeth_components.specs.Frames.{frame_of};
+ghost use Rattle.aeth_components.specs.Injecting.{entries_of};
 ghost use Rattle.aeth_components.specs.Queues.{brought_by, draws, drawn, filled, fits};
 ghost use Rattle.aeth_components.specs.Handing.{room_left};
 ghost use Rattle.aeth_components.specs.Turns.{sends_own};
@@ -97,12 +98,20 @@ pub(crate) fn is_silent(part: &Part) -> bool
     }
 }
 
-// Whether a component sends something of its own in a cycle: only an interface does.
-pub(crate) fn sends_own(part: &Part, cycle: u32) -> bool
-    ensures { result ≡ sends_own cycle part.now }
+// Whether a component sends something of its own in a slot, of as many as its table has: only an interface
+// does.
+pub(crate) fn sends_in(part: &Part, slot: usize) -> bool
+    requires { 0 < length (entries_of part.now) → slot < length (entries_of part.now) }
+    ensures { (cycle : ℕ)
+        → (0 < length (entries_of part.now) → cycle % length (entries_of part.now) ≡ slot)
+        → result ≡ sends_own cycle part.now }
 {
     match part {
-        Part::Interface(ni) => !ni.is_mute(u64::from(cycle)),
+        Part::Interface(ni) => {
+            // Its table has a slot, as this call says of every interface.
+            let _ = ni.last();
+            !ni.is_mute_in(slot)
+        }
         _ => false,
     }
 }

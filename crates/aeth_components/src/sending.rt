@@ -1,14 +1,11 @@
 // The first cycle in which an interface sends something of its own.
 
 ghost use Rattle.std.specs.Prelude.{◌≡◌, ◌<◌, ◌≤◌, ◌^◌, ◌↔◌, ℕ, IsTrue, length, map};
-ghost use Rattle.aeth_base.specs.Marks.{bit_of};
 ghost use Rattle.aeth_components.specs.First.{HasSender, IsFirst};
 ghost use Rattle.aeth_components.specs.Injecting.{AreInjecting, entries_of};
-ghost use Rattle.aeth_components.specs.Turns.{AreSendersMarked};
 
 use crate::injecting::Injecting;
-use crate::parts::sends_own;
-use aeth_base::Marks;
+use crate::parts::sends_in;
 use aeth_router::Part;
 
 // The first cycle from one on, and below another, in which one of the components sends something of
@@ -22,23 +19,23 @@ pub(crate) fn next_among(parts: &[Part], injecting: &Injecting, from: u32, to: u
 {
     let span = injecting.slots.len().min((to - from) as usize) as u32;
     for cycle in from..from + span {
-        if does_send(parts, injecting.at(cycle), cycle) {
+        if does_send(parts, injecting, cycle) {
             return cycle;
         }
     }
     to
 }
 
-// Whether a component sends something of its own in a cycle. Each that does is marked, and others are
-// passed over.
-fn does_send(parts: &[Part], injecting: &Marks, cycle: u32) -> bool
+// Whether a component sends something of its own in a cycle. Each that does is marked to have an entry for
+// the slot, and others are passed over.
+fn does_send(parts: &[Part], injecting: &Injecting, cycle: u32) -> bool
     requires few { length parts.now < 2 ^ 32 }
-    requires below { (number : ℕ) → bit_of injecting.now number ≡ 1 → number < length parts.now }
-    requires senders { AreSendersMarked cycle parts.now injecting.now }
+    requires injecting { AreInjecting (map entries_of parts.now) injecting.now.slots.items }
     ensures { IsTrue result ↔ HasSender parts.now cycle }
 {
-    for number in injecting.iter() {
-        if sends_own(&parts[number], cycle) {
+    let slot = injecting.slot(cycle);
+    for number in injecting.at(slot).iter() {
+        if sends_in(&parts[number], slot) {
             return true;
         }
     }

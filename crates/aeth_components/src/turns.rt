@@ -5,51 +5,49 @@ ghost use Rattle.aeth_chip.specs.Wires.{wires_of};
 ghost use Rattle.aeth_components.specs.Frames.{frame_of};
 ghost use Rattle.aeth_components.specs.Injecting.{AreInjecting, entries_of};
 ghost use Rattle.aeth_components.specs.Making.{new_parts};
+ghost use Rattle.aeth_components.specs.Passing.{way_of};
 ghost use Rattle.aeth_components.specs.Ready.{AreReady};
-ghost use Rattle.aeth_components.specs.Telling.{last_of};
-ghost use Rattle.aeth_components.specs.declared.making.RouterKind.TheVariants.{ByHeader};
 
 use crate::ends::Ends;
 use crate::injecting::Injecting;
-use aeth_base::{Marks, NoMemory};
+use crate::making::RouterKind;
+use aeth_base::NoMemory;
 use aeth_chip::Chip;
 use aeth_router::Onward;
 use std::alloc::Global;
 
-// Who is at the ends of wires, and which components have something to do, as it's noted from cycle to
-// cycle.
+// Who is at the ends of wires, and what of a cycle is known from the one before.
 #[derive(Drop)]
 pub(crate) struct Turns {
     pub ends: Ends,
     // The interfaces that have an entry for a slot.
     pub injecting: Injecting,
-    // Marks of the interfaces that tell of the flit of the last cycle, and room for the next marks.
-    pub telling: Marks,
-    pub spare: Marks,
-    // Where the flits of a cycle are passed on.
+    // How many flits are on the wires, and where those go on that don't wait for a table.
+    pub flits: u32,
     pub onward: Onward,
+    // Whether routers have tables.
+    pub has_tables: bool,
 }
 
 impl Turns {
-    // Those of the components of a chip, before the first cycle. Later calls take no memory.
-    pub(crate) fn new(alloc: Global, chip: &Chip) -> Result<Turns, NoMemory>
+    // Those of the components of a chip with routers of a kind, before the first cycle. Later calls take no
+    // memory.
+    pub(crate) fn new(alloc: Global, chip: &Chip, kind: RouterKind) -> Result<Turns, NoMemory>
         ensures ready { IfOk result (λ turns. (rooms : List ℕ) → AreReady
-            (map frame_of (new_parts chip.now ByHeader rooms))
-            (map last_of (new_parts chip.now ByHeader rooms))
+            (map frame_of (new_parts chip.now kind rooms)) (map way_of (new_parts chip.now kind rooms))
             (replicate (wires_of chip.now.links) None) turns) }
         ensures injecting { IfOk result (λ turns. (rooms : List ℕ) → AreInjecting
-            (map entries_of (new_parts chip.now ByHeader rooms)) turns.injecting.slots.items) }
+            (map entries_of (new_parts chip.now kind rooms)) turns.injecting.slots.items) }
     {
         let slots = chip.slots();
         let ends = Ends::of(alloc, chip)?;
-        let interfaces = ends.interfaces as usize;
         let injecting = Injecting::none(alloc, slots, ends.parts)?;
         Ok(Turns {
             ends,
             injecting,
-            telling: Marks::none(alloc, interfaces)?,
-            spare: Marks::none(alloc, interfaces)?,
+            flits: 0,
             onward: Onward::new(alloc, chip.wires())?,
+            has_tables: matches!(kind, RouterKind::ByTable),
         })
     }
 }

@@ -11,17 +11,46 @@ use Rattle.aeth_chip.specs.Paths.{delay_of}
 use Rattle.aeth_clocked.specs.Wires.{flit_on}
 use Rattle.aeth_clocked.specs.declared.flit.Flit.{Flit}
 use Rattle.aeth_ni.specs.Interface.{InterfaceState}
+use Rattle.aeth_ni.specs.Writes.{written}
+use Rattle.aeth_ni.specs.declared.write.Write.{Write}
+use Rattle.aeth_ni.specs.declared.write.Write.TheVariants.{ClearRoute, ClearSlot, SetRoute, SetSlot}
 use Rattle.aeth_router.specs.Part.{absorb_of}
 use Rattle.aeth_router.specs.declared.part.Part.{Part}
 use Rattle.aeth_router.specs.declared.part.Part.TheVariants.{Interface, Router, Stage, TableRouter}
 use Rattle.aeth_components.proofs.FrameLemmas.{from-map}
-use Rattle.aeth_components.proofs.SeenPhases.{lasts-switched}
-use Rattle.aeth_components.specs.Changes.{switched}
+use Rattle.aeth_components.proofs.PartLemmas.{views-switched}
+use Rattle.aeth_components.proofs.SeenPhases.{view-kept}
+use Rattle.aeth_components.specs.Changes.{event_done, switched}
 use Rattle.aeth_components.specs.Making.{link_stages, made_interface, made_router, made_stage}
 use Rattle.aeth_components.specs.Making.{made_stages, new_parts}
-use Rattle.aeth_components.specs.Telling.{last_of}
 use Rattle.aeth_components.specs.declared.event.Event.{Event}
+use Rattle.aeth_components.specs.declared.event.Event.TheVariants.{Change, Finish, Halt}
 use Rattle.aeth_components.specs.declared.making.RouterKind.TheVariants.{ByHeader}
+
+-- The queue and the number of words of the last flit that came to an interface, if one did; a router or a
+-- stage tells of none.
+abbrev last_of : Part → Option (ℕ × ℕ)
+last_of (Interface ni) = ni.last
+last_of (Router router) = None
+last_of (TableRouter router) = None
+last_of (Stage stage) = None
+
+-- Events leave that as it is.
+last-written : (write : Write) (ni : InterfaceState) → (written write ni).last ≡ ni.last
+last-written (ClearSlot to slot) ni = refl
+last-written (ClearRoute to queue) ni = refl
+last-written (SetRoute to queue route remote credits) ni = refl
+last-written (SetSlot to slot queue) ni = refl
+
+last-event : (event : Event) (ni : InterfaceState) → (event_done event ni).last ≡ ni.last
+last-event (Halt end) ni = refl
+last-event (Finish end) ni = refl
+last-event (Change write) ni = last-written write ni
+
+lasts-switched : (events : List Event) (parts : List Part)
+    → map last_of (switched events parts) ≡ map last_of parts
+lasts-switched =
+    views-switched last_of (λ event. view-kept last_of (event_done event) (last-event event))
 
 -- Fresh components tell of none.
 last-made : (chip : ChipData) (rooms : List ℕ) (part : Part) → Contains (new_parts chip ByHeader rooms) part

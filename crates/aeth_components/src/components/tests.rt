@@ -1,11 +1,12 @@
 // What no clause says: that words land where flits bring them, in their worked cycles, by routers that
 // read headers and by routers that look a table up.
-ghost use Rattle.std.specs.Prelude.{◌≡◌, ◌≤◌, IfSome, Some, length, slice_get};
+ghost use Rattle.std.specs.Prelude.{◌≡◌, ◌≤◌, IfSome, Some, false, length, slice_get};
 ghost use Rattle.aeth_base.specs.Limits.{max_cycles};
 ghost use Rattle.aeth_components.specs.Components.{frames_of};
 ghost use Rattle.aeth_components.specs.Frames.{RouterFrame, frame_of};
 ghost use Rattle.aeth_components.specs.Making.{made_router};
 ghost use Rattle.aeth_components.specs.declared.making.RouterKind.TheVariants.{ByHeader};
+ghost use Rattle.aeth_router.specs.Passing.{has_table};
 
 use super::Components;
 use crate::event::Event;
@@ -150,8 +151,9 @@ fn table_router(alloc: Global, chip: &Chip) -> Option<TableRouter>
 
 // The router `r0` as it is at first: it reads headers, or has a table for the channel.
 fn fresh_router(alloc: Global, chip: &Chip, by_table: bool) -> Option<Part>
-    ensures { IfSome result (λ router. frame_of router
+    ensures frame { IfSome result (λ router. frame_of router
         ≡ frame_of (made_router chip.now ByHeader 0)) }
+    ensures table { IfSome result (λ router. by_table ≡ false → has_table router ≡ false) }
 {
     if by_table {
         return Some(Part::TableRouter(table_router(alloc, chip)?));
@@ -159,7 +161,8 @@ fn fresh_router(alloc: Global, chip: &Chip, by_table: bool) -> Option<Part>
     Some(Part::Router(Router::new(alloc, chip, RouterId(0)).ok()?))
 }
 
-// A fresh router takes the place of the router `r0`.
+// A fresh router takes the place of the router `r0`. The flits that are under way are lost with what it held,
+// and nothing is passed on.
 fn put_fresh(alloc: Global, chip: &Chip, pair: &mut Components, by_table: bool) -> bool
     requires { slice_get (frames_of pair.old) 2
         ≡ Some (frame_of (made_router chip.now ByHeader 0)) }
@@ -168,31 +171,18 @@ fn put_fresh(alloc: Global, chip: &Chip, pair: &mut Components, by_table: bool) 
     match fresh_router(alloc, chip, by_table) {
         Some(router) => {
             pair.parts[2] = router;
+            pair.turns.onward.settle(&mut pair.wires);
+            pair.wires.clear();
+            pair.turns.flits = 0;
+            pair.turns.has_tables = by_table || pair.turns.has_tables;
             true
         }
         None => false,
     }
 }
 
-// The one flit that is under way is lost from its wire, unless an interface still tells of another. It
-// is what the router holds that receives there.
-fn empty_wire(pair: &mut Components) -> bool
-    ensures { frames_of pair.new ≡ frames_of pair.old }
-{
-    let count = pair.turns.ends.interfaces as usize;
-    if pair.turns.telling.next(0, count) < count {
-        return false;
-    }
-    let wire = pair.wires.next(0);
-    if wire as usize >= pair.flits.len() {
-        return false;
-    }
-    pair.wires.put(LinkId(wire), None);
-    true
-}
-
-// 20 cycles. Before cycle 5 a fresh router takes the place of the router `r0`, and the flit that this
-// one holds is lost.
+// 20 cycles. Before cycle 5 a fresh router takes the place of the router `r0`, and the one flit that is under
+// way is lost: it is what this one holds.
 fn carry(alloc: Global, chip: &Chip, pair: &mut Components, by_table: bool) -> bool
     requires { slice_get (frames_of pair.old) 2
         ≡ Some (frame_of (made_router chip.now ByHeader 0)) }
@@ -203,10 +193,10 @@ fn carry(alloc: Global, chip: &Chip, pair: &mut Components, by_table: bool) -> b
     if !played(alloc, pair, 0, 5) {
         return false;
     }
-    if !put_fresh(alloc, chip, pair, by_table) {
+    if pair.turns.flits != 1 {
         return false;
     }
-    if !empty_wire(pair) {
+    if !put_fresh(alloc, chip, pair, by_table) {
         return false;
     }
     played(alloc, pair, 5, 20)

@@ -1,54 +1,71 @@
-use Rattle.std.proofs.Common.{◌≡◌, ◌∙◌, ap, arith, length, sym}
+use Rattle.std.proofs.Common.{◌≡◌, ◌≤◌, ◌+◌, ◌∙◌, ap, arith, length}
 use Rattle.std.proofs.lemmas.List.{length-map}
 use Rattle.aeth_router.specs.Onward.{carried}
 use Rattle.aeth_components.proofs.driving.drive.Given as given
 use Rattle.aeth_components.proofs.driving.drive.Goals as goal
-use Rattle.aeth_components.proofs.driving.drive.Goals.{After-settle}
+use Rattle.aeth_components.proofs.driving.drive.Goals.{After-settle, else-turns, then-turns}
 use Rattle.aeth_components.proofs.DriveLemmas.{sending-seen, wires-driven}
-use Rattle.aeth_components.proofs.InjectingLemmas.{AreInjecting-below, AreInjecting-sends}
+use Rattle.aeth_components.proofs.LookUpLemmas.{HasCome, passed-without-tables}
 use Rattle.aeth_components.proofs.SeenLemmas.{frames-seen}
 use Rattle.aeth_components.proofs.SendingLemmas.{sending-few}
 use Rattle.aeth_components.specs.Frames.{frame_of}
+use Rattle.aeth_components.specs.Passing.{passed_from}
 use Rattle.aeth_components.specs.Seen.{all_seen}
 use Rattle.aeth_components.specs.Turns.{flits_on}
+use Rattle.aeth_components.specs.declared.turns.Turns.{Turns}
 
--- There are as many wires as before.
+-- There is a place for each wire.
 sized : (g : given.Over) (c : goal.After-settle g)
-    → length c.settle.new.wires ≡ length c.args.wires.now
-sized g c =
-    ap length c.settle.ensures.wires ∙ length-map c.pass_on.new.onward carried ∙ c.pass_on.ensures.size
+    → length c.if-turns.turns.onward ≡ length c.args.wires.now
+sized g c = elim c.if-turns.branch [
+  | then-turns w ↦
+      ap (λ (turns : Turns). length turns.onward) w.turns-is ∙ w.look_up.ensures.size
+  | else-turns w ↦ ap (λ (turns : Turns). length turns.onward) w.turns-is ∙ c.requires.ready.size
+]
 
-pub settle-requires : goal.settle-requires
-settle-requires g c = sym c.pass_on.ensures.size
+-- All flits are passed on: those that wait for tables just now, and without tables all were before.
+came : (g : given.Over) (c : goal.After-settle g)
+    → HasCome c.args.parts.now c.args.wires.now c.args.turns.now.ends c.args.cycle
+    (passed_from c.args.turns.now.ends.receivers.items c.args.parts.now c.args.wires.now c.args.cycle)
+    c.if-turns.turns.onward
+came g c = elim c.if-turns.branch [
+  | then-turns w ↦ rw w.turns-is w.look_up.ensures.came
+  | else-turns w ↦
+      rw w.turns-is
+      (passed-without-tables c.args.parts.now c.args.wires.now c.args.turns.now.ends c.args.cycle
+      c.requires.wired c.requires.ready.ends c.args.turns.now.onward
+      (c.requires.ready.tables w.if-turns.false) c.requires.ready.forwarded)
+]
 
--- Just components are marked.
+-- A step is counted for each flit that waited, at most.
+counted : (g : given.Over) (c : goal.After-settle g)
+    → c.if-turns.steps ≤ c.args.steps.now + flits_on c.args.wires.now
+counted g c = elim c.if-turns.branch [
+  | then-turns w ↦ omega (arith, w.steps-is, w.look_up.ensures.steps)
+  | else-turns w ↦ omega (arith, w.steps-is)
+]
+
+-- There are few components.
 pub inject-requires-clause-few : goal.inject-requires-clause-few
 inject-requires-clause-few g c =
     let few = c.requires.ready.ends.fits.few_parts in
     let count = c.requires.ready.ends.count ∙ length-map c.args.parts.now frame_of in
     omega (arith, few, count)
 
-pub inject-requires-clause-below : goal.inject-requires-clause-below
-inject-requires-clause-below g c = λ number bit.
-    AreInjecting-below c.args.cycle c.args.parts.now c.args.turns.now.injecting.slots.items
-    c.requires.injecting number (rw c.at-injecting.ensures at bit)
-
--- An interface that sends has an entry for the slot of the cycle, so it is marked there.
-pub inject-requires-clause-senders : goal.inject-requires-clause-senders
-inject-requires-clause-senders g c =
-    rw c.at-injecting.ensures
-    (AreInjecting-sends c.args.cycle c.args.parts.now c.args.turns.now.injecting.slots.items
-    c.requires.injecting)
-
+-- There are as many wires as before.
 pub inject-requires-clause-wired : goal.inject-requires-clause-wired
 inject-requires-clause-wired g c =
-    rw (sized g ((goal.at.inject-requires-clause-wired g c).After-settle)) c.requires.wired
+    let size : length c.settle.new.wires ≡ length c.args.wires.now =
+    ap length c.settle.ensures.wires ∙ length-map c.if-turns.turns.onward carried
+    ∙ sized g ((goal.at.inject-requires-clause-wired g c).After-settle) in
+    rw size c.requires.wired
 
--- On the wires is what all components drive, seen with what they hold.
+-- On the wires is what all components drive, seen with what came to them.
 pub returns-clause-wires : goal.returns-clause-wires
 returns-clause-wires g c =
+    let settled = (goal.at.returns-clause-wires g c).After-settle in
     wires-driven c.args.parts.now c.args.wires.now c.args.turns.now.ends c.args.cycle c.requires.wired
-    c.requires.ready.ends c.pass_on.new.onward c.pass_on.ensures.size c.pass_on.ensures.came
+    c.requires.ready.ends c.if-turns.turns.onward (sized g settled) (came g settled)
     c.settle.new.wires c.inject.new.wires c.settle.ensures.wires c.inject.ensures.wires
 
 -- At most as many interfaces send as there are flits then.
@@ -56,8 +73,9 @@ pub returns-clause-steps : goal.returns-clause-steps
 returns-clause-steps g c =
     let parts = c.args.parts.now in
     let wires = c.args.wires.now in
+    let counted = counted g ((goal.at.returns-clause-steps g c).After-settle) in
     let sending = sending-few c.args.cycle (length wires) (all_seen wires parts)
     (rw (frames-seen wires parts) c.requires.wired) in
     let seen = sending-seen wires c.args.cycle parts in
     let driven = ap flits_on (returns-clause-wires g c) in
-    omega (arith, sending, seen, driven, c.pass_on.ensures.steps, c.inject.ensures.steps)
+    omega (arith, sending, seen, driven, counted, c.inject.ensures.steps)

@@ -1,14 +1,20 @@
-use Rattle.std.proofs.Common.{◌∙◌, ap, arith, length, refl}
+use Rattle.std.proofs.Common.{◌≡◌, ◌<◌, ◌+◌, ◌==◌, ◌∙◌, ap, arith, get_or, length, refl, slice_get}
+use Rattle.std.proofs.Common.{Some, sym}
+use Rattle.std.proofs.lemmas.Bool.{eq-eqb, eqb-true, false_from_ne_true}
+use Rattle.std.proofs.lemmas.Option.{get_or_from_slice_get}
 use Rattle.aeth_components.proofs.channels.Channels.count_busy.Goals as goal
-use Rattle.aeth_components.proofs.CountedLemmas.{AreCounted-first, AreCounted-more, AreCounted-sound}
-use Rattle.aeth_components.proofs.CountedLemmas.{AreCounted-until, counted-all, noted-all}
-use Rattle.aeth_components.proofs.LaneLemmas.{length-with_lane}
-use Rattle.aeth_components.specs.Counting.{counted}
+use Rattle.aeth_components.proofs.channels.Channels.count_busy.Goals.{Joined-index-number}
+use Rattle.aeth_components.proofs.channels.Channels.count_busy.Goals.{else-index-number, then-index-number}
+use Rattle.aeth_components.proofs.CountedLemmas.{AreCounted, AreCounted-away, AreCounted-first}
+use Rattle.aeth_components.proofs.CountedLemmas.{AreCounted-more, AreCounted-sound, AreCounted-until}
+use Rattle.aeth_components.proofs.CountedLemmas.{counted-all, noted-all}
+use Rattle.aeth_components.specs.Channels.{ChannelsState}
+use Rattle.aeth_components.specs.declared.lane.Lane.{Lane}
 
 -- The channels before the first one that is marked are idle.
 pub turns-init : goal.turns-init
 turns-init c =
-    let next = c.next_busy-number.ensures in
+    let next = c.next_busy-channel.ensures in
     record {
       are = AreCounted-until AreCounted-first next.from next.end next.still;
       words = refl;
@@ -21,29 +27,67 @@ count_one-requires-clause-lane c =
     AreCounted-sound c.turns.invariant.are (length c.turns.landings) (length c.args.parts.now)
     (omega (arith, c.turns-test.true, c.len.ensures)) (rw c.turns.auto.landings c.requires.lanes)
 
--- There are as many behind its turn.
-pub next_busy-number-requires-in-turns : goal.next_busy-number-requires-in-turns
-next_busy-number-requires-in-turns c =
-    let same = ap length c.count_one.ensures.lanes
-    ∙ length-with_lane c.turns.number (counted c.args.cycle c.args.parts.now) c.turns.self.lanes in
-    omega (arith, same, c.turns-test.true, c.len.ensures)
+-- The channel that is read is the one at its place.
+read : (c : Joined-index-number) (lane : Lane) → slice_get c.turns.self.lanes c.turns.channel ≡ Some lane
+    → c.index.result.now ≡ lane
+read c lane at =
+    c.index.ensures
+    ∙ ap (λ (all : ChannelsState). get_or all.lanes c.turns.channel c.index.result.now) c.self.view_is
+    ∙ get_or_from_slice_get c.turns.self.lanes c.turns.channel lane c.index.result.now at
+
+-- One channel more is counted, if it is at the interface.
+more : (c : Joined-index-number) → AreCounted (λ i. i == c.args.number) c.args.cycle c.args.parts.now
+    c.args.self.now.lanes c.args.landings.now c.if-index-number.self.lanes c.if-index-number.landings
+    (c.turns.channel + 1)
+more c =
+    let are = c.turns.invariant.are in
+    let within : c.turns.channel < length c.turns.self.lanes =
+    omega (arith, c.turns-test.true, c.len.ensures) in
+    elim c.if-index-number.branch [
+      | then-index-number w ↦
+          rw (w.self-is, w.landings-is) (AreCounted-more are within
+          (λ lane at. eq-eqb lane.receiver.ni.0 c.args.number
+          (ap (λ (lane : Lane). lane.receiver.ni.0) (sym (read c lane at)) ∙ w.if-index-number.true))
+          w.count_one.ensures.lanes w.count_one.ensures.landings)
+      | else-index-number w ↦
+          rw (w.self-is, w.landings-is) (AreCounted-away are within
+          (λ lane at. false_from_ne_true (lane.receiver.ni.0 == c.args.number)
+          (λ is. w.if-index-number.false (ap (λ (lane : Lane). lane.receiver.ni.0) (read c lane at)
+          ∙ eqb-true lane.receiver.ni.0 c.args.number is))))
+    ]
+
+-- There are as many behind that.
+size : (c : Joined-index-number) → length c.if-index-number.self.lanes ≡ length c.turns.self.lanes
+size c = (more c).size ∙ sym c.turns.invariant.are.size
+
+pub next_busy-channel-requires-in-turns : goal.next_busy-channel-requires-in-turns
+next_busy-channel-requires-in-turns c =
+    omega (arith, size c, c.turns-test.true, c.len.ensures)
 
 pub turns-smaller : goal.turns-smaller
 turns-smaller c =
-    let same = ap length c.count_one.ensures.lanes
-    ∙ length-with_lane c.turns.number (counted c.args.cycle c.args.parts.now) c.turns.self.lanes in
-    omega (arith, same, c.turns-test.true, c.len.ensures, c.next_busy-number-in-turns.ensures.from)
+    omega (
+      arith,
+      size ((goal.at.turns-smaller c).Joined-index-number),
+      c.turns-test.true,
+      c.len.ensures,
+      c.next_busy-channel-in-turns.ensures.from,
+    )
 
--- One channel more is counted, and those up to the next one that is marked are idle.
+-- No words are noted anew, and those up to the next one that is marked are idle.
 pub turns-preserved : goal.turns-preserved
 turns-preserved c =
-    let next = c.next_busy-number-in-turns.ensures in
-    let done = c.count_one.ensures in
+    let next = c.next_busy-channel-in-turns.ensures in
     record {
-      are = AreCounted-until (AreCounted-more c.turns.invariant.are
-          (omega (arith, c.turns-test.true, c.len.ensures)) done.lanes done.landings)
-          next.from next.end next.still;
-      words = done.words ∙ c.turns.invariant.words;
+      are = AreCounted-until (more ((goal.at.turns-preserved c).Joined-index-number)) next.from next.end
+          next.still;
+      words = elim c.if-index-number.branch [
+        | then-index-number w ↦
+            ap (λ (all : ChannelsState). all.words) w.self-is ∙ w.count_one.ensures.words
+            ∙ c.turns.invariant.words
+        | else-index-number w ↦
+            ap (λ (all : ChannelsState). all.words) w.self-is ∙ c.turns.invariant.words
+      ];
       within = next.end;
     }
 

@@ -1,14 +1,15 @@
-use Rattle.std.proofs.Common.{◌≡◌, ◌≤◌, ◌-◌, length}
+use Rattle.std.proofs.Common.{◌≡◌, ◌≤◌, ◌-◌, ◌==◌, length}
 use Rattle.aeth_components.proofs.channels.Channels.count_busy.Given as goal
 use Rattle.aeth_components.proofs.CountedLemmas.{AreCounted}
 
--- The channels so far are counted.
+-- The channels at the interface so far are counted.
 abbrev pub invariant-turns : goal.invariant-turns
 invariant-turns l = record {
-  are : AreCounted l.cycle l.parts l.fn.self.lanes l.fn.landings l.self.lanes l.landings l.number;
+  are : AreCounted (λ i. i == l.fn.number) l.cycle l.parts l.fn.self.lanes l.fn.landings l.self.lanes
+      l.landings l.channel;
   words : l.self.words ≡ l.fn.self.words;
-  within : l.number ≤ length l.self.lanes;
+  within : l.channel ≤ length l.self.lanes;
 }
 
 abbrev pub decreases-turns : goal.decreases-turns
-decreases-turns l = length l.self.lanes - l.number
+decreases-turns l = length l.self.lanes - l.channel

@@ -2,7 +2,7 @@ use Rattle.std.proofs.Common.{◌≡◌, ◌++◌, ◌∙◌, ap, drop, length, 
 use Rattle.aeth_components.proofs.components.Components.enter.Goals as goal
 use Rattle.aeth_components.proofs.components.Components.enter.Goals.{After-enter_all}
 use Rattle.aeth_components.proofs.EnteringLemmas.{IsComponents-entered, frames-entered}
-use Rattle.aeth_components.proofs.EnteringLemmas.{lasts-entered, tables-entered}
+use Rattle.aeth_components.proofs.EnteringLemmas.{tables-entered, ways-entered}
 use Rattle.aeth_components.proofs.RoomLemmas.{IsFull-entered}
 use Rattle.aeth_components.proofs.SeenCycle.{TakesRows-bare, with_rows-seen}
 use Rattle.aeth_components.proofs.WaitingLemmas.{AreHanding-kept}
@@ -35,8 +35,8 @@ invariant_of-self c =
     let parts = all.parts.items in
     rw (written ((goal.at.invariant_of-self c).After-enter_all)) (
       IsComponents-entered rows (components_of parts all.wires all.channels.lanes
-          all.channels.words all.landings.items all.flits.items) c.self.invariant.0,
-      rw (frames-entered rows parts, lasts-entered rows parts) c.self.invariant.1,
+          all.channels.words all.counts.landings.items all.counts.flits.items) c.self.invariant.0,
+      rw (frames-entered rows parts, ways-entered rows parts) c.self.invariant.1,
       rw (tables-entered rows parts) c.self.invariant.2,
       AreHanding-kept parts (with_rows rows parts) all.channels.lanes all.handing
           (IsFull-entered rows parts) c.self.invariant.3,

@@ -2,7 +2,7 @@ use Rattle.std.proofs.Common.{◌≡◌, ◌++◌, ◌∙◌, ap, drop, length, 
 use Rattle.aeth_components.proofs.components.Components.prepare.Goals as goal
 use Rattle.aeth_components.proofs.components.Components.prepare.Goals.{After-switch}
 use Rattle.aeth_components.proofs.CycleLemmas.{IsComponents-switched}
-use Rattle.aeth_components.proofs.SeenPhases.{lasts-switched}
+use Rattle.aeth_components.proofs.SeenPhases.{ways-switched}
 use Rattle.aeth_components.proofs.PartLemmas.{frames-switched}
 use Rattle.aeth_components.proofs.ReadyLemmas.{AreReady-noted}
 use Rattle.aeth_components.proofs.RoomLemmas.{IsFull-switched}
@@ -37,8 +37,8 @@ invariant_of-self c =
     let events = c.args.events.now in
     rw (written ((goal.at.invariant_of-self c).After-switch)) (
       IsComponents-switched events (components_of all.parts.items all.wires all.channels.lanes
-          all.channels.words all.landings.items all.flits.items) c.self.invariant.0,
-      rw (frames-switched events all.parts.items, lasts-switched events all.parts.items)
+          all.channels.words all.counts.landings.items all.counts.flits.items) c.self.invariant.0,
+      rw (frames-switched events all.parts.items, ways-switched events all.parts.items)
           (AreReady-noted c.self.invariant.1),
       rw (c.switch.ensures.parts, c.deref_mut.ensures.value) at c.switch.ensures.injecting,
       AreHanding-woken (HasEvent events) all.parts.items (switched events all.parts.items)

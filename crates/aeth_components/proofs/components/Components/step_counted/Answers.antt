@@ -1,16 +1,20 @@
-use Rattle.std.proofs.Common.{◌≡◌, ◌∙◌, ◌++◌, ap, arith, drop, length, take}
-use Rattle.std.proofs.lemmas.List.{length-map}
+use Rattle.std.proofs.Common.{◌≡◌, ◌∙◌, ◌++◌, ap, arith, drop, length, map, refl, sym, take}
 use Rattle.aeth_base.proofs.Lists.{written_back}
 use Rattle.aeth_components.proofs.components.Components.step_counted.Given as given
 use Rattle.aeth_components.proofs.components.Components.step_counted.Goals as goal
-use Rattle.aeth_components.proofs.components.Components.step_counted.Goals.{After-count, After-deref}
-use Rattle.aeth_components.proofs.components.Components.step_counted.Goals.{After-run}
+use Rattle.aeth_components.proofs.components.Components.step_counted.Goals.{After-land, After-run}
+use Rattle.aeth_components.proofs.components.Components.step_counted.Goals.{After-deref_mut-2}
 use Rattle.aeth_components.proofs.CountedCycle.{Cycle-counted, IsComponents-counted}
+use Rattle.aeth_components.proofs.FrameLemmas.{length-wires_driven}
 use Rattle.aeth_components.proofs.SeenLemmas.{frames-seen}
-use Rattle.aeth_components.proofs.TellingLemmas.{AreBrought-telling}
-use Rattle.aeth_components.proofs.WaitingLemmas.{AreHanding-counted}
-use Rattle.aeth_components.specs.Components.{ComponentsState, components_of}
+use Rattle.aeth_components.proofs.SeenPhases.{Runs-landed, frames-landed, tables-landed, ways-landed}
+use Rattle.aeth_components.proofs.WaitingLemmas.{AreHanding-landed}
+use Rattle.aeth_components.specs.Components.{ComponentsState, Runs, components_of, ready_of}
 use Rattle.aeth_components.specs.Frames.{frame_of}
+use Rattle.aeth_components.specs.Passing.{way_of}
+use Rattle.aeth_components.specs.Phases.{Moment}
+use Rattle.aeth_components.specs.Ready.{AreReady}
+use Rattle.aeth_components.specs.Seen.{all_seen, flits_landed, interfaces_latched}
 
 -- What the run requires holds of the components in their vector.
 pub run-requires : goal.run-requires
@@ -25,102 +29,139 @@ run-requires g c =
       events = rw (parts, ← frames-seen all.wires all.parts.items)
           (rw (← c.self.view_is) at c.requires.events);
       handing = rw parts c.self.invariant.3;
-      flits = rw c.deref_mut-2.ensures.value c.self.invariant.0.flits;
     }
 
 -- The components are those that the run leaves.
+run_size : (g : given.Over) (c : goal.After-run g)
+    → length c.run.new.parts ≡ length c.self.inside.parts.items
+run_size g c = c.run.auto.parts ∙ ap length c.deref_mut.ensures.value
+
 run_parts : (g : given.Over) (c : goal.After-run g)
     → take c.self.inside.parts.len (c.run.new.parts
     ++ drop (length c.run.new.parts) c.self.inside.parts.items) ≡ c.run.new.parts
 run_parts g c =
     written_back c.self.inside.parts.items c.run.new.parts c.self.inside.parts.len
-    c.self.inside.parts.ok.0 (c.run.auto.parts ∙ ap length c.deref_mut.ensures.value)
+    c.self.inside.parts.ok.0 (run_size g c)
 
-read_parts : (g : given.Over) (c : goal.After-deref g) → c.deref.result.now ≡ c.run.new.parts
-read_parts g c = c.deref.ensures.value ∙ run_parts g ((goal.at-After-deref g c).After-run)
+read_parts : (g : given.Over) (c : goal.After-deref_mut-2 g)
+    → c.deref_mut-2.result.now ≡ c.run.new.parts
+read_parts g c = c.deref_mut-2.ensures.value ∙ run_parts g ((goal.at-After-deref_mut-2 g c).After-run)
 
--- The interfaces that tell of a flit are components, and words came just to them.
-pub count-requires : goal.count-requires
-count-requires g c =
-    let parts = read_parts g ((goal.at.count-requires g c).After-deref) in
-    let ready = c.run.ensures.ready in
-    let count = ready.ends.count ∙ length-map c.run.new.parts frame_of in
+-- There are as many wires, and the components have the frames that they had.
+sized : (g : given.Over) (c : goal.After-run g)
+    → length c.run.new.wires ≡ length c.self.inside.wires
+sized g c =
+    let all = c.self.inside in
+    let moment : Moment = record {
+      parts = all_seen all.wires c.deref_mut.result.now;
+      lanes = all.channels.lanes;
+    } in
+    rw c.run.ensures.wires (length-wires_driven
+    (ready_of all.channels.words c.args.events.now c.args.cycle moment).parts (length all.wires)
+    c.args.cycle)
+
+framed : (g : given.Over) (c : goal.After-run g)
+    → map frame_of c.run.new.parts ≡ map frame_of c.self.inside.parts.items
+framed g c = c.run.ensures.frames ∙ ap (map frame_of) c.deref_mut.ensures.value
+
+pub land-requires : goal.land-requires
+land-requires g c =
+    let run = (goal.at.land-requires g c).After-run in
+    let parts = read_parts g ((goal.at.land-requires g c).After-deref_mut-2) in
     record {
+      wired = rw (parts, sized g run, framed g run) c.self.invariant.0.wired;
+      ends = rw (parts, sized g run, framed g run, c.run.ensures.turns) c.self.invariant.1.ends;
+      onward = rw (sized g run, c.run.ensures.turns) refl;
+      lanes = rw (parts, c.self.invariant.0.landings, ← c.run.ensures.words) c.run.ensures.lanes;
+      flits = rw (sized g run) c.self.invariant.0.flits;
       cycle = omega (arith, c.requires.cycle);
-      lanes = rw (
-        parts,
-        c.deref_mut-3.ensures.value,
-        c.self.invariant.0.landings,
-        ← c.run.ensures.words,
-      ) c.run.ensures.lanes;
-      below = λ number marked. rw parts
-          (omega (arith, ready.telling.below number marked, ready.ends.fits.interfaces, count));
-      few = rw parts (omega (arith, ready.ends.fits.few_parts, count));
-      brought = rw parts (AreBrought-telling c.run.new.turns.ends.interfaces c.run.new.parts
-          c.run.new.turns.telling ready.telling);
     }
 
--- What is counted is written back.
-landings : (g : given.Over) (c : goal.After-count g)
-    → take c.self.inside.landings.len (c.count.new.landings
-    ++ drop (length c.count.new.landings) c.self.inside.landings.items) ≡ c.count.new.landings
-landings g c =
-    written_back c.self.inside.landings.items c.count.new.landings c.self.inside.landings.len
-    c.self.inside.landings.ok.0 (c.count.auto.landings ∙ ap length c.deref_mut-3.ensures.value)
+-- The vector has the components behind the landing.
+land_parts : (g : given.Over) (c : goal.After-land g)
+    → take c.self.inside.parts.len (c.land.new.parts ++ drop (length c.land.new.parts)
+    (take c.self.inside.parts.len (c.run.new.parts
+    ++ drop (length c.run.new.parts) c.self.inside.parts.items)))
+    ≡ flits_landed c.run.new.wires c.run.new.parts
+land_parts g c =
+    let run = (goal.at-After-land g c).After-run in
+    let read = read_parts g ((goal.at-After-land g c).After-deref_mut-2) in
+    rw (run_parts g run) (written_back c.run.new.parts c.land.new.parts c.self.inside.parts.len
+    (c.self.inside.parts.ok.0 ∙ sym (run_size g run)) (c.land.auto.parts ∙ ap length read)
+    ∙ c.land.ensures.parts ∙ ap (flits_landed c.run.new.wires) read)
 
-flits : (g : given.Over) (c : goal.After-run g)
-    → take c.self.inside.flits.len (c.run.new.flits
-    ++ drop (length c.run.new.flits) c.self.inside.flits.items) ≡ c.run.new.flits
-flits g c =
-    written_back c.self.inside.flits.items c.run.new.flits c.self.inside.flits.len
-    c.self.inside.flits.ok.0 (c.run.auto.flits ∙ ap length c.deref_mut-2.ensures.value)
-
--- The components before the cycle, as they hold flits.
-abbrev held : (g : given.Over) → goal.After-count g → ComponentsState
+-- The components before the cycle, as they stand.
+abbrev held : (g : given.Over) → goal.After-land g → ComponentsState
 held g c =
     let all = c.self.inside in
     components_of all.parts.items all.wires all.channels.lanes all.channels.words
-    all.landings.items all.flits.items
+    all.counts.landings.items all.counts.flits.items
+
+-- Both halves are a run.
+runs : (g : given.Over) (c : goal.After-land g) → Runs c.self.inside.channels.words
+    c.args.events.now c.args.cycle c.self.inside.wires c.run.new.wires
+    (record {
+      parts = all_seen c.self.inside.wires c.self.inside.parts.items;
+      lanes = c.self.inside.channels.lanes;
+    })
+    (record {
+      parts = all_seen c.run.new.wires (flits_landed c.run.new.wires c.run.new.parts);
+      lanes = c.run.new.channels.lanes;
+    })
+runs g c =
+    let all = c.self.inside in
+    Runs-landed all.channels.words c.args.events.now c.args.cycle all.wires c.run.new.wires
+    all.parts.items c.run.new.parts (flits_landed c.run.new.wires c.run.new.parts) all.channels.lanes
+    c.run.new.channels.lanes (rw c.deref_mut.ensures.value at c.run.ensures.moment)
+    (rw c.deref_mut.ensures.value at c.run.ensures.wires) refl
+
+-- The components are ready for the next cycle.
+ready : (g : given.Over) (c : goal.After-land g)
+    → AreReady (map frame_of (flits_landed c.run.new.wires c.run.new.parts))
+    (map way_of (flits_landed c.run.new.wires c.run.new.parts)) c.run.new.wires c.land.new.turns
+ready g c =
+    let run = (goal.at-After-land g c).After-run in
+    let read = read_parts g ((goal.at-After-land g c).After-deref_mut-2) in
+    let before = c.self.invariant.1 in
+    let wires = c.run.new.wires in
+    let parts = c.run.new.parts in
+    let ways = c.run.ensures.ways ∙ ap (map way_of) c.deref_mut.ensures.value in
+    rw (c.land.ensures.turns, frames-landed wires parts, ways-landed wires parts) (record {
+      ends = rw (c.run.ensures.turns, framed g run, sized g run) before.ends;
+      flits = refl;
+      size = c.land.ensures.size;
+      forwarded = rw read at c.land.ensures.forwarded;
+      tables = rw (c.run.ensures.turns, ways) before.tables;
+    })
 
 -- What holds of components still holds.
 pub invariant_of-self : goal.invariant_of-self
 invariant_of-self g c =
-    let counting = (goal.at.invariant_of-self g c).After-count in
-    let run = (goal.at.invariant_of-self g c).After-run in
-    let read = read_parts g ((goal.at.invariant_of-self g c).After-deref) in
-    let counts = rw read at c.count.ensures.lanes in
-    rw (run_parts g run, landings g counting, flits g run, c.count.ensures.words, c.run.ensures.words) (
-      IsComponents-counted (held g counting) c.run.new.parts
-          (rw c.deref_mut.ensures.value at c.run.ensures.runs)
-          counts (rw (read, c.deref_mut-3.ensures.value) at c.count.ensures.landings)
-          (rw c.deref_mut-2.ensures.value at c.run.ensures.flits)
+    let land = (goal.at.invariant_of-self g c).After-land in
+    let read = read_parts g ((goal.at.invariant_of-self g c).After-deref_mut-2) in
+    let wires = c.run.new.wires in
+    let parts = c.run.new.parts in
+    let counts = rw read at c.land.ensures.lanes in
+    rw (land_parts g land, c.land.ensures.words, c.run.ensures.words) (
+      IsComponents-counted (held g land) parts (runs g land) counts
+          (rw read at c.land.ensures.landings) c.land.ensures.flits
           c.self.invariant.0 (rw c.run.ensures.words at c.run.ensures.lanes),
-      c.run.ensures.ready,
-      c.run.ensures.injecting,
-      rw counts (AreHanding-counted c.args.cycle c.run.new.parts c.run.new.channels.lanes
-          c.run.new.handing c.run.ensures.handing),
+      ready g land,
+      rw (c.land.ensures.turns, tables-landed wires parts) c.run.ensures.injecting,
+      rw counts (AreHanding-landed c.args.cycle wires parts (interfaces_latched wires parts)
+          c.run.new.channels.lanes c.run.new.handing c.run.ensures.handing),
     )
 
 -- A cycle.
 pub returns-clause-cycle : goal.returns-clause-cycle
 returns-clause-cycle g c =
-    let counting = (goal.at.returns-clause-cycle g c).After-count in
-    let run = (goal.at.returns-clause-cycle g c).After-run in
-    let read = read_parts g ((goal.at.returns-clause-cycle g c).After-deref) in
-    rw (
-      ← c.self.view_is,
-      run_parts g run,
-      landings g counting,
-      flits g run,
-      c.count.ensures.words,
-      c.run.ensures.words,
-    )
-    (Cycle-counted (held g counting) c.run.new.parts
-    (rw c.deref_mut.ensures.value at c.run.ensures.runs)
-    (rw read at c.count.ensures.lanes)
-    (rw (read, c.deref_mut-3.ensures.value) at c.count.ensures.landings)
-    (rw c.deref_mut-2.ensures.value at c.run.ensures.flits))
+    let land = (goal.at.returns-clause-cycle g c).After-land in
+    let read = read_parts g ((goal.at.returns-clause-cycle g c).After-deref_mut-2) in
+    rw (← c.self.view_is, land_parts g land, c.land.ensures.words, c.run.ensures.words)
+    (Cycle-counted (held g land) c.run.new.parts (runs g land) (rw read at c.land.ensures.lanes)
+    (rw read at c.land.ensures.landings) c.land.ensures.flits)
 
 -- So many steps.
 pub returns-clause-steps : goal.returns-clause-steps
-returns-clause-steps g c = rw (← c.self.view_is) c.run.ensures.steps
+returns-clause-steps g c =
+    rw (← c.self.view_is) (omega (arith, c.run.ensures.steps, c.land.ensures.steps))
