@@ -37,15 +37,26 @@ use Rattle.aeth_network.proofs.Ready.{All-passing, coming-are, frames-ready, goi
 use Rattle.aeth_network.proofs.Ready.{ways-are}
 use Rattle.aeth_network.proofs.Stepping.{behind-is}
 
-module _ (all : Inside) (is : IsNetwork (vec_capacity all.state.replaced) (seen all))
-    (rows : CycleRows) (goings : rows.goings.now ≡ goings_in (stimuli_with all.given) all.time)
-    (offers : rows.offers.now ≡ offers_in (stimuli_with all.given) all.time)
-    (takes : rows.takes.now ≡ takes_in (stimuli_with all.given) all.time) where
+module _ (all : Inside) (is : IsNetwork (vec_capacity all.state.replaced) (seen all)) where
   abbrev old : NetworkState
   old = seen all
 
-  -- The words of a cycle have room, once its sessions have gone.
-  fit-started : AreFit (length all.state.components.words) (length all.state.components.parts)
+  -- The words of a cycle are for channels that there are, and of this cycle.
+  pub offers-known : All (λ one. one.number < length all.state.components.lanes)
+      (offers_in old.stimuli all.time)
+  offers-known =
+      All-filter (λ (one : Offer). one.cycle == all.time)
+      (λ (one : Offer). one.number < length all.state.components.lanes) old.stimuli.offers
+      is.stimuli.offers
+
+  pub offers-now : All (λ one. one.cycle ≡ all.time) (offers_in old.stimuli all.time)
+  offers-now =
+      All-passing (λ (one : Offer). Unit {0}) (λ (one : Offer). one.cycle ≡ all.time)
+      (λ (one : Offer). one.cycle == all.time) old.stimuli.offers
+      (λ one now any. grind (arith, nat_tests)) (λ k d within. tt)
+
+  -- They have room, once the sessions of the cycle have gone.
+  pub fit-started : AreFit (length all.state.components.words) (length all.state.components.parts)
       (untils_in old.stimuli all.time all.state.untils.items) (offers_in old.stimuli all.time)
       (fold gone_with all.state.components.lanes (goings_in old.stimuli all.time))
   fit-started =
@@ -69,7 +80,7 @@ module _ (all : Inside) (is : IsNetwork (vec_capacity all.state.replaced) (seen 
       record { sound = one.sound; room = omega arith }
 
   -- They can be counted.
-  counts-now : HaveCounts (offers_in old.stimuli all.time) all.state.outside.items
+  pub counts-now : HaveCounts (offers_in old.stimuli all.time) all.state.outside.items
   counts-now =
       let later = drop (passed (λ (one : Offer). one.cycle) (all.time + 1) old.stimuli.offers)
       old.stimuli.offers in
@@ -92,83 +103,83 @@ module _ (all : Inside) (is : IsNetwork (vec_capacity all.state.replaced) (seen 
       let enough = is.enough in
       omega arith
 
-  -- A cycle can be brought.
-  pub can-bring : CanBring all.state rows all.time
-  can-bring =
-      let lanes = length all.state.components.lanes in
-      let words = length all.state.components.words in
-      let parts = length all.state.components.parts in
-      let goes = λ (one : Going). one.lane.go == all.time in
-      let size : length (frames_of all.state.components) ≡ parts =
-      length-map all.state.components.parts frame_of in
-      record {
-        few_channels = is.few_channels;
-        few_words = is.few_words;
-        untils = is.untils;
-        outside = is.outside;
-        room = rw goings room-left;
-        goings = rw goings (All-filter goes (λ (one : Going). channel_number one.channel < lanes)
-            old.stimuli.schedule.goings is.stimuli.goings);
-        lanes = rw goings (All-passing
-            (λ (one : Going). IsLane words (length (frames_of all.state.components)) one.lane)
-            (λ (one : Going). IsLane words parts one.lane) goes old.stimuli.schedule.goings
-            (λ one now sound. subst (λ n. IsLane words n one.lane) size sound) is.stimuli.lanes);
-        offers = rw offers (All-filter (λ (one : Offer). one.cycle == all.time)
-            (λ (one : Offer). one.number < lanes) old.stimuli.offers is.stimuli.offers);
-        now = rw offers (All-passing (λ (one : Offer). Unit {0})
-            (λ (one : Offer). one.cycle ≡ all.time) (λ (one : Offer). one.cycle == all.time)
-            old.stimuli.offers (λ one now any. grind (arith, nat_tests)) (λ k d within. tt));
-        fit = rw (goings, offers) fit-started;
-        counts = rw offers counts-now;
-        takes = rw takes (All-filter (λ (one : Take). one.cycle == all.time)
-            (λ (one : Take). one.number < lanes) old.stimuli.takes is.stimuli.takes);
-      }
+  module _ (rows : CycleRows) (goings : rows.goings.now ≡ goings_in (stimuli_with all.given) all.time)
+      (offers : rows.offers.now ≡ offers_in (stimuli_with all.given) all.time)
+      (takes : rows.takes.now ≡ takes_in (stimuli_with all.given) all.time) where
+    -- A cycle can be brought.
+    pub can-bring : CanBring all.state rows all.time
+    can-bring =
+        let lanes = length all.state.components.lanes in
+        let words = length all.state.components.words in
+        let parts = length all.state.components.parts in
+        let goes = λ (one : Going). one.lane.go == all.time in
+        let size : length (frames_of all.state.components) ≡ parts =
+        length-map all.state.components.parts frame_of in
+        record {
+          few_channels = is.few_channels;
+          few_words = is.few_words;
+          untils = is.untils;
+          outside = is.outside;
+          room = rw goings room-left;
+          goings = rw goings (All-filter goes (λ (one : Going). channel_number one.channel < lanes)
+              old.stimuli.schedule.goings is.stimuli.goings);
+          lanes = rw goings (All-passing
+              (λ (one : Going). IsLane words (length (frames_of all.state.components)) one.lane)
+              (λ (one : Going). IsLane words parts one.lane) goes old.stimuli.schedule.goings
+              (λ one now sound. subst (λ n. IsLane words n one.lane) size sound) is.stimuli.lanes);
+          offers = rw offers offers-known;
+          now = rw offers offers-now;
+          fit = rw (goings, offers) fit-started;
+          counts = rw offers counts-now;
+          takes = rw takes (All-filter (λ (one : Take). one.cycle == all.time)
+              (λ (one : Take). one.number < lanes) old.stimuli.takes is.stimuli.takes);
+        }
 
-  -- It was brought, and the components do its events.
-  module _ (brought : State) (has : IsBrought rows all.time all.state brought)
-      (events : rows.events.now ≡ events_in (stimuli_with all.given) all.time) where
-    -- What is brought is what a cycle does in which no rows enter tables, but for the components' own.
-    pub over : enterings_in old.routing all.time ≡ [] → seen_next all brought ≡ brought_over old
-    over none =
-        let behind = brought_over old in
-        let ready = ready_in old in
-        rw (has.components, has.outside, has.untils, has.replaced, goings, offers, takes)
-        (ap (λ (enterings : List Entering). record behind {
-          components = record ready {
-            parts = fold entered_with all.state.components.parts enterings;
-          };
-        }) (sym none))
+    -- It was brought, and the components do its events.
+    module _ (brought : State) (has : IsBrought rows all.time all.state brought)
+        (events : rows.events.now ≡ events_in (stimuli_with all.given) all.time) where
+      -- What is brought is what a cycle does in which no rows enter tables, but for the components' own.
+      pub over : enterings_in old.routing all.time ≡ [] → seen_next all brought ≡ brought_over old
+      over none =
+          let behind = brought_over old in
+          let ready = ready_in old in
+          rw (has.components, has.outside, has.untils, has.replaced, goings, offers, takes)
+          (ap (λ (enterings : List Entering). record behind {
+            components = record ready {
+              parts = fold entered_with all.state.components.parts enterings;
+            };
+          }) (sym none))
 
-    module _ (entered : ComponentsState) (tables : rows.tables.now ≡ all.given.tables)
-        (entering : IsBehind (λ one. one.cycle) all.time (later_rows (routing_with all.given))
-        all.cursors.entering rows.behind.entering) (enters : entered ≡ record brought.components {
-          parts = fold entered_with brought.components.parts
-              (slice_range (later_rows (routing_in rows.tables.now)) all.cursors.entering
-              rows.behind.entering);
-        }) where
-      ready : entered ≡ ready_in old
-      ready = enters
-          ∙ rw (has.components, has.untils, goings, offers, takes, tables, entering.rows_are) refl
+      module _ (entered : ComponentsState) (tables : rows.tables.now ≡ all.given.tables)
+          (entering : IsBehind (λ one. one.cycle) all.time (later_rows (routing_with all.given))
+          all.cursors.entering rows.behind.entering) (enters : entered ≡ record brought.components {
+            parts = fold entered_with brought.components.parts
+                (slice_range (later_rows (routing_in rows.tables.now)) all.cursors.entering
+                rows.behind.entering);
+          }) where
+        ready : entered ≡ ready_in old
+        ready = enters
+            ∙ rw (has.components, has.untils, goings, offers, takes, tables, entering.rows_are) refl
 
-      pub events-doable : All (IsDoable (frames_of entered)) rows.events.now
-      events-doable =
-          let frames = frames_of all.state.components in
-          let schedule = old.stimuli.schedule in
-          let from = passed (λ (cycle : ℕ). cycle) all.time schedule.cycles in
-          let to = passed (λ (cycle : ℕ). cycle) (all.time + 1) schedule.cycles in
-          rw (events, ready)
-          (subst (λ (list : List Frame). All (IsDoable list) (events_in old.stimuli all.time))
-          (sym (frames-ready (vec_capacity all.state.replaced) old is))
-          (subst (All (IsDoable frames)) (events-range all.time schedule.cycles schedule.events
-          is.stimuli.event_cycles is.stimuli.event_order)
-          (All-take (IsDoable frames) (to - from) (drop from schedule.events)
-          (All-drop (IsDoable frames) from schedule.events is.stimuli.events))))
+        pub events-doable : All (IsDoable (frames_of entered)) rows.events.now
+        events-doable =
+            let frames = frames_of all.state.components in
+            let schedule = old.stimuli.schedule in
+            let from = passed (λ (cycle : ℕ). cycle) all.time schedule.cycles in
+            let to = passed (λ (cycle : ℕ). cycle) (all.time + 1) schedule.cycles in
+            rw (events, ready)
+            (subst (λ (list : List Frame). All (IsDoable list) (events_in old.stimuli all.time))
+            (sym (frames-ready (vec_capacity all.state.replaced) old is))
+            (subst (All (IsDoable frames)) (events-range all.time schedule.cycles schedule.events
+            is.stimuli.event_cycles is.stimuli.event_order)
+            (All-take (IsDoable frames) (to - from) (drop from schedule.events)
+            (All-drop (IsDoable frames) from schedule.events is.stimuli.events))))
 
-      pub stepped-behind : (new : ComponentsState) → Cycle rows.events.now all.time entered new
-          → seen_next all (record brought { components = new }) ≡ stepped old
-      stepped-behind new did =
-          let done : Cycle (events_in old.stimuli all.time) all.time (ready_in old) new =
-          subst (λ (list : List Event). Cycle list all.time (ready_in old) new) events
-          (subst (λ (one : ComponentsState). Cycle rows.events.now all.time one new) ready did) in
-          rw (has.outside, has.untils, has.replaced, goings, offers)
-          (behind-is (vec_capacity all.state.replaced) old is new done)
+        pub stepped-behind : (new : ComponentsState) → Cycle rows.events.now all.time entered new
+            → seen_next all (record brought { components = new }) ≡ stepped old
+        stepped-behind new did =
+            let done : Cycle (events_in old.stimuli all.time) all.time (ready_in old) new =
+            subst (λ (list : List Event). Cycle list all.time (ready_in old) new) events
+            (subst (λ (one : ComponentsState). Cycle rows.events.now all.time one new) ready did) in
+            rw (has.outside, has.untils, has.replaced, goings, offers)
+            (behind-is (vec_capacity all.state.replaced) old is new done)

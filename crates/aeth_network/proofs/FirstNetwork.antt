@@ -50,6 +50,7 @@ use Rattle.aeth_schedule.proofs.Places.{on-few}
 use Rattle.aeth_network.proofs.FewGoings.{over-two}
 use Rattle.aeth_network.proofs.FirstGoings.{fresh-goings}
 use Rattle.aeth_network.proofs.Passed.{passed-first}
+use Rattle.aeth_network.proofs.QuietPlaces.{quiet-first}
 use Rattle.aeth_network.proofs.WindowLemmas.{over-none}
 
 -- The channels of connections have no more words than twice so often the most rows.
@@ -159,14 +160,20 @@ module _ (inputs : Inputs) (accepted : AreAccepted inputs) (routing : Routing)
 -- All places are the first.
 pub AreCursors-first : (cursors : Cursors) (all : Stimuli) (routing : Routing) → cursors.event ≡ 0
     → cursors.going ≡ 0 → cursors.offer ≡ 0 → cursors.take ≡ 0 → cursors.window ≡ 0
-    → cursors.entering ≡ 0 → AreCursors cursors 0 all routing
-AreCursors-first cursors all routing event going offer take window entering = record {
+    → cursors.entering ≡ 0 → cursors.quiet_until ≡ 0 → AreCursors cursors 0 all routing
+AreCursors-first cursors all routing event going offer take window entering quiet = record {
   event_is = event ∙ sym (passed-first (λ (cycle : ℕ). cycle) all.schedule.cycles);
   going_is = going ∙ sym (passed-first (λ (one : Going). one.lane.go) all.schedule.goings);
   offer_is = offer ∙ sym (passed-first (λ (one : Offer). one.cycle) all.offers);
   take_is = take ∙ sym (passed-first (λ (one : Take). one.cycle) all.takes);
   window_is = over-none cursors.window 0 all.schedule.windows window;
   entering_is = entering ∙ sym (passed-first (λ (one : Entering). one.cycle) (later_rows routing));
+  quiet = record {
+    events = quiet-first (λ (cycle : ℕ). cycle) _ _ all.schedule.cycles quiet;
+    goings = quiet-first (λ (one : Going). one.lane.go) _ _ all.schedule.goings quiet;
+    takes = quiet-first (λ (one : Take). one.cycle) _ _ all.takes quiet;
+    enterings = quiet-first (λ (one : Entering). one.cycle) _ _ (later_rows routing) quiet;
+  };
 }
 
 -- The components can do what is written before the first cycle, whatever the kind of routers.

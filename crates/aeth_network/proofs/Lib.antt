@@ -21,6 +21,7 @@ mod NextBusy
 mod Passed
 pub mod Playing
 mod PullLemmas
+mod QuietPlaces
 mod Ready
 mod Replaced
 mod RestingLanes
@@ -32,3 +33,4 @@ mod Skipping
 mod Stepping
 mod TellingLemmas
 mod WindowLemmas
+mod WordCycles

@@ -28,7 +28,7 @@ use Rattle.aeth_network.proofs.Cycling.{over}
 use Rattle.aeth_network.proofs.NextBusy.{played-sum}
 use Rattle.aeth_network.proofs.Playing.{cycles-of, many-of, played-log, played-more, played-none}
 use Rattle.aeth_network.proofs.Playing.{played-time}
-use Rattle.aeth_network.proofs.RestingLanes.{passed-rises}
+use Rattle.aeth_network.proofs.QuietPlaces.{passed-to}
 use Rattle.aeth_network.proofs.SeenNetworks.{Becomes, in-order, seen, seen_next}
 use Rattle.aeth_network.proofs.Skipping.{IsNetwork-played, cursors-behind, over-stepped}
 use Rattle.aeth_network.proofs.Skipping.{rested-is, rests-as}
@@ -80,11 +80,9 @@ pub place-rises : (takes rows : List Take) → rows ≡ takes → (place time to
     → place ≤ passed (λ one. one.cycle) to rows
 place-rises takes rows are place time to is le =
     let key = λ (one : Take). one.cycle in
-    let more = passed-rises key time (to - time) takes in
-    let end : time + (to - time) ≡ to = omega arith in
-    let later = ap (λ n. passed key n takes) end in
+    let more = passed-to key time to takes le in
     let same = ap (passed key to) are in
-    omega (arith, more, later, same, is)
+    omega (arith, more, same, is)
 
 -- Later cycles leave a network, up to one.
 pub record MayRest (all : NetworkState) (to : ℕ) : Type 0 where

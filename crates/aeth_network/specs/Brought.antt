@@ -2,16 +2,19 @@
 --
 --   CanBring      the state has room for what comes
 --   IsBrought      the state with what has come
+--   BringsWords      nothing but words comes
 -- This project's own.
-use Rattle.std.specs.Prelude.{◌≡◌, ◌≤◌, ◌<◌, ◌*◌, ◌+◌, ◌++◌, ◌^◌, ℕ, All, fold, length, map}
+use Rattle.std.specs.Prelude.{◌≡◌, ◌≤◌, ◌<◌, ◌*◌, ◌+◌, ◌++◌, ◌^◌, ℕ, [], All, fold, length, map}
 use Rattle.std.specs.Prelude.{vec_capacity}
 use Rattle.std.specs.List.{slice_index_or}
 use Rattle.aeth_app.specs.Limits.{max_connections}
 use Rattle.aeth_trace.specs.Channels.{channel_number}
 use Rattle.aeth_components.specs.Lanes.{IsLane}
 use Rattle.aeth_stimuli.specs.Loaded.{no_lane}
-use Rattle.aeth_running.specs.Network.{accepted_with, gone_with, outside_with, taking_with}
-use Rattle.aeth_running.specs.Network.{until_with}
+use Rattle.aeth_events.specs.Events.{events_in}
+use Rattle.aeth_running.specs.Network.{NetworkState, accepted_with, gone_with, goings_in}
+use Rattle.aeth_running.specs.Network.{outside_with, takes_in, taking_with, until_with}
+use Rattle.aeth_running.specs.Routing.{enterings_in}
 use Rattle.aeth_network.specs.Fits.{AreFit, HaveCounts}
 use Rattle.aeth_network.specs.declared.given.CycleRows.{CycleRows}
 use Rattle.aeth_network.specs.declared.state.State.{State}
@@ -50,3 +53,11 @@ pub record IsBrought (rows : CycleRows) (time : ℕ) (old new : State) : Type 0 
       ++ map (λ one. slice_index_or old.components.lanes (channel_number one.channel) no_lane)
       rows.goings.now
   pub capacity : vec_capacity old.replaced ≤ vec_capacity new.replaced
+
+-- A network's next cycle brings nothing but words: it has no events, no session goes, no row of a
+-- receiver comes, and no rows enter tables.
+pub record BringsWords (all : NetworkState) : Type 0 where
+  pub eventless : events_in all.stimuli all.time ≡ []
+  pub ungone : goings_in all.stimuli all.time ≡ []
+  pub untaken : takes_in all.stimuli all.time ≡ []
+  pub unentered : enterings_in all.routing all.time ≡ []

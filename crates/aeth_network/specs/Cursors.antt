@@ -2,10 +2,11 @@
 --
 --   stimuli_with, routing_with      what a network is given, and by what its routers send on
 --   AreInOrder      what is given comes in the order of cycles
+--   IsQuietUntil      a cycle before which no row comes from places on but those of words
 --   AreCursors      the places in the events, the sessions, the offered words, the receivers' rows, the
 --       windows of switches, and the rows that enter tables
 -- This project's own.
-use Rattle.std.specs.Prelude.{◌≡◌, ℕ, length}
+use Rattle.std.specs.Prelude.{◌≡◌, ◌≤◌, ℕ, length}
 use Rattle.std.specs.List.Sorted.{IsNonDecreasing, IsNonDecreasingBy}
 use Rattle.aeth_stimuli.specs.Stimuli.{Stimuli}
 use Rattle.aeth_running.specs.Routing.{Routing, later_rows}
@@ -37,6 +38,14 @@ pub record AreInOrder (all : Stimuli) (routing : Routing) : Type 0 where
   pub takes : IsNonDecreasingBy (λ one. one.cycle) all.takes
   pub enterings : IsNonDecreasingBy (λ one. one.cycle) (later_rows routing)
 
+-- No row but those of words lies behind the places and before the cycle that is noted beside them.
+pub record IsQuietUntil (cursors : Cursors) (all : Stimuli) (routing : Routing) : Type 0 where
+  pub events : passed (λ cycle. cycle) cursors.quiet_until all.schedule.cycles ≤ cursors.event
+  pub goings : passed (λ one. one.lane.go) cursors.quiet_until all.schedule.goings ≤ cursors.going
+  pub takes : passed (λ one. one.cycle) cursors.quiet_until all.takes ≤ cursors.take
+  pub enterings : passed (λ one. one.cycle) cursors.quiet_until (later_rows routing)
+      ≤ cursors.entering
+
 -- Each place is the number of rows that lie before a cycle; before that of the windows all are over.
 pub record AreCursors (cursors : Cursors) (time : ℕ) (all : Stimuli) (routing : Routing) : Type 0
   where
@@ -46,3 +55,4 @@ pub record AreCursors (cursors : Cursors) (time : ℕ) (all : Stimuli) (routing 
     pub take_is : cursors.take ≡ passed (λ one. one.cycle) time all.takes
     pub window_is : AreOver cursors.window time all.schedule.windows
     pub entering_is : cursors.entering ≡ passed (λ one. one.cycle) time (later_rows routing)
+    pub quiet : IsQuietUntil cursors all routing

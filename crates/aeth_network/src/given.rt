@@ -6,15 +6,15 @@ ghost use Rattle.aeth_events.specs.Events.{events_in};
 ghost use Rattle.aeth_running.specs.Network.{goings_in, offers_in, takes_in};
 ghost use Rattle.aeth_stimuli.specs.Stimuli.{stimuli_of};
 ghost use Rattle.aeth_running.specs.Routing.{later_rows};
-ghost use Rattle.aeth_network.specs.Behind.{IsBehind};
+ghost use Rattle.aeth_network.specs.Behind.{IsBehind, passed};
 ghost use Rattle.aeth_network.specs.Cursors.{AreCursors, AreInOrder, routing_with, stimuli_with};
 ghost use Rattle.aeth_network.specs.Next.{HasOffer, HasWindow};
 ghost use Rattle.aeth_network.specs.Routes.{routing_in};
 ghost use Rattle.aeth_network.specs.Windows.{AreAscending};
 
 use crate::next::next_offer;
-use crate::places::behind;
-use crate::routing::behind_entering;
+use crate::places::{behind, quiet_until};
+use crate::routing::{behind_entering, unentered_until};
 use crate::rows::{Offered, Taking, offers_of, takes_of};
 use crate::tables::UseTables;
 use crate::windows::{next_window, place_behind};
@@ -35,7 +35,8 @@ pub(crate) struct Given {
 }
 
 // How far a network is in its events, its sessions, its words, the rows of receivers, the windows of its
-// switches, and the rows that enter tables.
+// switches, and the rows that enter tables; and a cycle before which no row comes from these places on but
+// those of words.
 #[derive(Clone, Copy)]
 pub(crate) struct Cursors {
     pub event: usize,
@@ -44,6 +45,7 @@ pub(crate) struct Cursors {
     pub take: usize,
     pub window: usize,
     pub entering: usize,
+    pub quiet_until: u32,
 }
 
 // What a cycle brings, with the tables of routers, and the places behind it.
@@ -124,7 +126,26 @@ impl Given {
                 take,
                 window,
                 entering,
+                quiet_until: self.quiet_until(event, going, take, entering),
             },
         }
+    }
+
+    // A cycle before which no event comes from these places on, no session goes, no row of a receiver
+    // comes, and no rows enter tables.
+    fn quiet_until(&self, event: usize, going: usize, take: usize, entering: usize) -> u32
+        requires { AreInOrder (stimuli_with self.now) (routing_with self.now) }
+        ensures events { passed (λ cycle. cycle) result (stimuli_with self.now).schedule.cycles
+            ≤ event }
+        ensures goings { passed (λ one. one.lane.go) result (stimuli_with self.now).schedule.goings
+            ≤ going }
+        ensures takes { passed (λ one. one.cycle) result (stimuli_with self.now).takes ≤ take }
+        ensures enterings { passed (λ one. one.cycle) result (later_rows (routing_with self.now))
+            ≤ entering }
+    {
+        let until = quiet_until(self.schedule.cycles(), event, u32::MAX);
+        let until = quiet_until(self.schedule.goings(), going, until);
+        let until = quiet_until(&self.takes, take, until);
+        unentered_until(&self.tables, entering, until)
     }
 }

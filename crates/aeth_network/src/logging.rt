@@ -141,7 +141,7 @@ fn first_rows(alloc: Global, words: &Words, going: &Going) -> Result<Vec<Landing
     ensures { IfOk result (λ rows. rows.items
         ≡ map (first_row words.now going.now) (range_with_len 0 going.now.count)) }
 {
-    let mut rows = Vec::new(alloc);
+    let mut rows = Vec::with_capacity(alloc, going.count as usize)?;
     let mut due = Due::new(&going.shape);
     for place in 0..going.count {
         let word = words.nth_word(going.channel, going.before as usize + place as usize);

@@ -10,15 +10,17 @@ ghost use Rattle.aeth_running.specs.Routing.{ByHeaders, IsRoutingFor};
 ghost use Rattle.aeth_running.specs.Quiet.{AreStill, IsNextBusy};
 ghost use Rattle.aeth_running.specs.Still.{IsStill};
 ghost use Rattle.aeth_running.specs.Told.{told};
+ghost use Rattle.aeth_network.specs.Brought.{BringsWords};
 ghost use Rattle.aeth_network.specs.Cursors.{routing_with, stimuli_with};
 ghost use Rattle.aeth_network.specs.First.{IsFirstState};
 ghost use Rattle.aeth_network.specs.Routes.{routing_in};
 ghost use Rattle.aeth_network.specs.Runs.{AreWiresOf, IsNetworkOf};
 
 use crate::given::{Cursors, Given};
-use crate::giving::take;
+use crate::giving::{offer, take};
 use crate::logging::first_log;
 use crate::next::{next_own, next_taking, place_before};
+use crate::places::behind;
 use crate::routing::enter;
 use crate::state::{State, run};
 use crate::tables::UseTables;
@@ -135,7 +137,8 @@ impl RoutedNetwork {
         self.cycle_from::<Brand>(order, Blank::new(1));
     }
 
-    /// The same, which counts the steps of components: each that drives or latches. All others rest.
+    /// The same, which counts the steps of components: each that sends, and each flit that one latches or
+    /// passes on. All others rest.
     pub fn cycle_counted<L: Ledger>(&mut self, order: &Order, steps: &mut Steps<L>)
         requires order { length order.now ≡ length self.old.components.parts }
         requires time { self.old.time < self.old.log.cycles }
@@ -143,6 +146,48 @@ impl RoutedNetwork {
         ensures parts { length self.new.components.parts ≡ length self.old.components.parts }
         ensures run { (inputs : Inputs) → IsNetworkOf inputs self.old
             → IsNetworkOf inputs self.new }
+        ensures counted { steps.new ≤ steps.old + 2 * flits_on self.old.components.wires
+            + 2 * flits_on self.new.components.wires }
+    {
+        if self.time < self.cursors.quiet_until {
+            self.cycle_with_words(order, steps);
+        } else {
+            self.cycle_with_rows(order, steps);
+        }
+    }
+
+    // One more cycle, which brings nothing but words. No other place moves.
+    fn cycle_with_words<L: Ledger>(&mut self, order: &Order, steps: &mut Steps<L>)
+        requires order { length order.now ≡ length self.old.components.parts }
+        requires time { self.old.time < self.old.log.cycles }
+        requires words { BringsWords self.old }
+        ensures steps { self.new ≡ stepped self.old }
+        ensures parts { length self.new.components.parts ≡ length self.old.components.parts }
+        ensures counted { steps.new ≤ steps.old + 2 * flits_on self.old.components.wires
+            + 2 * flits_on self.new.components.wires }
+    {
+        let first = self.cursors.offer;
+        let last = behind(&self.given.offers, first, self.time);
+        offer(
+            &mut self.state.components,
+            &self.state.untils,
+            &mut self.state.outside,
+            &self.given.offers[first..last],
+            self.time,
+        );
+        self.state
+            .components
+            .step_counted(order, self.time, &[], steps);
+        self.cursors.offer = last;
+        self.time += 1;
+    }
+
+    // One more cycle, whatever it brings.
+    fn cycle_with_rows<L: Ledger>(&mut self, order: &Order, steps: &mut Steps<L>)
+        requires order { length order.now ≡ length self.old.components.parts }
+        requires time { self.old.time < self.old.log.cycles }
+        ensures steps { self.new ≡ stepped self.old }
+        ensures parts { length self.new.components.parts ≡ length self.old.components.parts }
         ensures counted { steps.new ≤ steps.old + 2 * flits_on self.old.components.wires
             + 2 * flits_on self.new.components.wires }
     {
@@ -207,10 +252,12 @@ impl RoutedNetwork {
         ensures run { (inputs : Inputs) → IsNetworkOf inputs self.old
             → IsNetworkOf inputs self.new }
     {
-        if self.time == 0 && to > 0 {
-            self.begin();
+        if self.time < to {
+            if self.time == 0 {
+                self.begin();
+            }
+            self.rest(to);
         }
-        self.rest(to);
     }
 
     // Passes over cycle 0, in which sessions go.
@@ -324,6 +371,7 @@ fn with_state(
             take: 0,
             window: 0,
             entering: 0,
+            quiet_until: 0,
         },
         state,
         log,

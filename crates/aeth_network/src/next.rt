@@ -107,7 +107,7 @@ fn next_by_row(
     }
 }
 
-// The first cycle from one on, and below a limit, in which a component sends words of its own as it
+// The first cycle from one on, and below a limit, in which a component sends words or credits as it
 // stands. Where nothing is left below the limit no component is looked at.
 pub(crate) fn next_own(components: &Components, time: u32, to: u32) -> u32
     requires { time ≤ to }

@@ -1,6 +1,6 @@
 // The place behind the rows of a cycle, in rows whose cycles don't fall.
 
-ghost use Rattle.std.specs.Prelude.{◌≡◌, ◌==◌, ℕ};
+ghost use Rattle.std.specs.Prelude.{◌≡◌, ◌≤◌, ◌==◌, ℕ, min};
 ghost use Rattle.std.specs.List.Sorted.{IsNonDecreasingBy};
 ghost use Rattle.aeth_network.specs.Behind.{IsBehind, passed};
 
@@ -16,6 +16,10 @@ pub(crate) trait InCycle {
     // Whether it is brought in this one.
     fn is_in(&self, time: u32) -> bool
         ensures { result ≡ (cycle self.now == time) };
+
+    // Its cycle, but at most a limit.
+    fn cycle_up_to(&self, limit: u32) -> u32
+        ensures { result ≡ min (cycle self.now) limit };
 }
 
 // The cycle of an event.
@@ -25,6 +29,10 @@ impl InCycle for u32 {
     fn is_in(&self, time: u32) -> bool {
         *self == time
     }
+
+    fn cycle_up_to(&self, limit: u32) -> u32 {
+        (*self).min(limit)
+    }
 }
 
 impl InCycle for Going {
@@ -32,6 +40,10 @@ impl InCycle for Going {
 
     fn is_in(&self, time: u32) -> bool {
         self.lane.go == time
+    }
+
+    fn cycle_up_to(&self, limit: u32) -> u32 {
+        self.lane.go.min(limit)
     }
 }
 
@@ -41,6 +53,10 @@ impl InCycle for Offered {
     fn is_in(&self, time: u32) -> bool {
         self.cycle == time
     }
+
+    fn cycle_up_to(&self, limit: u32) -> u32 {
+        self.cycle.min(limit)
+    }
 }
 
 impl InCycle for Taking {
@@ -49,6 +65,10 @@ impl InCycle for Taking {
     fn is_in(&self, time: u32) -> bool {
         self.cycle == time
     }
+
+    fn cycle_up_to(&self, limit: u32) -> u32 {
+        self.cycle.min(limit)
+    }
 }
 
 impl InCycle for EnteredUse {
@@ -56,6 +76,10 @@ impl InCycle for EnteredUse {
 
     fn is_in(&self, time: u32) -> bool {
         self.cycle == time as u64
+    }
+
+    fn cycle_up_to(&self, limit: u32) -> u32 {
+        self.cycle.min(u64::from(limit)) as u32
     }
 }
 
@@ -70,4 +94,17 @@ pub(crate) fn behind<T: InCycle>(rows: &[T], from: usize, time: u32) -> usize
         place += 1;
     }
     place
+}
+
+// A cycle, at most a limit, before which none of the rows from a place on is brought.
+pub(crate) fn quiet_until<T: InCycle>(rows: &[T], place: usize, limit: u32) -> u32
+    requires { IsNonDecreasingBy T.cycle rows.now }
+    ensures most { result ≤ limit }
+    ensures quiet { passed T.cycle result rows.now ≤ place }
+{
+    if place < rows.len() {
+        rows[place].cycle_up_to(limit)
+    } else {
+        limit
+    }
 }

@@ -33,6 +33,18 @@ pub(crate) fn behind_entering(tables: &Option<UseTables>, from: usize, time: u32
     }
 }
 
+// A cycle, at most a limit, before which none of the rows from a place on enters tables.
+pub(crate) fn unentered_until(tables: &Option<UseTables>, place: usize, limit: u32) -> u32
+    requires { IsNonDecreasingBy (λ one. one.cycle) (later_rows (routing_in tables.now)) }
+    ensures most { result ≤ limit }
+    ensures quiet { passed (λ one. one.cycle) result (later_rows (routing_in tables.now)) ≤ place }
+{
+    match tables {
+        None => limit,
+        Some(tables) => tables.quiet_until(place, limit),
+    }
+}
+
 // The first rows enter the tables of components, if these have any.
 pub(crate) fn enter_first(tables: &Option<UseTables>, components: &mut Components)
     requires { All (TakesRows (first_rows (routing_in tables.now))) components.old.parts }

@@ -11,7 +11,7 @@ ghost use Rattle.aeth_schedule.specs.Switching.{later_switches, switches_from};
 ghost use Rattle.aeth_network.specs.Behind.{IsBehind, passed};
 ghost use Rattle.aeth_network.specs.Routes.{entered_by, entered_use, first_use, routing_by, rows_in};
 
-use crate::places::behind;
+use crate::places::{behind, quiet_until};
 use aeth_accepted::RunInputs;
 use aeth_base::{NoMemory, UseId};
 use aeth_components::{Components, RouterKind};
@@ -126,6 +126,15 @@ impl UseTables {
         ensures { IsBehind (λ one. one.cycle) time (later_rows self.now) from result }
     {
         behind(&self.later, from, time)
+    }
+
+    // A cycle, at most a limit, before which none of the rows from a place on enters.
+    pub(crate) fn quiet_until(&self, place: usize, limit: u32) -> u32
+        requires { IsNonDecreasingBy (λ one. one.cycle) (later_rows self.now) }
+        ensures most { result ≤ limit }
+        ensures quiet { passed (λ one. one.cycle) result (later_rows self.now) ≤ place }
+    {
+        quiet_until(&self.later, place, limit)
     }
 
     // The first rows enter the tables of components.

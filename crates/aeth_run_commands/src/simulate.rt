@@ -22,8 +22,8 @@ use std::alloc::Global;
 /// The greatest turn that a command asks for.
 const MAX_TURN: u32 = 1_000_000;
 
-/// The run that a simulation shows: of so many cycles, in which the components take their turns in the
-/// order that begins with the turn.
+/// The run that a simulation shows: of so many cycles, in an order of the components that begins with the
+/// turn. Each order shows the same.
 #[derive(Drop)]
 pub struct SimulatedRun<'a> {
     pub files: RunFiles<'a>,

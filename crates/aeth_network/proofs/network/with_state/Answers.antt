@@ -46,7 +46,7 @@ invariant_of-result c =
     let capacity = vec_capacity c.args.state.replaced in (
       subst (IsNetwork capacity) (sym (same c)) (IsNetwork-first inputs accepted
           (routing_with c.args.given) c.requires.routed (c.stimuli_are_stimuli.ensures inputs accepted) capacity c.requires.state.capacity),
-      AreCursors-first _ _ _ refl refl refl refl refl refl,
+      AreCursors-first _ _ _ refl refl refl refl refl refl refl,
       record { inputs = inputs; of = first-of inputs accepted _ c.requires.routed _ (same c) },
     )
 

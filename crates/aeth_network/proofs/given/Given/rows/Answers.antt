@@ -35,4 +35,10 @@ returns-clause-behind c =
       window_is = subst (AreOver c.place_behind-window.result next) c.windows.ensures
           c.place_behind-window.ensures;
       entering_is = c.behind_entering-entering.ensures.place;
+      quiet = record {
+        events = c.quiet_until.ensures.events;
+        goings = c.quiet_until.ensures.goings;
+        takes = c.quiet_until.ensures.takes;
+        enterings = c.quiet_until.ensures.enterings;
+      };
     }

@@ -1,11 +1,9 @@
-use Rattle.std.proofs.Common.{◌∙◌, ap, arith, length}
+use Rattle.std.proofs.Common.{◌-◌, ◌∙◌, ap, arith, sym}
 use Rattle.aeth_running.specs.Network.{NetworkState}
+use Rattle.aeth_network.proofs.Playing.{played-none}
 use Rattle.aeth_network.proofs.Skipped.{IsBegun, begun-first, begun-later, skipped-of}
 use Rattle.aeth_network.proofs.Skipped.{still-nothing}
-use Rattle.aeth_network.proofs.network.RoutedNetwork.skip.Goals.{else-self-eq0}
-use Rattle.aeth_network.proofs.network.RoutedNetwork.skip.Goals.{then-self-eq0+then-to-gt0}
-use Rattle.aeth_network.proofs.network.RoutedNetwork.skip.Goals.{else-self-eq0-via-else-self-eq0}
-use Rattle.aeth_network.proofs.network.RoutedNetwork.skip.Goals.{else-self-eq0-via-then-self-eq0+else-to-gt0}
+use Rattle.aeth_network.proofs.network.RoutedNetwork.skip.Goals.{else-self-eq0, then-self-eq0}
 use Rattle.aeth_network.proofs.network.RoutedNetwork.skip.Goals as goal
 
 -- Cycle 0 is to be passed over, and leaves the network.
@@ -13,7 +11,7 @@ pub begin-requires-clause-still : goal.begin-requires-clause-still
 begin-requires-clause-still c =
     let time = ap (λ (all : NetworkState). all.time) c.self.view_is in
     let start = c.if-self-eq0.true in
-    let some = c.if-to-gt0.true in
+    let some = c.if-self-to.true in
     still-nothing c.args.self.now (c.requires.still 0 (omega arith))
 
 -- It is passed over, if it was to be.
@@ -22,20 +20,15 @@ begun c =
     let time = ap (λ (all : NetworkState). all.time) c.self.view_is in
     let from = c.requires.from in
     elim c.if-self-eq0.branch [
-      | then-self-eq0+then-to-gt0 w ↦
+      | then-self-eq0 w ↦
           let start = w.if-self-eq0.true in
+          let some = c.if-self-to.true in
           begun-first c.args.self.now c.if-self-eq0.self c.args.to (w.self-is ∙ w.begin.ensures.steps)
-          (omega arith) w.if-to-gt0.true c.requires.to c.requires.still
+          (omega arith) (omega arith) c.requires.to c.requires.still
       | else-self-eq0 w ↦
           begun-later c.args.self.now c.if-self-eq0.self c.args.to w.self-is
-          (λ some. elim w.else-self-eq0.branch [
-            | else-self-eq0-via-then-self-eq0+else-to-gt0 v ↦
-                let none = v.if-to-gt0.false in
-                omega arith
-            | else-self-eq0-via-else-self-eq0 v ↦
-                let other = v.if-self-eq0.false in
-                omega arith
-          ]) c.requires.from c.requires.to c.requires.still
+          (λ some. let other = w.if-self-eq0.false in omega arith) c.requires.from c.requires.to
+          c.requires.still
     ]
 
 -- So later ones are left.
@@ -52,31 +45,18 @@ pub rest-requires-clause-still : goal.rest-requires-clause-still
 rest-requires-clause-still c = (begun c).may.still
 
 -- All of them are played.
-pub returns-clause-played : goal.returns-clause-played
-returns-clause-played c = c.rest.ensures.played ∙ (begun c.before).played_is
-
--- No component comes or goes.
-pub returns-clause-parts : goal.returns-clause-parts
-returns-clause-parts c = elim c.if-self-eq0.branch [
-  | then-self-eq0+then-to-gt0 w ↦
-      c.rest.ensures.parts ∙ ap (λ (all : NetworkState). length all.components.parts) w.self-is
-      ∙ w.begin.ensures.parts
-  | else-self-eq0 w ↦
-      c.rest.ensures.parts ∙ ap (λ (all : NetworkState). length all.components.parts) w.self-is
-]
-
--- No wire changes.
-pub returns-clause-wires : goal.returns-clause-wires
-returns-clause-wires c = elim c.if-self-eq0.branch [
-  | then-self-eq0+then-to-gt0 w ↦
-      c.rest.ensures.wires ∙ ap (λ (all : NetworkState). all.components.wires) w.self-is
-      ∙ w.begin.ensures.wires
-  | else-self-eq0 w ↦
-      c.rest.ensures.wires ∙ ap (λ (all : NetworkState). all.components.wires) w.self-is
-]
+pub returns-after-self-eq0-clause-played : goal.returns-after-self-eq0-clause-played
+returns-after-self-eq0-clause-played c = c.rest.ensures.played ∙ (begun c.before).played_is
 
 -- A network of accepted inputs stays theirs.
-pub returns-clause-run : goal.returns-clause-run
-returns-clause-run c = λ inputs of.
+pub returns-after-self-eq0-clause-run : goal.returns-after-self-eq0-clause-run
+returns-after-self-eq0-clause-run c = λ inputs of.
     skipped-of inputs c.args.self.now _ c.args.to c.requires.from c.requires.to
-    (returns-clause-played c) of
+    (returns-after-self-eq0-clause-played c) of
+
+-- None is to be passed over.
+pub returns-else-self-to-clause-played : goal.returns-else-self-to-clause-played
+returns-else-self-to-clause-played c =
+    let time = ap (λ (all : NetworkState). all.time) c.self.view_is in
+    let past = c.if-self-to.false in
+    sym (played-none (c.args.to - c.args.self.now.time) c.args.self.now (omega arith))

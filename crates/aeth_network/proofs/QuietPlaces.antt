@@ -1,0 +1,123 @@
+-- Places behind which nothing but words comes before a cycle.
+use Rattle.std.proofs.Common.{◌≡◌, ◌≤◌, ◌<◌, ◌+◌, ◌-◌, ◌==◌, ◌∙◌, ℕ, List, [], ap, arith, drop, filter}
+use Rattle.std.proofs.Common.{sym, take}
+use Rattle.std.specs.Prelude.{slice_range}
+use Rattle.std.specs.List.Sorted.{IsNonDecreasingBy}
+use Rattle.aeth_schedule.specs.declared.going.Going.{Going}
+use Rattle.aeth_stimuli.specs.Stimuli.{Take}
+use Rattle.aeth_events.specs.Events.{events_in}
+use Rattle.aeth_running.specs.Network.{NetworkState}
+use Rattle.aeth_running.specs.Routing.{Entering, later_rows}
+use Rattle.aeth_network.specs.Behind.{passed}
+use Rattle.aeth_network.specs.Brought.{BringsWords}
+use Rattle.aeth_network.specs.Cursors.{AreCursors, AreInOrder}
+use Rattle.aeth_network.specs.declared.given.Cursors.{Cursors}
+use Rattle.aeth_network.proofs.MappedRows.{events-range}
+use Rattle.aeth_network.proofs.Passed.{passed-first, passed-range}
+use Rattle.aeth_network.proofs.Ready.{length-in}
+use Rattle.aeth_network.proofs.RestingLanes.{passed-rises}
+use Rattle.aeth_network.proofs.Skipping.{events-still}
+use Rattle.aeth_network.proofs.WindowLemmas.{over-later}
+
+-- As many rows lie before a later cycle, or more.
+pub passed-to : {X : Type 0} (key : X → ℕ) (from to : ℕ) (xs : List X) → from ≤ to
+    → passed key from xs ≤ passed key to xs
+passed-to key from to xs le =
+    let rises = passed-rises key from (to - from) xs in
+    let end : from + (to - from) ≡ to = omega arith in
+    let same = ap (λ n. passed key n xs) end in
+    omega (arith, rises, same)
+
+-- Before the first cycle there is none, up to any place.
+pub quiet-first : {X : Type 0} (key : X → ℕ) (until place : ℕ) (xs : List X) → until ≡ 0
+    → passed key until xs ≤ place
+quiet-first key until place xs first =
+    let none = ap (λ n. passed key n xs) first ∙ passed-first key xs in
+    omega (arith, none)
+
+-- What lies before a cycle up to a place, does so before a sooner one.
+pub quiet-sooner : {X : Type 0} (key : X → ℕ) (until sooner place : ℕ) (rows xs : List X)
+    → rows ≡ xs → sooner ≤ until → passed key until rows ≤ place → passed key sooner xs ≤ place
+quiet-sooner key until sooner place rows xs is le quiet =
+    let fewer = passed-to key sooner until xs le in
+    let same = ap (passed key until) is in
+    omega (arith, fewer, same, quiet)
+
+-- A range that ends where it starts is empty.
+range-none : {X : Type 0} (xs : List X) (from to : ℕ) → to ≤ from → slice_range xs from to ≡ []
+range-none {X} xs from to le =
+    let none : to - from ≡ 0 = omega arith in
+    ap (λ n. take n (drop from xs)) none
+
+-- No more rows lie before the next cycle than before this one.
+module _ {X : Type 0} (key : X → ℕ) (t until place : ℕ) (xs : List X) (place_is : place ≡ passed key t xs)
+    (quiet : passed key until xs ≤ place) (before : t < until) where
+  no-more : passed key (t + 1) xs ≤ passed key t xs
+  no-more =
+      let more = passed-to key (t + 1) until xs (omega arith) in
+      omega (arith, more, quiet, place_is)
+
+  -- So none is of this one.
+  none-now : IsNonDecreasingBy key xs → filter (λ one. key one == t) xs ≡ []
+  none-now rises =
+      sym (passed-range key t xs rises) ∙ range-none xs (passed key t xs) (passed key (t + 1) xs) no-more
+
+-- A cycle before the quiet one brings nothing but words.
+pub brings-words : (cursors : Cursors) (all : NetworkState) → AreInOrder all.stimuli all.routing
+    → AreCursors cursors all.time all.stimuli all.routing → all.time < cursors.quiet_until
+    → BringsWords all
+brings-words cursors all order at before =
+    let t = all.time in
+    let until = cursors.quiet_until in
+    let cycles = all.stimuli.schedule.cycles in
+    let events = all.stimuli.schedule.events in
+    let cycle = λ (one : ℕ). one in
+    record {
+      eventless = sym (events-range t cycles events order.event_cycles order.events)
+          ∙ range-none events (passed cycle t cycles) (passed cycle (t + 1) cycles)
+          (no-more cycle t until cursors.event cycles at.event_is at.quiet.events before);
+      ungone = none-now (λ (one : Going). one.lane.go) t until cursors.going
+          all.stimuli.schedule.goings at.going_is at.quiet.goings before order.goings;
+      untaken = none-now (λ (one : Take). one.cycle) t until cursors.take all.stimuli.takes
+          at.take_is at.quiet.takes before order.takes;
+      unentered = none-now (λ (one : Entering). one.cycle) t until cursors.entering
+          (later_rows all.routing) at.entering_is at.quiet.enterings before order.enterings;
+    }
+
+-- As many rows lie before the next cycle where none is of this one.
+passed-next : {X : Type 0} (key : X → ℕ) (t : ℕ) (xs : List X) → IsNonDecreasingBy key xs
+    → filter (λ one. key one == t) xs ≡ [] → passed key (t + 1) xs ≡ passed key t xs
+passed-next key t xs rises none =
+    let size = length-in key t xs [] (passed-range key t xs rises ∙ none) in
+    omega (arith, size)
+
+-- Behind such a cycle only the place in the words has moved.
+pub cursors-words : (cursors : Cursors) (all : NetworkState) (last : ℕ)
+    → AreInOrder all.stimuli all.routing → AreCursors cursors all.time all.stimuli all.routing
+    → BringsWords all → last ≡ passed (λ one. one.cycle) (all.time + 1) all.stimuli.offers
+    → AreCursors (record cursors { offer = last }) (all.time + 1) all.stimuli all.routing
+cursors-words cursors all last order at brings is =
+    let t = all.time in
+    let quiet = at.quiet in
+    let going = λ (one : Going). one.lane.go in
+    let taking = λ (one : Take). one.cycle in
+    let entering = λ (one : Entering). one.cycle in
+    record {
+      event_is = at.event_is ∙ sym (events-still all.stimuli all.routing order t 1
+          (λ j less.
+          let same : t + j ≡ t = omega arith in
+          ap (events_in all.stimuli) same ∙ brings.eventless));
+      going_is = at.going_is ∙ sym (passed-next going t all.stimuli.schedule.goings order.goings brings.ungone);
+      offer_is = is;
+      take_is = at.take_is ∙ sym (passed-next taking t all.stimuli.takes order.takes brings.untaken);
+      window_is = over-later cursors.window t (t + 1) all.stimuli.schedule.windows (omega arith)
+          at.window_is;
+      entering_is = at.entering_is
+          ∙ sym (passed-next entering t (later_rows all.routing) order.enterings brings.unentered);
+      quiet = record {
+        events = quiet.events;
+        goings = quiet.goings;
+        takes = quiet.takes;
+        enterings = quiet.enterings;
+      };
+    }

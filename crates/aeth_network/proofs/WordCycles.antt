@@ -1,0 +1,94 @@
+-- Cycles that bring nothing but words.
+use Rattle.std.proofs.Common.{◌≡◌, ◌+◌, ◌==◌, ◌++◌, ◌∙◌, ℕ, List, [], ap, filter, fold, length}
+use Rattle.std.proofs.Common.{map, subst, sym}
+use Rattle.std.specs.Prelude.{slice_range, vec_capacity}
+use Rattle.std.specs.List.{slice_index_or}
+use Rattle.std.proofs.lemmas.List.{append-nil}
+use Rattle.aeth_trace.specs.Channels.{channel_number}
+use Rattle.aeth_components.specs.Components.{ComponentsState, Cycle}
+use Rattle.aeth_components.specs.declared.event.Event.{Event}
+use Rattle.aeth_components.specs.declared.lane.Lane.{Lane}
+use Rattle.aeth_schedule.specs.declared.going.Going.{Going}
+use Rattle.aeth_stimuli.specs.Loaded.{no_lane}
+use Rattle.aeth_stimuli.specs.Stimuli.{Offer, Take}
+use Rattle.aeth_events.specs.Events.{events_in}
+use Rattle.aeth_running.specs.Network.{NetworkState, accepted_with, gone_with, offers_in, outside_with}
+use Rattle.aeth_running.specs.Network.{ready_in, stepped, taking_with, until_with}
+use Rattle.aeth_running.specs.Routing.{Entering, entered_with}
+use Rattle.aeth_network.specs.Behind.{IsBehind}
+use Rattle.aeth_network.specs.Brought.{BringsWords}
+use Rattle.aeth_network.specs.Fits.{AreFit}
+use Rattle.aeth_network.specs.Networks.{IsNetwork}
+use Rattle.aeth_network.specs.declared.network.RoutedNetwork.TheInside.{Inside}
+use Rattle.aeth_network.specs.declared.state.State.{State}
+use Rattle.aeth_network.proofs.Cycling.{fit-started}
+use Rattle.aeth_network.proofs.SeenNetworks.{seen, seen_next}
+use Rattle.aeth_network.proofs.Stepping.{behind-is}
+
+module _ (all : Inside) (is : IsNetwork (vec_capacity all.state.replaced) (seen all))
+    (brings : BringsWords (seen all)) where
+  abbrev old : NetworkState
+  old = seen all
+
+  -- The words of the cycle are those between its places.
+  pub words-are : (first last : ℕ) (given rows : List Offer) → given ≡ all.given.offers.items
+      → rows ≡ all.given.offers.items → IsBehind (λ one. one.cycle) all.time given first last
+      → slice_range rows first last ≡ offers_in old.stimuli old.time
+  words-are first last given rows given_is rows_are behind =
+      ap (λ (list : List Offer). slice_range list first last) (rows_are ∙ sym given_is)
+      ∙ behind.rows_are ∙ ap (filter (λ (one : Offer). one.cycle == all.time)) given_is
+
+  -- They have room in the channels as they stand.
+  pub fit-words : AreFit (length old.components.words) (length old.components.parts) old.untils
+      (offers_in old.stimuli old.time) old.components.lanes
+  fit-words =
+      subst (λ (goings : List Going). AreFit (length old.components.words)
+      (length old.components.parts) (fold until_with old.untils goings)
+      (offers_in old.stimuli old.time) (fold gone_with old.components.lanes goings)) brings.ungone
+      (fit-started all is)
+
+  -- The components once these rows have come beside the words.
+  abbrev ready_with : List Going → List Take → List Entering → ComponentsState
+  ready_with goings takes enterings = record old.components {
+    parts = fold entered_with old.components.parts enterings;
+    lanes = fold taking_with (fold (accepted_with old.time (fold until_with old.untils goings))
+        (fold gone_with old.components.lanes goings) (offers_in old.stimuli old.time)) takes;
+  }
+
+  -- A network whose components are these behind a cycle in which these sessions go.
+  abbrev behind_with : ComponentsState → List Going → NetworkState
+  behind_with new goings = record old {
+    components = new;
+    untils = fold until_with old.untils goings;
+    outside = fold (outside_with old.time (fold until_with old.untils goings)) old.outside
+        (offers_in old.stimuli old.time);
+    replaced = old.replaced
+        ++ map (λ one. slice_index_or old.components.lanes (channel_number one.channel) no_lane)
+        goings;
+    time = old.time + 1;
+  }
+
+  -- Once the words are offered, and the components did a cycle with no events, the cycle is done.
+  pub words-stepped : (offered new : ComponentsState) (next : State)
+      → offered ≡ record old.components {
+        lanes = fold (accepted_with old.time old.untils) old.components.lanes
+            (offers_in old.stimuli old.time);
+      }
+      → Cycle [] old.time offered new → next.components ≡ new
+      → next.untils.items ≡ old.untils → next.replaced.items ≡ old.replaced
+      → next.outside.items
+      ≡ fold (outside_with old.time old.untils) old.outside (offers_in old.stimuli old.time)
+      → seen_next all next ≡ stepped old
+  words-stepped offered new next offers did components untils replaced outside =
+      let ready : offered ≡ ready_in old =
+      offers ∙ (λ i. ready_with (sym brings.ungone i) (sym brings.untaken i)
+      (sym brings.unentered i)) in
+      let done : Cycle (events_in old.stimuli old.time) old.time (ready_in old) new =
+      subst (λ (events : List Event). Cycle events old.time (ready_in old) new)
+      (sym brings.eventless)
+      (subst (λ (one : ComponentsState). Cycle [] old.time one new) ready did) in
+      rw (components, untils, replaced, outside)
+      (ap (λ (list : List Lane). record (behind_with new []) { replaced = list })
+      (sym (append-nil old.replaced))
+      ∙ ap (behind_with new) (sym brings.ungone)
+      ∙ behind-is (vec_capacity all.state.replaced) old is new done)
