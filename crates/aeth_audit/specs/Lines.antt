@@ -2,7 +2,7 @@
 -- This project's own.
 use Rattle.std.specs.Prelude.{◌*◌, ℕ, List, [], ◌∷◌, codes, decimal, map}
 use Rattle.std.specs.List.{join_with_byte}
-use Rattle.aeth_text.specs.Limits.{comma}
+use Rattle.aeth_text.specs.Limits.{comma, field_room}
 use Rattle.aeth_text.specs.Spelling.{ended_line}
 use Rattle.aeth_audit.specs.declared.row.LinkRow.{LinkRow}
 
@@ -16,9 +16,6 @@ abbrev pub row_line : LinkRow → List ℕ
 row_line row = ended_line (join_with_byte comma (map decimal
     (row.cycle ∷ row.link.0 ∷ row.flit.header ∷ row.flit.first ∷ row.flit.second ∷ [])))
 
--- The most bytes of a number of a row and the byte behind it, and of a line.
-abbrev pub field_room : ℕ
-field_room = 11
-
+-- The most bytes of a line: five fields.
 abbrev pub line_room : ℕ
 line_room = 5 * field_room

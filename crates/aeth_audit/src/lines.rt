@@ -1,26 +1,13 @@
 // Printing the rows of a log of links.
-ghost use Rattle.std.specs.Prelude.{◌≡◌, ◌+◌, ◌≤◌, ◌++◌, ◌∷◌, OnErr, OnOk, decimal, drop, length};
-ghost use Rattle.aeth_audit.specs.Lines.{field_room, line_room, row_line};
+ghost use Rattle.std.specs.Prelude.{◌≡◌, ◌≤◌, ◌++◌, OnErr, OnOk, drop, length};
+ghost use Rattle.aeth_audit.specs.Lines.{line_room, row_line};
 
 use crate::row::LinkRow;
 use aeth_base::NoMemory;
-use itoa::write_digits;
+use aeth_text::write_field;
 
 /// The most bytes of a line of a row.
-const LINE_ROOM: usize = 55;
-
-// Writes a number, and a byte behind it, so that they end at a place; and gives the place at which
-// they begin.
-fn write_field(line: &mut [u8], number: u32, after: u8, end: usize) -> usize
-    requires least { field_room ≤ end }
-    requires most { end ≤ length line.old }
-    ensures written { drop result line.new ≡ decimal number ++ after ∷ drop end line.old }
-    ensures before { result ≤ end }
-    ensures within { end ≤ result + field_room }
-{
-    line[end - 1] = after;
-    write_digits(u64::from(number), line, end - 1)
-}
+const LINE_ROOM: usize = 105;
 
 // Writes the line of a row at the end of its room, and gives the place at which it begins.
 fn write_row(line: &mut [u8], row: &LinkRow) -> usize
@@ -28,11 +15,11 @@ fn write_row(line: &mut [u8], row: &LinkRow) -> usize
     ensures written { drop result line.new ≡ row_line row.now }
     ensures within { result ≤ length line.new }
 {
-    let at = write_field(line, row.flit.second, b'\n', LINE_ROOM);
-    let at = write_field(line, row.flit.first, b',', at);
-    let at = write_field(line, row.flit.header, b',', at);
-    let at = write_field(line, row.link.0, b',', at);
-    write_field(line, row.cycle, b',', at)
+    let at = write_field(line, row.flit.second as u64, b'\n', LINE_ROOM);
+    let at = write_field(line, row.flit.first as u64, b',', at);
+    let at = write_field(line, row.flit.header as u64, b',', at);
+    let at = write_field(line, row.link.0 as u64, b',', at);
+    write_field(line, row.cycle as u64, b',', at)
 }
 
 /// Appends the line of a row: its cycle, its link, and the three words of its flit. Where memory is

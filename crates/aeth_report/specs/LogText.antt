@@ -7,12 +7,12 @@
 --   link_line      a link
 --   lines_of, text_of      all lines, and the text
 -- This project's own.
-use Rattle.std.specs.Prelude.{ℕ, ◌-◌, ◌==◌, Bool, true, false, if◌then◌else◌, List, [], ◌∷◌, ◌++◌}
+use Rattle.std.specs.Prelude.{ℕ, ◌+◌, ◌*◌, ◌-◌, ◌==◌, Bool, true, false, if◌then◌else◌, List, [], ◌∷◌, ◌++◌}
 use Rattle.std.specs.Prelude.{codes, decimal, flat_map, map, slice_get, Option, Some, None}
 use Rattle.std.specs.List.{enumerate_from, join_with_byte}
 use Rattle.aeth_base.specs.declared.ids.Channel.{Channel}
 use Rattle.aeth_base.specs.declared.ids.Side.{Side}
-use Rattle.aeth_text.specs.Limits.{space}
+use Rattle.aeth_text.specs.Limits.{field_room, space}
 use Rattle.aeth_text.specs.Spelling.{side_word, text_of_lines}
 use Rattle.aeth_app.specs.App.{AppData}
 use Rattle.aeth_app.specs.declared.connection.Connection.{Connection}
@@ -43,6 +43,10 @@ unfoldable pub landing_line : ℕ × Landing → List ℕ
 landing_line row =
     line_of (codes "land" ∷ decimal row.0 ∷ decimal row.1.offered ∷ decimal row.1.landed
     ∷ decimal row.1.due ∷ decimal row.1.value ∷ [])
+
+-- The most bytes of the line of a landing: its word with a space, and five fields.
+abbrev pub landing_room : ℕ
+landing_room = 5 + 5 * field_room
 
 -- `drop UNLANDED UNTAKEN`.
 unfoldable pub drop_line : SessionData → List ℕ

@@ -1,16 +1,20 @@
 // Printing the lines of a log.
 ghost use Rattle.aeth_report.specs.Log.{SessionData};
 ghost use Rattle.aeth_report.specs.LogText.{drop_line, drop_lines, head_line, landing_line};
+ghost use Rattle.aeth_report.specs.LogText.{landing_room};
 ghost use Rattle.aeth_report.specs.LogText.{link_line, outside_line, outside_lines, session_line};
 ghost use Rattle.aeth_report.specs.LogText.{state_word};
 ghost use Rattle.aeth_report.specs.Regular.{IsOrdered};
 ghost use Rattle.aeth_text.specs.Limits.{line_feed, space};
 ghost use Rattle.aeth_text.specs.Spelling.{ended_line, side_word, text_of_lines};
-ghost use Rattle.std.specs.Prelude.{◌≡◌, ◌++◌, ◌∷◌, [], OnOk, decimal};
+ghost use Rattle.std.specs.Prelude.{◌≡◌, ◌≤◌, ◌++◌, ◌∷◌, [], OnOk, decimal, drop, length};
 
 use crate::log::{Landing, SessionLog};
 use aeth_base::{NoMemory, Side, push_number};
-use aeth_text::push_side;
+use aeth_text::{push_side, write_field, write_text};
+
+/// The most bytes of the line of a landing.
+const LANDING_ROOM: usize = 110;
 
 // Appends a space and a number.
 fn push_field(out: &mut Vec<u8>, n: u64) -> Result<(), NoMemory>
@@ -95,17 +99,28 @@ pub(crate) fn push_session_line(
     push_counts(out, session)
 }
 
+// Writes the line of a landing at the end of its room, and gives the place at which it begins.
+fn write_landing(line: &mut [u8], index: u64, row: &Landing) -> usize
+    requires { length line.old ≡ landing_room }
+    ensures written { drop result line.new ≡ ended_line (landing_line (index, row.now)) }
+    ensures within { result ≤ length line.new }
+{
+    let at = write_field(line, row.value as u64, b'\n', LANDING_ROOM);
+    let at = write_field(line, row.due, b' ', at);
+    let at = write_field(line, row.landed as u64, b' ', at);
+    let at = write_field(line, row.offered as u64, b' ', at);
+    let at = write_field(line, index, b' ', at);
+    write_text(line, b"land ", at)
+}
+
 // Appends the line of a landing with its number.
-#[tactic(auto, unfolding(crate::specs::LogText::landing_line))]
 pub(crate) fn push_landing(out: &mut Vec<u8>, index: u64, row: &Landing) -> Result<(), NoMemory>
     ensures { OnOk result (out.new.items
         ≡ out.old.items ++ ended_line (landing_line (index, row.now))) }
 {
-    out.extend_from_slice(b"land")?;
-    push_field(out, index)?;
-    push_pair(out, row.offered as u64, row.landed as u64)?;
-    push_pair(out, row.due, row.value as u64)?;
-    out.push(b'\n')?;
+    let mut line = [0; LANDING_ROOM];
+    let start = write_landing(&mut line, index, row);
+    out.extend_from_slice(&line[start..])?;
     Ok(())
 }
 

@@ -21,3 +21,7 @@ space = 32
 -- The byte between two items of a list.
 abbrev pub comma : ℕ
 comma = 44
+
+-- The most bytes of a number of 64 bits and the byte behind it: 20 digits and one.
+abbrev pub field_room : ℕ
+field_room = 21

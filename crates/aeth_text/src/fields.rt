@@ -32,12 +32,10 @@ pub fn number_in(word: &[u8]) -> Option<u32>
 pub fn side_in(word: &[u8]) -> Option<Side>
     ensures { result ≡ side_in word.now }
 {
-    if word == b"fwd".as_slice() {
-        Some(Side::Fwd)
-    } else if word == b"back".as_slice() {
-        Some(Side::Back)
-    } else {
-        None
+    match word {
+        b"fwd" => Some(Side::Fwd),
+        b"back" => Some(Side::Back),
+        _ => None,
     }
 }
 

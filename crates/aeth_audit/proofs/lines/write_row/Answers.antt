@@ -2,7 +2,7 @@ use Rattle.std.proofs.Common.{◌∙◌, ◌++◌, ◌∷◌, [], ap, arith, dec
 use Rattle.std.proofs.Math.ListN.{drop_of_length-le}
 use Rattle.aeth_text.specs.Limits.{comma, line_feed}
 use Rattle.aeth_audit.specs.Lines.{line_room}
-use Rattle.aeth_audit.proofs.LineLemmas.{behind-five}
+use Rattle.aeth_text.proofs.LineLemmas.{behind-five}
 use Rattle.aeth_audit.proofs.lines.write_row.Goals as goal
 
 -- Each number stands before those that were written, and nothing behind the last byte.

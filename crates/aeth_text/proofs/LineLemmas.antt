@@ -1,4 +1,4 @@
--- The pieces of a line of a row.
+-- The pieces of a line of five numbers.
 use Rattle.std.proofs.Common.{◌≡◌, ◌∙◌, ◌++◌, ◌∷◌, ℕ, List, ap, append_assoc}
 
 -- What stands behind five pieces stands behind the last of them.
