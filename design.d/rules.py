@@ -56,6 +56,12 @@ def columns_of(file):
     return f"The columns {header} have {columns}."
 
 
+def forms_of(title):
+    """The forms that lines of a file have."""
+    *forms, last = re.search(r"(?ms)^```\n(.*?)\n```", section(title)).group(1).split("\n")
+    return f"A line is {', '.join(f'`{form}`' for form in forms)} or `{last}`."
+
+
 def shape_of(path):
     """A path with one word for all its numbers."""
     return " ".join("#" if isinstance(key, int) else key for key in path)
@@ -80,9 +86,19 @@ def known_at(broken, path):
     return next((part for part in parts if f"`{key}`" in part), broken)
 
 
+def table_at(path):
+    """The name of the table of a path."""
+    return next((key for key in reversed(path) if not isinstance(key, int)), "root")
+
+
+def keys_at(title, path):
+    """The keys of the table of a path."""
+    return list(keys_of(title, table_at(path)))
+
+
 def kinds_at(title, path):
-    """Which keys the table of a path has."""
-    table = next((key for key in reversed(path) if not isinstance(key, int)), "root")
+    """Which keys the table of a path has, in words."""
+    table = table_at(path)
     kinds = ", ".join(f"`{key}` ({type_})" for key, type_ in keys_of(title, table).items())
     more = ", which version 2 alone has" if table == "link" else ""
     return f"The keys of {'the root' if table == 'root' else f'`{table}`'} are {kinds}{more}"

@@ -95,4 +95,7 @@ def switches_text(app, cycles, uses, drain):
     if len(uses) > MOST_SWITCHES:
         raise Refused(f"a run has at most {MOST_SWITCHES:,} rows of switches")
     rows = [(place * cycles // len(uses), use, drain if place else 0) for place, use in enumerate(uses)]
+    apart = min((after[0] - row[0] for row, after in zip(rows[1:], rows[2:])), default=drain)
+    if apart < drain:
+        raise Refused(f"these switches are {apart:,} cycles apart, and each takes its drain of {drain:,} and more")
     return "cycle,use,drain\n" + "".join(f"{cycle},{use},{rest}\n" for cycle, use, rest in rows)

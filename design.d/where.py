@@ -1,4 +1,5 @@
 """What a refusal of `aeth` means, in words: file, line, key, what stands there, and the rule that it breaks."""
+from difflib import get_close_matches
 from functools import cache
 from pathlib import Path
 import math
@@ -7,7 +8,7 @@ from aeth import run_aeth
 from files import read, toml_lines
 from paths import why_none
 from places import WALKS, row_line
-from rules import broken_at, columns_of, rules_of, rules_of_logs, rules_of_plans
+from rules import broken_at, columns_of, forms_of, keys_at, rules_of, rules_of_logs, rules_of_plans
 from usage import usage
 
 # The file words of each command, in the order of its words.
@@ -121,6 +122,9 @@ def in_toml(file, paths, rule, place, value):
         found = stands(at + (value,), root)
     if found is None:
         return f"{where} is missing", at
+    if rule == 2 and value not in keys_at(SECTIONS[file], at):
+        near = get_close_matches(value, keys_at(SECTIONS[file], at), 1)
+        return f"{where} is unknown" + (f": `{near[0]}` may be meant" if near else ""), at
     if rule == 2 and isinstance(found, (list, dict)):
         return f"{where} has another type", at
     if isinstance(found, (list, dict)):
@@ -193,7 +197,7 @@ def refusal(file, rule, name, place, value, paths):
     else:
         shown = in_rows(file, path, name, place, value)
     broken = broken_at(file, title, rule, at)
-    more = [columns_of(file)] if name == "BadRow" else []
+    more = [columns_of(file)] if name == "BadRow" else [forms_of(title)] if name == "BadLine" else []
     return shown + [f"Rule {rule} of {title.lower()}, {name}, is broken where {broken}."] + more
 
 
@@ -226,7 +230,12 @@ def broken_plan(rule, line, other, paths):
 def fault(rule, row, paths):
     """A row of a log that an audit finds, and the rule that it breaks."""
     shown = in_rows("log", paths["log"], "", int(row), "")
-    return shown + [f"It breaks rule {rule} of the rows of a clean log: {rules_of_logs()[rule]}"]
+    data = Path(paths["log"]).read_bytes()
+    cycle, link = map(int, shown_lines("log", data)[row_line(data, int(row)) - 1].split(",")[:2])
+    chip = toml_lines.read(Path(paths["chip"]).read_bytes())[0]
+    ends = chip["link"][link]
+    shown += [f"Link {link} leads from {ends['from']} to {ends['to']}, and cycle {cycle} is slot {cycle % chip['slots']}."]
+    return shown + [f"It breaks rule {rule} of the rows of a clean log, which says: {rules_of_logs()[rule]}"]
 
 
 def told(line, paths):
@@ -248,16 +257,24 @@ def told(line, paths):
     if word == "open":
         return [f"No cut of the try begins the path {rest[3]} of channel {rest[2]} of connection `{rest[0]}`."]
     if word == "read":
-        return [f"{paths.get(rest[1])} can't be read: it is missing, a folder, or unreadable."]
+        return [f"{paths.get(rest[1])} {why_unread(Path(paths.get(rest[1], '')))}."]
     return []
+
+
+def why_unread(file):
+    """Why a file can't be read, as far as it can be told."""
+    if not file.exists():
+        return "can't be read: there is no such file"
+    return "can't be read: it is a folder" if file.is_dir() else "can't be read"
 
 
 def where(words):
     """Runs a command, and says what it refuses in words. Gives its status, and both texts with these words."""
     status, out, errors = run_aeth(*words)
     paths = dict(zip(FILES.get(words[0] if words else "", []), words[1:]))
-    lines = []
+    lines, may_help = [], []
     for line in errors.splitlines():
         tells = usage(words) if line == "usage" else told(line, paths)
-        lines += [line, *("  " + tell for tell in tells)]
-    return status, out, "".join(line + "\n" for line in lines)
+        lines += [line, *("  " + tell for tell in tells if tell != HELP)]
+        may_help = ["  " + HELP] if HELP in tells else may_help
+    return status, out, "".join(line + "\n" for line in lines + may_help)

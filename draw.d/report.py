@@ -23,6 +23,8 @@ def verdict_of(lines, refused, run):
     tells += f" In {counted(run.cycles, 'cycle')} {counted(landed, 'word')} landed, {late:,} late"
     tells += f", {overdue:,} overdue" if overdue else ""
     tells += f"; {counted(dropped, 'word')} dropped in switches" if dropped else ""
+    outside = sum(channel.outside for channel in run.channels)
+    tells += f"; {counted(outside, 'word')} came outside of all sessions" if outside else ""
     return tells + ".", not (late or overdue)
 
 

@@ -162,6 +162,8 @@ class Traces(Designs):
         for words, tells in (
             (("words", *self.FILES, "play", "10"), none),
             (("switches", *self.FILES, "10", "play"), none),
+            (("switches", *self.FILES, "90", "decode", "menu", "record", "--drain", "31"),
+             "these switches are 30 cycles apart, and each takes its drain of 31 and more"),
             (("words", *self.FILES, "decode", "1000001"), "a run has 1 to 1,000,000 cycles"),
             (("receivers", *self.FILES, "menu", "9", "--stall", "vin_mem,fwd,0"), "menu has no channel vin_mem fwd"),
         ):
@@ -245,7 +247,7 @@ class Refusals(Designs):
             (pair, "slots = 8", f"slots = {10**20}", f"{10**20} is past 64 bits", "64 bits"),
             (pair, "slots = 8", "a = " + 81 * "[" + 81 * "]", "arrays or inline tables stand too deep", "80 arrays"),
             (one, "detour = 0", "detour = 1e309", "inf is past 64 bits", "aren't TOML"),
-            (pair, "slots = 8", "slot = 8", "the root, key `slot` is 8", "are `version` (integer), `slots` (integer),"),
+            (pair, "slots = 8", "slot = 8", "the root, key `slot` is unknown: `slots` may be meant", "are `version` (integer), `slots` (integer),"),
             (pair, "slots = 8", "slots = [8]", "the root, key `slots` has another type", "`slots` (integer)"),
             (pair, "slots = 8", "slots = 65", "`slots` is 65", slots),
             (pair, '"r0", "r1"', f'"r0", "r1", {many}', "`routers` has 67 of them", "where the routers aren't 1 to 64.\n"),
@@ -388,14 +390,15 @@ class Words(unittest.TestCase):
 
     def test_logs_of_links(self):
         log = EXAMPLES / "one.links.csv"
-        words = ("audit", "pair.toml", "one.toml", "one.plan", "one.switches.csv", log)
+        words = ("audit", EXAMPLES / "pair.toml", "one.toml", "one.plan", "one.switches.csv", log)
         for line, tells in (
             ("refused log 3 OutOfOrder 2 4", (f"{log}, line 2: 4,0,", f"{log}, line 3: 5,4,", "the row isn't in a later cycle")),
             ("refused log 1 BadRow 1 -", ("line 2: 4,0,", "The columns `cycle,link,header,first,second` have numbers. Cycles are 0")),
             ("refused log 2 Unknown 3 2", ("line 4: 6,3,2147483648,100,101   (field 2)", "is broken where the link is none")),
             ("refused log 4 TooMany 0 1000001", (f"{log}: it has 1,000,001 rows", "more than 1,000,000 rows.")),
-            ("fault 3 2", ("line 3: 5,4,", "It breaks rule 3 of the rows of a clean log: It comes from a row on the link before,")),
-            ("fault 1 1", ("line 2: 4,0,", "rule 1 of the rows of a clean log: Its link is reserved in its cycle.")),
+            ("fault 3 2", ("line 3: 5,4,", "Link 4 leads from r0 to r1, and cycle 5 is slot 5.",
+                           "It breaks rule 3 of the rows of a clean log, which says: It comes from a row on the link before,")),
+            ("fault 1 1", ("line 2: 4,0,", "rule 1 of the rows of a clean log, which says: Its link is reserved in its cycle.")),
         ):
             told = self.told(words[0], line, *words[1:])
             for text in tells:
@@ -406,7 +409,8 @@ class Words(unittest.TestCase):
             cert.write("explain 1\ntry c0 0 back 1\ncut 9\nend\n")
             cert.flush()
             for line, tells in (
-                ("refused cert 1 BadLine 2 -", ("line 2: try c0 0 back 1", "hasn't this form at its position", "a `cut` line")),
+                ("refused cert 1 BadLine 2 -", ("line 2: try c0 0 back 1", "hasn't this form at its position", "a `cut` line",
+                                                "A line is `explain 1`, `try CONN GROUP SIDE TURN`, `cut LINKS` or `end`.")),
                 ("refused cert 2 Unknown 3 2", ("line 3: cut 9   (field 2)", "a link number is no link")),
                 ("refused cert 3 WrongTry 2 -", ("line 2: try c0 0 back 1", "isn't that of the refusal in its place")),
                 ("not dead 3", ("line 3: cut 9", "Its links are no cut")),
