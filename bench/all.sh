@@ -91,15 +91,15 @@ run short explain 133 900000000 explain chip app_stress
 if is_chosen confirm short; then "$program" explain chip app_stress >cert; fi
 run short confirm 130 918000000 explain chip app_stress cert
 run_word long
-run short simulate_short - 99711593 simulate chip app_hops plan words_20k receivers switches_1024 20000
+run short simulate_short 150 99711593 simulate chip app_hops plan words_20k receivers switches_1024 20000
 run short simulate_tables_short - 111213202 \
     simulate-tables chip app_hops plan words_20k receivers switches_1024 20000
 run long simulate_idle 110 50196354 simulate chip app_hops plan words_none receivers_none switches_one 1000000
-run long simulate_sparse - 2319847085 simulate chip app_hops plan words_sparse receivers switches_1024 1000000
-run long simulate_dense - 2019582625 simulate chip app_hops plan words_dense receivers_none switches_one 1000000
+run long simulate_sparse 150 2319847085 simulate chip app_hops plan words_sparse receivers switches_1024 1000000
+run long simulate_dense 150 2019582625 simulate chip app_hops plan words_dense receivers_none switches_one 1000000
 run long simulate_tables_dense 160 2006081720 \
     simulate-tables chip app_hops plan words_dense receivers_none switches_one 1000000
-run long simulate_delays - 2193411327 simulate chip128 app_hops plan128 words_sparse receivers switches_one 1000000
+run long simulate_delays 160 2193411327 simulate chip128 app_hops plan128 words_sparse receivers switches_one 1000000
 run short chain 61 802708730 chain chip app_hops plan u0 \
     c0:fwd:16,c46:back:9,c239:back:100,c406:back:1,c372:back:7,c2:back words_chain receivers_none 1000000
 run short demo - 36954704 demo 7
