@@ -1,6 +1,6 @@
 // A shelf over the files of the machine.
-ghost use Rattle.aeth_io.specs.Causes.{HasCause};
-ghost use Rattle.std.specs.Prelude.{OnOk, ◌≡◌, ◌≤◌, ℕ, None, IfOk, length};
+ghost use Rattle.aeth_io.specs.Causes.{HasCause, one_more};
+ghost use Rattle.std.specs.Prelude.{OnOk, ◌≡◌, ◌≤◌, ℕ, None, IfOk, if◌then◌else◌, is_err, length};
 
 use crate::{Failed, Shelf};
 use std::io::{Read, Seek, SeekFrom};
@@ -53,11 +53,12 @@ impl<R: Files + AllocGlobal + Drop> Shelf for HostShelf<R> {
 
     /// An error of the machine raises the count of faults; nothing else does.
     fn read(&mut self, name: &str, at: u64, into: &mut [u8]) -> Result<usize, Failed>
-        ensures counts { OnOk result (self.new ≡ self.old) }
+        ensures counts { self.new ≡ (if is_err result then one_more self.old else self.old) }
 
         // And what holds of every shelf, of one that tells no content.
         ensures within { IfOk result (λ n. n ≤ length into.new) }
         ensures cause { HasCause result self.old self.new }
+        ensures faultless { OnOk result (self.new ≡ self.old) }
         ensures later { self.old ≤ self.new }
     {
         let last = self.last.take();

@@ -1,6 +1,7 @@
 // A sink over one of std's writers.
-ghost use Rattle.aeth_io.specs.Causes.{HasCause};
-ghost use Rattle.std.specs.Prelude.{◌≡◌, ◌≤◌, ◌⊎◌, ℕ, None, IfOk, OnOk, length};
+ghost use Rattle.aeth_io.specs.Causes.{HasCause, one_more};
+ghost use Rattle.std.specs.Prelude.{◌≡◌, ◌≤◌, ◌⊎◌, ℕ, None, IfOk, OnOk, if◌then◌else◌, is_err};
+ghost use Rattle.std.specs.Prelude.{length};
 
 use crate::{Failed, Sink};
 use std::io::Write;
@@ -36,12 +37,13 @@ impl<W: Write + Drop> Sink for HostSink<W> {
 
     /// An error of the writer and a write of no byte raise the count of faults; nothing else does.
     fn write(&mut self, piece: &[u8]) -> Result<usize, Failed>
-        ensures counts { OnOk result (self.new ≡ self.old) }
+        ensures counts { self.new ≡ (if is_err result then one_more self.old else self.old) }
 
         // And what holds of every sink, of one that tells no bytes.
         ensures within { IfOk result (λ n. n ≤ length piece.now) }
         ensures some { IfOk result (λ n. (length piece.now ≡ 0) ⊎ (1 ≤ n)) }
         ensures cause { HasCause result self.old self.new }
+        ensures faultless { OnOk result (self.new ≡ self.old) }
         ensures later { self.old ≤ self.new }
     {
         match self.to.write(piece) {
