@@ -2,8 +2,9 @@
 
 ghost use Rattle.std.specs.Prelude.{◌≡◌};
 ghost use Rattle.aeth_app.specs.App.{is_end};
+ghost use Rattle.aeth_app.specs.Connections.{receiver, sender};
 
-use aeth_base::{CoreId, Name, NiId};
+use aeth_base::{CoreId, Name, NiId, Side};
 
 /// The most words that a wish has in its `per` cycles.
 pub const MAX_WORDS: u32 = 2_000_000;
@@ -59,5 +60,25 @@ impl Connection {
         ensures { result ≡ is_end core self.now }
     {
         self.from.0 == core.0 || self.to.0 == core.0
+    }
+
+    /// The core that sends on a side.
+    pub fn sender(&self, side: Side) -> CoreId
+        ensures { result ≡ sender self.now side }
+    {
+        match side {
+            Side::Fwd => self.from,
+            Side::Back => self.to,
+        }
+    }
+
+    /// The core that receives on a side.
+    pub fn receiver(&self, side: Side) -> CoreId
+        ensures { result ≡ receiver self.now side }
+    {
+        match side {
+            Side::Fwd => self.to,
+            Side::Back => self.from,
+        }
     }
 }

@@ -1,6 +1,6 @@
 // Why an application file is refused.
 ghost use Rattle.std.specs.Prelude.{◌≡◌};
-ghost use Rattle.aeth_app.specs.Fault.{rule_at, rule_of};
+ghost use Rattle.aeth_app.specs.Fault.{rule_of};
 ghost use Rattle.aeth_app.specs.declared.fault.AppFault.TheVariants.{Memory};
 
 use aeth_base::{Broken, BrokenRule, Fault, NoMemory, Shown};
@@ -54,29 +54,18 @@ impl Fault for AppFault {
 
     fn broken_rule(&self) -> Option<BrokenRule> {
         match self {
-            AppFault::BadToml => Some(rule_at(1, "BadToml", NOWHERE)),
-            AppFault::WrongKey(broken) => Some(rule_at(2, "WrongKey", *broken)),
-            AppFault::OutOfRange(broken) => Some(rule_at(3, "OutOfRange", *broken)),
-            AppFault::NameTwice(broken) => Some(rule_at(4, "NameTwice", *broken)),
-            AppFault::UnknownName(broken) => Some(rule_at(5, "UnknownName", *broken)),
-            AppFault::RateTooHigh(broken) => Some(rule_at(6, "RateTooHigh", *broken)),
-            AppFault::CoreToItself(broken) => Some(rule_at(7, "CoreToItself", *broken)),
-            AppFault::CoreTooBusy(broken) => Some(rule_at(8, "CoreTooBusy", *broken)),
-            AppFault::TooFewSeats(broken) => Some(rule_at(9, "TooFewSeats", *broken)),
-            AppFault::SeatsOverfull(broken) => Some(rule_at(10, "SeatsOverfull", *broken)),
+            AppFault::BadToml => Some(NOWHERE.breaks(1, "BadToml")),
+            AppFault::WrongKey(broken) => Some(broken.breaks(2, "WrongKey")),
+            AppFault::OutOfRange(broken) => Some(broken.breaks(3, "OutOfRange")),
+            AppFault::NameTwice(broken) => Some(broken.breaks(4, "NameTwice")),
+            AppFault::UnknownName(broken) => Some(broken.breaks(5, "UnknownName")),
+            AppFault::RateTooHigh(broken) => Some(broken.breaks(6, "RateTooHigh")),
+            AppFault::CoreToItself(broken) => Some(broken.breaks(7, "CoreToItself")),
+            AppFault::CoreTooBusy(broken) => Some(broken.breaks(8, "CoreTooBusy")),
+            AppFault::TooFewSeats(broken) => Some(broken.breaks(9, "TooFewSeats")),
+            AppFault::SeatsOverfull(broken) => Some(broken.breaks(10, "SeatsOverfull")),
             AppFault::Memory => None,
         }
-    }
-}
-
-fn rule_at(rule: u32, name: &'static str, broken: Broken) -> BrokenRule
-    ensures { result ≡ rule_at rule name.now broken }
-{
-    BrokenRule {
-        rule,
-        name,
-        place: broken.place,
-        value: broken.value,
     }
 }
 

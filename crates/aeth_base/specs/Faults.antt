@@ -1,6 +1,7 @@
 -- The rules that a file breaks, and what a reader of files answers.
 -- This project's own.
 use Rattle.std.specs.Prelude.{ℕ, ◌≡◌, List, Option, Result, Ok, Err, IfSome}
+use Rattle.aeth_base.specs.declared.shown.Broken.{Broken}
 use Rattle.aeth_base.specs.declared.shown.Shown.{Shown}
 
 -- The first rule that a file breaks: its number and its name among the rules of such files, the
@@ -10,6 +11,11 @@ pub record BrokenRule : Type 0 where
   pub name : List ℕ
   pub place : ℕ
   pub value : Shown
+
+-- A rule that is broken, by its number and its name.
+abbrev pub broken_as : ℕ → List ℕ → Broken → BrokenRule
+broken_as rule name broken =
+    record { rule = rule; name = name; place = broken.place; value = broken.value }
 
 -- The reader gives the value that the definition gives, or shows the rule that it says is broken,
 -- or memory ran out: then its fault shows no rule. The value is compared as the view shows it.

@@ -1,8 +1,8 @@
 // Why a file is refused.
-ghost use Rattle.aeth_base.specs.Faults.{BrokenRule};
+ghost use Rattle.aeth_base.specs.Faults.{BrokenRule, broken_as};
 ghost use Rattle.std.specs.Prelude.{◌≡◌, Option};
 
-use crate::Shown;
+use crate::{Broken, Shown};
 use std::marker::Model;
 
 /// The first rule that a file breaks, as its refusal shows it.
@@ -29,6 +29,29 @@ impl Model for BrokenRule {
       place = broken.place;
       value = broken.value;
     } };
+}
+
+impl BrokenRule {
+    /// The rule of a number and a name, broken at a place by a value.
+    pub fn at(rule: u32, name: &'static str, place: u32, value: Shown) -> BrokenRule
+        ensures { result ≡ record { rule = rule; name = name.now; place = place; value = value } }
+    {
+        BrokenRule {
+            rule,
+            name,
+            place,
+            value,
+        }
+    }
+}
+
+impl Broken {
+    /// The rule of a number and a name that is broken here.
+    pub fn breaks(self, rule: u32, name: &'static str) -> BrokenRule
+        ensures { result ≡ broken_as rule name.now self }
+    {
+        BrokenRule::at(rule, name, self.place, self.value)
+    }
 }
 
 /// Why a file isn't read: the first rule that it breaks, or want of memory.

@@ -1,4 +1,6 @@
 // The numbers by which things of a chip and an application are called.
+ghost use Rattle.aeth_base.specs.Sides.{same_side};
+ghost use Rattle.std.specs.Prelude.{◌≡◌};
 
 /// A router, by its number in file order.
 #[derive(Clone, Copy, Debug, PartialEq, Eq)]
@@ -34,6 +36,18 @@ pub struct GroupId(pub u32);
 pub enum Side {
     Fwd,
     Back,
+}
+
+impl Side {
+    /// Whether two sides are one.
+    pub fn is(self, other: Side) -> bool
+        ensures { result ≡ same_side self other }
+    {
+        match (self, other) {
+            (Side::Fwd, Side::Fwd) | (Side::Back, Side::Back) => true,
+            _ => false,
+        }
+    }
 }
 
 /// One direction of a connection.

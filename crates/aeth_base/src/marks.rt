@@ -14,8 +14,8 @@ pub(crate) const NUMBERS_OF_MASK: usize = 64;
 /// Marks of numbers from 0 on, seen as the list of their masks: bit `n mod 64` of mask `n / 64` is 1
 /// where the number `n` is marked. This project's own.
 ///
-/// Only the calls that make marks take memory. Each other one looks at one mask, and `next` at all
-/// masks from a number to the one that it finds.
+/// Only the calls that make marks take memory. `mark`, `unmark` and `has` look at one mask, `next` at
+/// those from a number to the one that it finds, and `iter` and `clear` go over all.
 #[derive(Drop)]
 pub struct Marks {
     masks: Vec<u64>,

@@ -135,19 +135,8 @@ impl Book {
         ensures ok { OnOk result (self.new ≡ with_grant self.old grant) }
         ensures err { OnErr result (self.new ≡ self.old) }
     {
-        let unit = grant.unit;
-        let path = grant.path;
-        let slots = grant.slots;
         self.grants.push(grant)?;
-        change(
-            &self.groups,
-            &self.links,
-            unit,
-            &path,
-            &slots,
-            true,
-            &mut self.masks,
-        );
+        change(&self.groups, &self.links, &grant, true, &mut self.masks);
         Ok(())
     }
 
@@ -157,15 +146,7 @@ impl Book {
             (λ grant. self.old ≡ with_grant self.new grant) }
     {
         let grant = self.grants.pop()?;
-        change(
-            &self.groups,
-            &self.links,
-            grant.unit,
-            &grant.path,
-            &grant.slots,
-            false,
-            &mut self.masks,
-        );
+        change(&self.groups, &self.links, &grant, false, &mut self.masks);
         Some(grant)
     }
 

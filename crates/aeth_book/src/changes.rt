@@ -6,9 +6,9 @@ ghost use Rattle.aeth_chip.specs.Paths.{delay_of};
 ghost use Rattle.aeth_book.specs.Book.{AreShort};
 ghost use Rattle.aeth_group.specs.Tables.{Changes, HasTable, changed, hits_row, hits_uses};
 
-use aeth_base::{LinkId, Path, Unit, UseId};
+use aeth_base::{LinkId, Path, UseId};
 use aeth_chip::Link;
-use aeth_group::Groups;
+use aeth_group::{Grant, Groups};
 use aeth_slots::SlotSet;
 
 /// The delay of a link.
@@ -58,27 +58,25 @@ fn change_row(
     }
 }
 
-/// Changes the masks of a unit's use cases by the slots that flits take along a path.
+/// Changes the masks of the use cases of a grant's unit by the slots that its flits take along its path.
 pub(crate) fn change(
     groups: &Groups,
     links: &[Link],
-    unit: Unit,
-    path: &Path,
-    slots: &SlotSet,
+    grant: &Grant,
     put: bool,
     masks: &mut [SlotSet],
 )
     requires rows { length masks.old ≡ length groups.now.uses * length links.now }
-    requires path { All (λ link. link.0 < length links.now) path.now }
+    requires path { All (λ link. link.0 < length links.now) grant.now.path }
     requires delays { AreShort links.now }
-    requires table { HasTable slots.now.size (length links.now) masks.old }
-    ensures { Changes slots.now.size (length links.now)
-        (hits_uses slots.now links.now groups.now unit path.now (length groups.now.uses)) put
-        masks.old masks.new }
+    requires table { HasTable grant.now.slots.size (length links.now) masks.old }
+    ensures { Changes grant.now.slots.size (length links.now)
+        (hits_uses grant.now.slots links.now groups.now grant.now.unit grant.now.path
+        (length groups.now.uses)) put masks.old masks.new }
 {
     for u in 0..groups.uses() {
-        if groups.has_unit(UseId(u), unit) {
-            change_row(links, u, path, slots, put, masks);
+        if groups.has_unit(UseId(u), grant.unit) {
+            change_row(links, u, &grant.path, &grant.slots, put, masks);
         }
     }
 }

@@ -13,7 +13,7 @@ use Rattle.std.specs.Prelude.{max, nat_le, ◌==◌, count_by, slice_get, Option
 use Rattle.std.specs.Prelude.{option_and_then, is_none, Result, Ok, Err, if◌then◌else◌}
 use Rattle.std.specs.List.{range_with_len}
 use Rattle.toml.specs.Data.{Members}
-use Rattle.aeth_base.specs.Faults.{BrokenRule}
+use Rattle.aeth_base.specs.Faults.{BrokenRule, broken_as}
 use Rattle.aeth_base.specs.Limits.{max_link_delay, max_slots}
 use Rattle.aeth_base.specs.Shown.{shown_text}
 use Rattle.aeth_base.specs.declared.ids.RouterId.{RouterId}
@@ -32,7 +32,7 @@ use Rattle.aeth_document.specs.Chain.{◌>>=◌}
 use Rattle.aeth_document.specs.Document.{document_of}
 use Rattle.aeth_document.specs.Keys.{Fields, wrong_key}
 use Rattle.aeth_document.specs.Values.{text_at}
-use Rattle.aeth_document.specs.Walks.{broken_as, first_broken, judged, no_name, outside, repeats}
+use Rattle.aeth_document.specs.Walks.{first_broken, judged, no_name, outside, repeats}
 use Rattle.aeth_document.specs.declared.keys.Kind.TheVariants as kind
 
 -- ---- rule 1

@@ -2,7 +2,6 @@
 ghost use Rattle.std.specs.Prelude.{◌≡◌};
 ghost use Rattle.aeth_chip.specs.Faults.{rule_of};
 ghost use Rattle.aeth_chip.specs.declared.fault.ChipFault.TheVariants.{Memory};
-ghost use Rattle.aeth_document.specs.Walks.{broken_as};
 
 use aeth_base::{Broken, BrokenRule, Fault, NoMemory};
 use std::alloc::{AllocError, AllocFailed};
@@ -33,30 +32,18 @@ pub enum ChipFault {
     Memory,
 }
 
-// A rule that is broken, by its number and its name.
-fn broken_as(rule: u32, name: &'static str, broken: Broken) -> BrokenRule
-    ensures { result ≡ broken_as rule name.now broken }
-{
-    BrokenRule {
-        rule,
-        name,
-        place: broken.place,
-        value: broken.value,
-    }
-}
-
 impl Fault for ChipFault {
     ghost rule = { rule_of };
 
     fn broken_rule(&self) -> Option<BrokenRule> {
         match *self {
-            ChipFault::BadToml(broken) => Some(broken_as(1, "BadToml", broken)),
-            ChipFault::WrongKey(broken) => Some(broken_as(2, "WrongKey", broken)),
-            ChipFault::OutOfRange(broken) => Some(broken_as(3, "OutOfRange", broken)),
-            ChipFault::NameTwice(broken) => Some(broken_as(4, "NameTwice", broken)),
-            ChipFault::UnknownName(broken) => Some(broken_as(5, "UnknownName", broken)),
-            ChipFault::TooManyPorts(broken) => Some(broken_as(6, "TooManyPorts", broken)),
-            ChipFault::NiNotSingle(broken) => Some(broken_as(7, "NiNotSingle", broken)),
+            ChipFault::BadToml(broken) => Some(broken.breaks(1, "BadToml")),
+            ChipFault::WrongKey(broken) => Some(broken.breaks(2, "WrongKey")),
+            ChipFault::OutOfRange(broken) => Some(broken.breaks(3, "OutOfRange")),
+            ChipFault::NameTwice(broken) => Some(broken.breaks(4, "NameTwice")),
+            ChipFault::UnknownName(broken) => Some(broken.breaks(5, "UnknownName")),
+            ChipFault::TooManyPorts(broken) => Some(broken.breaks(6, "TooManyPorts")),
+            ChipFault::NiNotSingle(broken) => Some(broken.breaks(7, "NiNotSingle")),
             ChipFault::Memory => None,
         }
     }

@@ -12,6 +12,7 @@ mod levels;
 mod links;
 mod lists;
 mod node;
+mod paths;
 mod ports;
 mod reading;
 mod summary;

@@ -8,12 +8,12 @@ use Rattle.std.proofs.Math.Bool.{or-false}
 use Rattle.std.proofs.lemmas.List.{take_all}
 use Rattle.std.proofs.lemmas.List.Folds.{list_any-append}
 use Rattle.std.proofs.lemmas.List.Sorted.{list_any-IsPermutation}
+use Rattle.aeth_base.proofs.Lists.{take-slice_get}
 use Rattle.aeth_clocked.specs.declared.flit.Flit.{Flit}
 use Rattle.aeth_clocked.specs.Wires.{Drives}
 use Rattle.aeth_clocked.specs.Driven.{AreDisjoint, is_output, driven}
 use Rattle.aeth_clocked.specs.Order.{IsOrder}
 use Rattle.aeth_clocked.proofs.DrivenLemmas.{driven-at}
-use Rattle.aeth_clocked.proofs.Turns.{take-turn}
 use Rattle.aeth_clocked.proofs.WiresLemmas.{Drives-same, Drives-then}
 
 -- A test of each place is a test of each element.
@@ -76,7 +76,7 @@ module _ {P : Type 0} (outputs : P → ℕ → Bool) (parts : List P) where
         let earlier = is_output_among (take turn order) in
         let together = is_output_among (take (turn + 1) order) in
         Drives-same (λ link. earlier link || outputs part link) together flit_on old new
-        (λ link. rw (take-turn order turn number at)
+        (λ link. rw (take-slice_get order turn number at)
         (is_output_among-push (take turn order) number link part is))
         (Drives-then earlier (outputs part) flit_on (emit part cycle) old now new
         (λ link own. driven-at outputs emit parts number cycle link part disjoint is own)

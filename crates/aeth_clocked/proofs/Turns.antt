@@ -6,12 +6,13 @@ use Rattle.std.specs.List.{list_any, slice_set}
 use Rattle.std.specs.Option.{option_map}
 use Rattle.std.proofs.lemmas.Bool.{cases_eq, cases_lt, eq-eqb}
 use Rattle.std.proofs.lemmas.Bool.Decides.{nat_tests}
-use Rattle.std.proofs.lemmas.List.{take_more, take_all, get_or-take, length-take}
+use Rattle.std.proofs.lemmas.List.{take_all, get_or-take, length-take}
 use Rattle.std.proofs.lemmas.List.Folds.{list_any-append, list_any_none}
 use Rattle.std.proofs.lemmas.Map.Keys.{apart_from_distinct}
 use Rattle.std.proofs.lemmas.Option.{slice_get-map, slice_get-get_or, get_or_from_slice_get}
 use Rattle.std.proofs.lemmas.Option.{slice_get_within, slice_get_past}
 use Rattle.aeth_base.proofs.Lists.{same_list, slice_get-slice_set_same, slice_get-slice_set_other}
+use Rattle.aeth_base.proofs.Lists.{take-slice_get}
 use Rattle.aeth_clocked.specs.Order.{AreChosen, IsOrder}
 use Rattle.aeth_clocked.proofs.OrderLemmas.{AreChosen-below-at, IsOrder-passes}
 
@@ -23,14 +24,6 @@ is_among numbers i = list_any (λ number. eqb number i) numbers
 is_among-push : (numbers : List ℕ) (i j : ℕ)
     → is_among (numbers ++ i ∷ []) j ≡ (is_among numbers j || (eqb i j || false))
 is_among-push numbers i j = list_any-append (λ number. eqb number j) numbers (i ∷ [])
-
--- The numbers up to a place.
-pub take-turn : (order : List ℕ) (turn number : ℕ) → slice_get order turn ≡ Some number
-    → take (turn + 1) order ≡ take turn order ++ number ∷ []
-take-turn order turn number at =
-    let is = get_or_from_slice_get order turn number number at in
-    take_more order turn number (slice_get_within order turn number at)
-    ∙ ap (λ (last : ℕ). take turn order ++ last ∷ []) is
 
 -- A number is not among those before it.
 is_among-before : (count : ℕ) (order : List ℕ) (turn number : ℕ) → AreChosen count order
@@ -110,7 +103,7 @@ module _ {P : Type 0} (change : P → P) where
     Changed-turn chosen number read part at is =
         let below = AreChosen-below-at (length old) order chosen turn number at in
         let same = changed.size in
-        rw (take-turn order turn number at, is)
+        rw (take-slice_get order turn number at, is)
         (Changed-more (take turn order) old now number (get_or now number read) changed
         (is_among-before (length old) order turn number chosen at)
         (slice_get-get_or now number read (omega arith)))

@@ -2,7 +2,7 @@
 --
 --   next_place, first_broken    the places of a walk's checks, and the first that is broken
 --   step, walked, found_by    the same as a cursor that goes from check to check
---   broken_as, judged    a rule, by the walk over its checks
+--   judged    a rule, by the walk over its checks
 --   outside, no_name, repeats, place_of, size_of    checks of numbers and names
 -- This project's own.
 use Rattle.std.specs.Prelude.{ℕ, ◌+◌, ℤ, pos, negsuc, ◌&&◌, nat_le, List, [], ◌∷◌, ◌++◌, Option}
@@ -10,7 +10,7 @@ use Rattle.std.specs.Prelude.{Some, None, Result, Ok, Err, fold, min, position, 
 use Rattle.std.specs.Prelude.{if◌then◌else◌}
 use Rattle.std.specs.List.{list_any}
 use Rattle.std.specs.Str.{bytes_eq}
-use Rattle.aeth_base.specs.Faults.{BrokenRule}
+use Rattle.aeth_base.specs.Faults.{BrokenRule, broken_as}
 use Rattle.aeth_base.specs.Name.{is_name, name_of}
 use Rattle.aeth_base.specs.declared.shown.Broken.{Broken}
 use Rattle.aeth_base.specs.declared.shown.Shown.{Shown}
@@ -45,11 +45,6 @@ walked walk checks = fold step walk checks
 abbrev pub found_by : Walk → Option Broken
 found_by (At place) = None
 found_by (Stopped broken) = Some broken
-
--- A rule that is broken, by its number and its name.
-abbrev pub broken_as : ℕ → List ℕ → Broken → BrokenRule
-broken_as rule name broken =
-    record { rule = rule; name = name; place = broken.place; value = broken.value }
 
 -- A rule, by its number and its name: it is kept where the walk over its checks finds nothing, and
 -- else broken at the place and by the value that are found.

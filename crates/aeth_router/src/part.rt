@@ -48,9 +48,7 @@ impl Part {
             Part::Stage(stage) => stage.pass(flit, onward),
         }
     }
-}
 
-impl Part {
     /// Whether the component is a router that looks a table up.
     pub fn has_table(&self) -> bool
         ensures { result ≡ has_table self.now }

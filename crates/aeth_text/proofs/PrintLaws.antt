@@ -1,9 +1,10 @@
 -- Lists that are printed word by word, with commas between.
-use Rattle.std.proofs.Common.{◌≡◌, ◌∙◌, ℕ, Bool, true, false, List, [], ◌∷◌, ◌++◌}
+use Rattle.std.proofs.Common.{◌≡◌, ◌≤◌, ◌∙◌, ℕ, Bool, true, false, List, [], ◌∷◌, ◌++◌, arith, length}
+use Rattle.std.proofs.Common.{take}
 use Rattle.std.proofs.Common.{refl, sym, ap, append_assoc}
 use Rattle.std.specs.Prelude.{flat_map}
 use Rattle.std.specs.List.{join_with_byte}
-use Rattle.std.proofs.lemmas.List.{append-nil}
+use Rattle.std.proofs.lemmas.List.{append-nil, length-take, take-append-le}
 use Rattle.aeth_text.specs.Limits.{comma}
 use Rattle.aeth_text.specs.Spelling.{item}
 
@@ -33,3 +34,19 @@ item_step out new first word words total is so_far =
     ap (λ text. text ++ joined_on false words) is
     ∙ append_assoc out (item first word) (joined_on false words)
     ∙ ap (λ text. out ++ text) (sym (item_on first word words)) ∙ so_far
+
+-- ---- What stood in a text
+
+-- All of it stood there, so it isn't longer.
+front_within : (old now : List ℕ) → take (length old) now ≡ old → length old ≤ length now
+front_within old now front =
+    let size : length (take (length old) now) ≡ length old = ap length front in
+    let least = length-take (length old) now in
+    omega (arith, size, least)
+
+-- What stood in front still does where more is appended.
+pub front_longer : (old now new more : List ℕ) → take (length old) now ≡ old → new ≡ now ++ more
+    → take (length old) new ≡ old
+front_longer old now new more front is =
+    ap (take (length old)) is
+    ∙ take-append-le (length old) now more (front_within old now front) ∙ front
