@@ -8,7 +8,7 @@ ghost use Rattle.aeth_alloc.specs.Holds.{IsReservedOf};
 ghost use Rattle.aeth_alloc.specs.Trials.{trial_for, trial_of};
 ghost use Rattle.aeth_alloc.specs.Tries.{trial_over};
 
-use crate::channels::{Design, Reserved, receiver, request_of, sender};
+use crate::channels::{Design, Reserved, request_of};
 use crate::outcome::Refused;
 use aeth_app::Connection;
 use aeth_base::{NiId, NoMemory, Side};
@@ -106,8 +106,8 @@ impl Reserved {
             ≡ trial_for design.now refused connection.now self.now) }
         ensures within { IfOk result (λ one. one.before ≤ length self.now.book.grants) }
     {
-        let from = sender(connection, refused.side);
-        let to = receiver(connection, refused.side);
+        let from = connection.sender(refused.side);
+        let to = connection.receiver(refused.side);
         Ok(Try {
             ask: request_of(design.app, connection, refused.unit, refused.side),
             turn: refused.turn,

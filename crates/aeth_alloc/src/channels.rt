@@ -3,7 +3,6 @@ ghost use Rattle.std.specs.Prelude.{◌≡◌, ◌≢◌, ◌<◌, ◌≤◌, fa
 ghost use Rattle.std.specs.Prelude.{IsTrue, None, Some, length, slice_get};
 ghost use Rattle.aeth_app.specs.App.{IsAppOf};
 ghost use Rattle.aeth_book.specs.Book.{empty_book};
-ghost use Rattle.aeth_check.specs.Channels.{receiver, sender};
 ghost use Rattle.aeth_seats.specs.First.{first_seats};
 ghost use Rattle.aeth_seats.specs.Places.{has_free, seat_of};
 ghost use Rattle.aeth_alloc.specs.Channels.{first_for, request_of, tried, with_seat};
@@ -63,26 +62,6 @@ impl Model for Reserved {
     ghost view = { λ reserved. record { book = reserved.book; seats = reserved.seats } };
 }
 
-// The core that sends on a side of a connection.
-pub(crate) fn sender(connection: &Connection, side: Side) -> CoreId
-    ensures { result ≡ sender connection.now side }
-{
-    match side {
-        Side::Fwd => connection.from,
-        Side::Back => connection.to,
-    }
-}
-
-// The core that receives on a side of a connection.
-pub(crate) fn receiver(connection: &Connection, side: Side) -> CoreId
-    ensures { result ≡ receiver connection.now side }
-{
-    match side {
-        Side::Fwd => connection.to,
-        Side::Back => connection.from,
-    }
-}
-
 // What a channel asks of a path.
 pub(crate) fn request_of(app: &App, connection: &Connection, unit: Unit, side: Side) -> Request
     requires { slice_get app.now.connections unit.conn.0 ≡ Some connection.now }
@@ -131,8 +110,8 @@ impl Reserved {
         ensures kept { IfOk result (λ granted. granted ≡ false → self.new ≡ self.old) }
     {
         let connection = design.app.connection(unit.conn);
-        let from = sender(&connection, side);
-        let to = receiver(&connection, side);
+        let from = connection.sender(side);
+        let to = connection.receiver(side);
         let Some(found) = self.first_for(alloc, design, &connection, unit, side)? else {
             return Ok(false);
         };
@@ -166,8 +145,8 @@ impl Reserved {
     {
         let _grants = self.book.list();
         let ask = request_of(design.app, connection, unit, side);
-        let from = sender(connection, side);
-        let to = receiver(connection, side);
+        let from = connection.sender(side);
+        let to = connection.receiver(side);
         let senders = self.seats.candidates(alloc, from)?;
         let receivers = self.seats.candidates(alloc, to)?;
         let crowded = self.seats.crowded(alloc, from, to)?;

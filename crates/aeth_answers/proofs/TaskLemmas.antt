@@ -1,10 +1,10 @@
 -- Laws of tasks: what answers them while their files are read.
 use Rattle.std.proofs.Common.{◌≡◌, ◌≢◌, ◌∙◌, ◌≤◌, ◌<◌, ℕ, List, Option, Some, None, inl, inr}
-use Rattle.std.proofs.Common.{ap, refl, sym, subst, arith}
+use Rattle.std.proofs.Common.{refl, sym, subst, arith}
 use Rattle.std.proofs.Math.Path.{fun_ext}
 use Rattle.std.proofs.lemmas.Option.{none-some, same_Some}
 use Rattle.aeth_io.specs.Causes.{Rose}
-use Rattle.aeth_answers.specs.Job.{Job, done, not_granted, read_fault}
+use Rattle.aeth_answers.specs.Job.{Job, read_fault}
 use Rattle.aeth_answers.specs.Places.{Files, IsAfter}
 use Rattle.aeth_answers.specs.Status.{read_fault_status, usage_status}
 use Rattle.aeth_answers.specs.Stop.{Leaves}

@@ -1,6 +1,5 @@
 // The end of a run: the text of its answer is written.
 ghost use Rattle.aeth_answers.specs.Job.{err_text, out_text};
-ghost use Rattle.aeth_answers.specs.Places.{Sinks};
 ghost use Rattle.aeth_answers.specs.Status.{done_status, status_number};
 ghost use Rattle.aeth_answers.specs.Writing.{EndsWith};
 ghost use Rattle.aeth_io.specs.Causes.{Rose};

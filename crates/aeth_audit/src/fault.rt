@@ -29,29 +29,18 @@ impl Fault for LogFault {
 
     fn broken_rule(&self) -> Option<BrokenRule> {
         match self {
-            LogFault::BadRow { row } => Some(rule_at(1, "BadRow", *row, Shown::Nothing)),
+            LogFault::BadRow { row } => Some(BrokenRule::at(1, "BadRow", *row, Shown::Nothing)),
             LogFault::Unknown { row, field } => {
-                Some(rule_at(2, "Unknown", *row, Shown::Number(*field as u64)))
+                Some(BrokenRule::at(2, "Unknown", *row, Shown::Number(*field as u64)))
             }
             LogFault::OutOfOrder { row, cycle } => {
-                Some(rule_at(3, "OutOfOrder", *row, Shown::Number(*cycle as u64)))
+                Some(BrokenRule::at(3, "OutOfOrder", *row, Shown::Number(*cycle as u64)))
             }
             LogFault::TooMany { rows } => {
-                Some(rule_at(4, "TooMany", 0, Shown::Number(*rows as u64)))
+                Some(BrokenRule::at(4, "TooMany", 0, Shown::Number(*rows as u64)))
             }
             LogFault::Memory => None,
         }
-    }
-}
-
-fn rule_at(rule: u32, name: &'static str, place: u32, value: Shown) -> BrokenRule
-    ensures { result ≡ record { rule = rule; name = name.now; place = place; value = value } }
-{
-    BrokenRule {
-        rule,
-        name,
-        place,
-        value,
     }
 }
 

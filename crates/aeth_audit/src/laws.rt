@@ -1,5 +1,5 @@
 //! What holds of reservations and of audits, over the definitions alone.
-ghost use Rattle.std.specs.Prelude.{◌≡◌, ◌<◌, ℕ, List, Contains, filter, nat_lt};
+ghost use Rattle.std.specs.Prelude.{◌≡◌, ℕ, List, Contains, filter, nat_lt};
 ghost use Rattle.aeth_reconf.specs.Timeline.{timeline_of};
 ghost use Rattle.aeth_report.specs.Design.{Design};
 ghost use Rattle.aeth_report.specs.Flows.{Run};

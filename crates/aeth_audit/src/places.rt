@@ -1,7 +1,6 @@
 // Where the flits of a plan's grants enter the links.
 ghost use Rattle.std.specs.Prelude.{◌≡◌, ◌<◌, ◌≤◌, ◌+◌, ◌*◌, ◌++◌, ◌%◌, ◌==◌, ℕ, [], ◌∷◌, All};
-ghost use Rattle.std.specs.Prelude.{IfOk, Some, length, slice_get, if◌then◌else◌};
-ghost use Rattle.aeth_chip.specs.Chip.{IsChip};
+ghost use Rattle.std.specs.Prelude.{IfOk, length, if◌then◌else◌};
 ghost use Rattle.aeth_audit.specs.Places.{Adds, ArePlaces, IsInCell, IsOfGrant, IsPlaced, cell_at};
 ghost use Rattle.aeth_audit.specs.declared.places.Place.{Place};
 

@@ -1,16 +1,14 @@
 // What is made once of a plan: how the flits of each grant are addressed, and where they enter the
 // links.
-ghost use Rattle.std.specs.Prelude.{◌≡◌, ◌<◌, ◌≤◌, ◌^◌, All, IfOk, drop, length, map};
-ghost use Rattle.aeth_app.specs.Connections.{receiver};
+ghost use Rattle.std.specs.Prelude.{◌≡◌, ◌<◌, All, IfOk, map};
 ghost use Rattle.aeth_chip.specs.Chip.{IsChip};
 ghost use Rattle.aeth_tables.specs.Granted.{line_of};
 ghost use Rattle.aeth_tables.specs.Reserved.{IsDesign};
-ghost use Rattle.aeth_audit.specs.Places.{IsPlaced};
 ghost use Rattle.aeth_audit.specs.Tables.{IsAddressable, IsTable, address_of, seat_number};
 
 use crate::places::Places;
-use aeth_app::{App, Connection, MAX_CORE_CONNECTIONS};
-use aeth_base::{CoreId, NoMemory, Side};
+use aeth_app::{App, MAX_CORE_CONNECTIONS};
+use aeth_base::{CoreId, NoMemory};
 use aeth_chip::Chip;
 use aeth_group::{Grant, SeatLine};
 use aeth_plan::Plan;
@@ -49,16 +47,6 @@ fn seat_number(seats: &[SeatLine], core: CoreId) -> u8
     }
 }
 
-// The core that receives on a side of a connection.
-fn receiver(connection: &Connection, side: Side) -> CoreId
-    ensures { result ≡ receiver connection.now side }
-{
-    match side {
-        Side::Fwd => connection.to,
-        Side::Back => connection.from,
-    }
-}
-
 // The address of a grant.
 fn address_of(chip: &Chip, app: &App, seats: &[SeatLine], grant: &Grant) -> Address
     requires chip { IsChip chip.now }
@@ -66,7 +54,7 @@ fn address_of(chip: &Chip, app: &App, seats: &[SeatLine], grant: &Grant) -> Addr
     ensures { result ≡ address_of chip.now app.now seats.now grant.now }
 {
     let conn = grant.unit.conn;
-    let core = receiver(&app.connection(conn), grant.side);
+    let core = app.connection(conn).receiver(grant.side);
     let seat = seat_number(seats, core) as u32;
     Address {
         route: route_along(chip, &grant.path),

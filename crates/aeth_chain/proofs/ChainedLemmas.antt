@@ -1,6 +1,6 @@
 -- A chain is a run of an accepted plan: the landings on its last channel are those of the log of the run
 -- that has its offers as words.
-use Rattle.std.proofs.Common.{◌≡◌, ◌∙◌, ◌<◌, ◌≤◌, ◌+◌, ℕ, suc, List, [], ◌∷◌, Some, length, map}
+use Rattle.std.proofs.Common.{◌≡◌, ◌∙◌, ◌≤◌, ℕ, suc, List, [], ◌∷◌, Some, length, map}
 use Rattle.std.proofs.Common.{slice_get, refl, sym, ap, arith}
 use Rattle.std.specs.Prelude.{All}
 use Rattle.std.specs.List.{range_with_len}
@@ -14,7 +14,6 @@ use Rattle.aeth_trace.specs.declared.receivers.PullRow.{PullRow}
 use Rattle.aeth_trace.specs.declared.words.WordRow.{WordRow}
 use Rattle.aeth_report.specs.Flows.{Run}
 use Rattle.aeth_report.specs.RunLog.{log_of}
-use Rattle.aeth_report.specs.declared.log.Landing.{Landing}
 use Rattle.aeth_accepted.specs.Inputs.{Inputs, run_of}
 use Rattle.aeth_chain.specs.Chain.{AreDistinct, IsChain, Leg, leg_of, legs_of}
 use Rattle.aeth_chain.specs.ChainInputs.{AreTabled, forwarding_inputs, landings_on, last_channel}

@@ -1,8 +1,8 @@
 -- What the log of a run tells of a channel of a connection that is in use in one session throughout.
-use Rattle.std.proofs.Common.{◌≡◌, ◌∙◌, ◌<◌, ◌≤◌, ◌+◌, ◌&&◌, ℕ, zero, suc, Bool, true, false, List, []}
-use Rattle.std.proofs.Common.{◌∷◌, ◌++◌, cond, filter, flat_map, length, map, min, refl, sym, ap, inl}
+use Rattle.std.proofs.Common.{◌≡◌, ◌∙◌, ◌<◌, ◌≤◌, ◌+◌, ℕ, zero, suc, true, List, []}
+use Rattle.std.proofs.Common.{◌∷◌, ◌++◌, cond, filter, flat_map, map, refl, sym, ap, inl}
 use Rattle.std.proofs.Common.{inr, arith}
-use Rattle.std.specs.Prelude.{◌==◌, All, None, nat_le, nat_lt, slice_index}
+use Rattle.std.specs.Prelude.{◌==◌, All, None, nat_lt, slice_index}
 use Rattle.std.specs.List.{range_with_len}
 use Rattle.std.proofs.lemmas.Bool.{cases_lt, cases_eq, eq-eqb, le-leb, le-ltb, lt-ltb, ne_eqb}
 use Rattle.std.proofs.lemmas.List.{append-nil}
@@ -20,12 +20,11 @@ use Rattle.aeth_server.specs.Shape.{buffer_of}
 use Rattle.aeth_trace.specs.Channels.{is_channel}
 use Rattle.aeth_trace.specs.Receivers.{pull_at}
 use Rattle.aeth_trace.specs.Words.{words_on}
-use Rattle.aeth_trace.specs.declared.switches.SwitchRow.{SwitchRow}
 use Rattle.aeth_trace.specs.declared.words.WordRow.{WordRow}
 use Rattle.aeth_report.specs.Channels.{channels_of}
 use Rattle.aeth_report.specs.Design.{shape_at}
-use Rattle.aeth_report.specs.Flows.{Run, close_at, flow_of, is_within, server_of, sessions_in}
-use Rattle.aeth_report.specs.Flows.{values_of as run_values, words_in}
+use Rattle.aeth_report.specs.Flows.{Run, flow_of, is_within, server_of, sessions_in}
+use Rattle.aeth_report.specs.Flows.{values_of as run_values}
 use Rattle.aeth_report.specs.Log.{ChannelData}
 use Rattle.aeth_report.specs.RunLog.{channel_log, counted_to, flow_log, landing_of, log_of}
 use Rattle.aeth_report.specs.declared.session.Session.{Session}

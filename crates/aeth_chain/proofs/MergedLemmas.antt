@@ -1,7 +1,7 @@
 -- The rows of a channel among those that a chain offers: what is offered on it.
-use Rattle.std.proofs.Common.{◌≡◌, ◌∙◌, ◌<◌, ◌≤◌, ◌+◌, ◌++◌, ℕ, zero, suc, Bool, true, false, List, []}
-use Rattle.std.proofs.Common.{◌∷◌, Some, filter, flat_map, length, map, slice_get, refl, sym, ap, inl}
-use Rattle.std.proofs.Common.{inr, arith, subst}
+use Rattle.std.proofs.Common.{◌≡◌, ◌∙◌, ◌<◌, ◌≤◌, ◌+◌, ◌++◌, ℕ, zero, suc, true, false, List, []}
+use Rattle.std.proofs.Common.{◌∷◌, Some, filter, flat_map, map, slice_get, refl, sym, ap, inl}
+use Rattle.std.proofs.Common.{inr, arith}
 use Rattle.std.specs.Prelude.{◌==◌, All, nat_lt}
 use Rattle.std.specs.List.{range_with_len}
 use Rattle.std.specs.List.Sorted.{IsNonDecreasing, IsNonDecreasingBy}

@@ -1,7 +1,6 @@
 // The items of a chain, and the rules that they keep.
-ghost use Rattle.std.specs.Prelude.{◌≡◌, ◌<◌, ◌≤◌, IfOk, length, map, nat_lt};
+ghost use Rattle.std.specs.Prelude.{◌≡◌, ◌<◌, ◌≤◌, IfOk, length, map};
 ghost use Rattle.std.specs.List.{list_any};
-ghost use Rattle.aeth_app.specs.App.{has_connection};
 ghost use Rattle.aeth_base.specs.Faults.{Reads};
 ghost use Rattle.aeth_trace.specs.Channels.{is_channel};
 ghost use Rattle.aeth_chain.specs.Limits.{max_chain_items};

@@ -1,5 +1,5 @@
 // The items of a chain as a word of a command line tells them.
-ghost use Rattle.std.specs.Prelude.{◌≡◌, ◌==◌, IfSome, is_none, length};
+ghost use Rattle.std.specs.Prelude.{◌≡◌, IfSome, is_none};
 ghost use Rattle.aeth_text.specs.Grammar.{parts, words_left};
 ghost use Rattle.aeth_text.specs.Limits.{comma};
 ghost use Rattle.aeth_chain_items.specs.ItemNames.{AreItemNames, item_in, item_names_of, work_in};

@@ -1,6 +1,5 @@
 // Rules 3 and 4: units and their sides.
 ghost use Rattle.aeth_check.specs.Channels.{first_lacking, has_side, is_before, is_for};
-ghost use Rattle.aeth_base.specs.Sides.{same_side};
 ghost use Rattle.aeth_check.specs.Channels.{lacking_side};
 ghost use Rattle.aeth_check.specs.Firsts.{first_line};
 ghost use Rattle.aeth_check.specs.Verdict.{lacking, stranger};
@@ -45,31 +44,15 @@ pub(crate) fn stranger(groups: &Groups, plan: &Plan) -> Option<Verdict>
     })
 }
 
-fn same_side(a: Side, b: Side) -> bool
-    ensures { result ≡ same_side a b }
-{
-    match a {
-        Side::Fwd => match b {
-            Side::Fwd => true,
-            Side::Back => false,
-        },
-        Side::Back => match b {
-            Side::Fwd => false,
-            Side::Back => true,
-        },
-    }
-}
-
-fn is_for(unit: Unit, side: Side, grant: &Grant) -> bool
+/// Whether a grant is for a side of a unit.
+pub fn is_for(unit: Unit, side: Side, grant: &Grant) -> bool
     ensures { result ≡ is_for unit side grant.now }
 {
-    grant.unit.conn.0 == unit.conn.0
-        && grant.unit.group.0 == unit.group.0
-        && same_side(grant.side, side)
+    grant.unit.conn.0 == unit.conn.0 && grant.unit.group.0 == unit.group.0 && grant.side.is(side)
 }
 
 /// Whether a grant comes before those for a side of a unit.
-fn is_before(unit: Unit, side: Side, grant: &Grant) -> bool
+pub fn is_before(unit: Unit, side: Side, grant: &Grant) -> bool
     ensures { result ≡ is_before unit side grant.now }
 {
     if grant.unit.conn.0 != unit.conn.0 {

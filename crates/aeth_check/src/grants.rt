@@ -1,7 +1,7 @@
 // Rules 5 and 6: paths and slots of grants.
 ghost use Rattle.aeth_app.specs.App.{IsWish, wish_of};
 ghost use Rattle.aeth_check.specs.Calls.{IsWithin};
-ghost use Rattle.aeth_check.specs.Channels.{fits_path, fits_slots, receiver, sender};
+ghost use Rattle.aeth_check.specs.Channels.{fits_path, fits_slots};
 ghost use Rattle.aeth_check.specs.Firsts.{first_line};
 ghost use Rattle.aeth_check.specs.Verdict.{stray_path, unfit_slots};
 ghost use Rattle.aeth_chip.specs.Chip.{IsChip};
@@ -12,31 +12,11 @@ use crate::routes::leads;
 use crate::seating::Seating;
 use crate::verdict::Verdict;
 use aeth_app::{App, Connection, Wish};
-use aeth_base::{Channel, CoreId, Side};
+use aeth_base::{Channel, Side};
 use aeth_chip::{Chip, Distances};
 use aeth_group::Grant;
 use aeth_plan::Plan;
 use aeth_text::line_after;
-
-/// The core that sends on a side of a connection.
-fn sender(connection: &Connection, side: Side) -> CoreId
-    ensures { result ≡ sender connection.now side }
-{
-    match side {
-        Side::Fwd => connection.from,
-        Side::Back => connection.to,
-    }
-}
-
-/// The core that receives on a side of a connection.
-fn receiver(connection: &Connection, side: Side) -> CoreId
-    ensures { result ≡ receiver connection.now side }
-{
-    match side {
-        Side::Fwd => connection.to,
-        Side::Back => connection.from,
-    }
-}
 
 /// Whether a grant's path leads from the sender's seat to the receiver's.
 fn fits_path(
@@ -54,8 +34,8 @@ fn fits_path(
         (slice_get app.now.connections grant.now.unit.conn.0) }
 {
     let connection = app.connection(grant.unit.conn);
-    let from = seating.ni_of(sender(&connection, grant.side));
-    let to = seating.ni_of(receiver(&connection, grant.side));
+    let from = seating.ni_of(connection.sender(grant.side));
+    let to = seating.ni_of(connection.receiver(grant.side));
     leads(chip, distances, app.detour(), from, to, &grant.path)
 }
 

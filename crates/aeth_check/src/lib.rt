@@ -13,5 +13,6 @@ mod seating;
 mod seats;
 mod verdict;
 
+pub use channels::{is_before, is_for};
 pub use judging::check;
 pub use verdict::Verdict;

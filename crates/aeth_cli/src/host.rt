@@ -1,5 +1,4 @@
 // The program on a host: its arguments, its files, its standard output and standard error.
-ghost use Rattle.aeth_answers.specs.Places.{Places};
 ghost use Rattle.aeth_answers.specs.Status.{memory_status};
 ghost use Rattle.aeth_cli.specs.Promise.{Promise};
 ghost use Rattle.std.specs.Prelude.{◌≡◌, ◌≤◌, drop, map, string_bytes};

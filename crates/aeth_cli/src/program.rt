@@ -1,5 +1,4 @@
 // The top call: the answer to the words, and its writing.
-ghost use Rattle.aeth_answers.specs.Places.{Places};
 ghost use Rattle.aeth_cli.specs.Promise.{Promise};
 ghost use Rattle.std.specs.Prelude.{map, string_bytes};
 

@@ -13,7 +13,7 @@ use Rattle.std.proofs.lemmas.Option.{slice_get-get_or, slice_get_within}
 use Rattle.aeth_base.proofs.Lists.{slice_get-slice_set_other, slice_get-slice_set_same}
 use Rattle.aeth_router.specs.declared.part.Part.{Part}
 use Rattle.aeth_components.specs.declared.lane.Lane.{Lane}
-use Rattle.aeth_base.specs.Marks.{bit_of, is_marked, marked_from, room_of}
+use Rattle.aeth_base.specs.Marks.{bit_of, is_marked, marked_from, numbers_of_mask, room_of}
 use Rattle.aeth_base.proofs.MarkedLemmas.{is_marked-one, is_marked-zero, next-passing}
 use Rattle.aeth_base.proofs.MarkedLemmas.{none-passing}
 use Rattle.aeth_components.specs.Busy.{AreMarked}
@@ -107,10 +107,10 @@ marked-within : (masks : List ℕ) (number : ℕ) → bit_of masks number ≡ 1 
 marked-within masks number bit = elim (cases_lt number (room_of masks)) [
   | inl within ↦ within
   | inr past ↦
-      let mask : slice_index masks (number / 64) ≡ 0 =
-      get_or_past masks (number / 64) 0 (omega (arith, past)) in
+      let mask : slice_index masks (number / numbers_of_mask) ≡ 0 =
+      get_or_past masks (number / numbers_of_mask) 0 (omega (arith, past)) in
       let none : bit_of masks number ≡ 0 =
-      ap (λ mask. bit_at mask (number % 64)) mask ∙ bit_at-zero (number % 64) in
+      ap (λ mask. bit_at mask (number % numbers_of_mask)) mask ∙ bit_at-zero (number % numbers_of_mask) in
       absurd (omega (arith, bit, none))
 ]
 

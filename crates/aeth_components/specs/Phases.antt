@@ -25,6 +25,7 @@ handed_on left parts lane = (
   record lane { handed = lane.handed + told_at lane.sender (fits left) parts },
 )
 
+-- So it does where it is open in the cycle.
 abbrev pub refilled : List ℕ → ℕ → List Part → Lane → List Part × Lane
 refilled words cycle parts lane =
     if is_open lane cycle then handed_on (left_of words lane) parts lane else (parts, lane)
@@ -40,6 +41,7 @@ drawn_out parts lane = (
   record lane { taken = lane.taken + told_at lane.receiver (draws (asked_of lane)) parts },
 )
 
+-- So it does where the session is open in the cycle.
 abbrev pub pulled : ℕ → List Part → Lane → List Part × Lane
 pulled cycle parts lane = if is_open lane cycle then drawn_out parts lane else (parts, lane)
 
@@ -53,10 +55,12 @@ abbrev pub turned_by : Moment → ℕ → List Part × Lane → Moment
 turned_by moment number done =
     record { parts = done.0; lanes = slice_set moment.lanes number done.1 }
 
+-- So it has where there is one of this number.
 abbrev pub turned_at : (List Part → Lane → List Part × Lane) → Moment → ℕ → Option Lane → Moment
 turned_at turn moment number None = moment
 turned_at turn moment number (Some lane) = turned_by moment number (turn moment.parts lane)
 
+-- The channel of a number has had its turn.
 abbrev pub turned : (List Part → Lane → List Part × Lane) → Moment → ℕ → Moment
 turned turn moment number = turned_at turn moment number (slice_get moment.lanes number)
 

@@ -248,8 +248,8 @@ impl Components {
     }
 
     /// The same, in which only components take a turn that have something to do: a flit comes to them, or
-    /// they send words or credits. It counts a step for each flit that an interface latches, or that a router or
-    /// a stage passes on, and one for each interface that sends.
+    /// they send words or credits. It counts a step for each flit that comes to a component, one for each
+    /// whose way a router's table has, and one for each interface that sends.
     pub fn step_counted<L: Ledger>(
         &mut self,
         order: &Order,

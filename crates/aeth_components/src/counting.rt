@@ -1,7 +1,7 @@
 // What is counted behind a cycle: the words that have landed.
 
-ghost use Rattle.std.specs.Prelude.{◌≡◌, ◌<◌, ◌≤◌, ◌+◌, ◌^◌, ◌==◌, ℕ, All, List, None, Some};
-ghost use Rattle.std.specs.Prelude.{false, fold, length, map, slice_get, take, true};
+ghost use Rattle.std.specs.Prelude.{◌≡◌, ◌<◌, ◌≤◌, ◌+◌, ◌^◌, ◌==◌, All, Some};
+ghost use Rattle.std.specs.Prelude.{false, fold, length, map, take, true};
 ghost use Rattle.aeth_components.specs.Busy.{AreMarked, TakesNothing};
 ghost use Rattle.aeth_components.specs.Channels.{OfLane};
 ghost use Rattle.aeth_components.specs.Counting.{counted, counted_among, noted};

@@ -6,7 +6,7 @@ ghost use Rattle.aeth_chip.specs.Chip.{IsNode};
 ghost use Rattle.aeth_chip.specs.Paths.{delay_of};
 ghost use Rattle.aeth_chip.specs.Wires.{wires_of};
 ghost use Rattle.aeth_components.specs.Components.{part_count};
-ghost use Rattle.aeth_components.specs.Ends.{AreEndsOf, AreReceivers, AreSenders, FitsWires, IsSender};
+ghost use Rattle.aeth_components.specs.Ends.{AreEndsOf, AreReceivers, AreSenders, IsSender};
 ghost use Rattle.aeth_components.specs.Ends.{NotedTo, part_number, receiver_for};
 
 use aeth_base::{LinkId, NoMemory};

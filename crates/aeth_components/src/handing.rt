@@ -1,6 +1,6 @@
 // Which channels hand words on, and which of them wait for room in their source queues.
 
-ghost use Rattle.std.specs.Prelude.{◌≡◌, ◌<◌, ℕ, IfOk, List, length};
+ghost use Rattle.std.specs.Prelude.{◌≡◌, ◌<◌, IfOk, List, length};
 ghost use Rattle.aeth_base.specs.Marks.{bit_of, room_of};
 ghost use Rattle.aeth_components.specs.Handing.{AreHanding, HasEvent, HasWaitingPlaces, Settles};
 ghost use Rattle.aeth_components.specs.Handing.{Wakes};

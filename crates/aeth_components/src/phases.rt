@@ -1,6 +1,6 @@
 // What is done in a cycle to single components and channels: switching, refilling, and taking.
 
-ghost use Rattle.std.specs.Prelude.{◌≡◌, ◌<◌, ◌^◌, All, length, map, true};
+ghost use Rattle.std.specs.Prelude.{◌≡◌, ◌<◌, All, length, map, true};
 ghost use Rattle.aeth_components.specs.Busy.{AreMarked, IsIdle, TakesNothing};
 ghost use Rattle.aeth_components.specs.Changes.{switched};
 ghost use Rattle.aeth_components.specs.Events.{IsDoable};

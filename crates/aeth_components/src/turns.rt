@@ -1,6 +1,6 @@
 // What a cycle needs beside the components.
 
-ghost use Rattle.std.specs.Prelude.{◌≡◌, ℕ, IfOk, List, None, map, replicate};
+ghost use Rattle.std.specs.Prelude.{ℕ, IfOk, List, None, map, replicate};
 ghost use Rattle.aeth_chip.specs.Wires.{wires_of};
 ghost use Rattle.aeth_components.specs.Frames.{frame_of};
 ghost use Rattle.aeth_components.specs.Injecting.{AreInjecting, entries_of};

@@ -5,7 +5,6 @@ use Rattle.std.proofs.Common.{filter, length, length-append, subst, sym, take}
 use Rattle.std.specs.List.{flat_map, list_any}
 use Rattle.std.specs.Prelude.{IfOk, MatchOption, option_map, slice_get}
 use Rattle.std.proofs.lemmas.List.{take_all}
-use Rattle.std.proofs.lemmas.List.Elements.{All-push}
 use Rattle.aeth_base.specs.Limits.{max_path_links}
 use Rattle.aeth_base.specs.declared.ids.LinkId.{LinkId}
 use Rattle.aeth_base.specs.declared.ids.NiId.{NiId}
@@ -22,7 +21,6 @@ use Rattle.aeth_group.specs.Members.{GroupsData}
 use Rattle.aeth_paths.specs.Task.{links_from}
 use Rattle.aeth_paths.specs.Trials.{TrialData}
 use Rattle.aeth_paths.proofs.PrefixLemmas.{link-at}
-use Rattle.aeth_paths.proofs.StepLemmas.{link-below}
 use Rattle.aeth_explain.specs.Certificate.{certificate_of, cuts_of, is_first_cut, shorter_fronts}
 use Rattle.aeth_explain.specs.Cuts.{HasCandidate, IsCertificate}
 use Rattle.aeth_explain.specs.Fronts.{IsFront, IsLonger, first_open, lists_below, open_over}
@@ -160,11 +158,6 @@ module _ (judge : TryJudgeData) (listed : Listed) (is : IsTried judge listed) wh
 
       pub path-room : length path + left ≡ max_path_links
       path-room = omega (arith, length-append front.path (link ∷ []), room)
-
-      pub path-links : All (λ (l : LinkId). l.0 < length chip.links) path
-      path-links =
-          All-push (λ (l : LinkId). l.0 < length chip.links) front.path link at.links
-          (link-below chip.links (Router front.router) link leaves)
 
       -- No path that the try may take goes on over the link.
       pub walked-away : open_over listed front link left ≡ None → (cuts : List (List LinkId))

@@ -6,13 +6,12 @@
 --   matched      the `try` lines are those of the tries
 --   cuts_behind, blocks_of, cuts_of_text      the lists behind each `try` line
 --   try_line, cut_line, block_lines, cuts_text      the text of tries and their cuts
-use Rattle.std.specs.Prelude.{ℕ, ◌<◌, ◌==◌, ◌&&◌, ◌++◌, Bool, true, false, List, [], ◌∷◌, All, codes}
+use Rattle.std.specs.Prelude.{ℕ, ◌<◌, ◌==◌, ◌&&◌, ◌++◌, Bool, List, [], ◌∷◌, All, codes}
 use Rattle.std.specs.Prelude.{decimal, if◌then◌else◌, length, map, nat_lt, Result, Ok, Err}
 use Rattle.std.specs.List.{join_with_byte, list_all}
 use Rattle.aeth_base.specs.Faults.{BrokenRule}
+use Rattle.aeth_base.specs.Sides.{same_side}
 use Rattle.aeth_base.specs.declared.ids.LinkId.{LinkId}
-use Rattle.aeth_base.specs.declared.ids.Side.{Side}
-use Rattle.aeth_base.specs.declared.ids.Side.TheVariants.{Back, Fwd}
 use Rattle.aeth_document.specs.Chain.{◌>>=◌}
 use Rattle.aeth_text.specs.Limits.{space}
 use Rattle.aeth_text.specs.Order.{line_after}
@@ -54,12 +53,6 @@ known_line chip app groups line (Try words) = do
 known_line chip app groups line (Cut links) = do
   known ← holds line 2 (list_all (λ link. nat_lt link.0 (length chip.links)) links)
   Ok (Listed links)
-
-abbrev pub same_side : Side → Side → Bool
-same_side Fwd Fwd = true
-same_side Back Back = true
-same_side Fwd Back = false
-same_side Back Fwd = false
 
 -- Whether two lines tell of one try.
 abbrev pub same_try : TryLine → TryLine → Bool

@@ -49,26 +49,20 @@ impl Fault for CutsFault {
 
     fn broken_rule(&self) -> Option<BrokenRule> {
         match self {
-            CutsFault::BadLine { line } => Some(broken_rule(1, "BadLine", *line, Shown::Nothing)),
+            CutsFault::BadLine { line } => Some(BrokenRule::at(
+                1,
+                "BadLine",
+                *line,
+                Shown::Nothing,
+            )),
             CutsFault::Unknown { line, field } => {
                 let value = Shown::Number(*field as u64);
-                Some(broken_rule(2, "Unknown", *line, value))
+                Some(BrokenRule::at(2, "Unknown", *line, value))
             }
             CutsFault::WrongTry { line } => {
-                Some(broken_rule(3, "WrongTry", *line, Shown::Nothing))
+                Some(BrokenRule::at(3, "WrongTry", *line, Shown::Nothing))
             }
             CutsFault::Memory => None,
         }
-    }
-}
-
-fn broken_rule(rule: u32, name: &'static str, place: u32, value: Shown) -> BrokenRule
-    ensures { result ≡ record { rule = rule; name = name.now; place = place; value = value } }
-{
-    BrokenRule {
-        rule,
-        name,
-        place,
-        value,
     }
 }

@@ -1,7 +1,6 @@
 // What the lines of a text of certificates name on a chip and in an application, and whether they tell
 // of the tries.
-ghost use Rattle.std.specs.Prelude.{◌≡◌, IfOk, IsTrue, OnOk, length, nat_lt};
-ghost use Rattle.std.specs.List.{list_all};
+ghost use Rattle.std.specs.Prelude.{◌≡◌, IfOk};
 ghost use Rattle.aeth_base.specs.Faults.{Reads};
 ghost use Rattle.aeth_explain.specs.CutsFaults.{rule_of};
 ghost use Rattle.aeth_explain.specs.CutsText.{blocks_of, cuts_behind, known_line, matched};
@@ -12,7 +11,7 @@ use crate::cuts_fault::CutsFault;
 use crate::text_lines::LineText;
 use crate::try_line::{KnownLine, TryLine};
 use aeth_app::App;
-use aeth_base::{GroupId, NoMemory, Path, Unit};
+use aeth_base::{GroupId, NoMemory, Unit};
 use aeth_chip::Chip;
 use aeth_group::Groups;
 use aeth_text::line_after;
@@ -27,18 +26,6 @@ fn holds(line: u32, field: u32, test: bool) -> Result<(), CutsFault>
     } else {
         Err(CutsFault::Unknown { line, field })
     }
-}
-
-/// Whether all links of a path are the chip's.
-fn has_links(chip: &Chip, path: &Path) -> bool
-    ensures { result ≡ list_all (λ link. nat_lt link.0 (length chip.now.links)) path.now }
-{
-    for i in 0..path.len() {
-        if path.link(i).0 >= chip.links() {
-            return false;
-        }
-    }
-    true
 }
 
 /// What a line's fields name.
@@ -69,7 +56,7 @@ fn known_line(
             })
         }
         LineText::Cut { links } => {
-            holds(line, 2, has_links(chip, links))?;
+            holds(line, 2, chip.has_links(links))?;
             Ok(KnownLine::Listed { path: *links })
         }
     }

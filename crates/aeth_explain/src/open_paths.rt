@@ -1,5 +1,5 @@
 // The first path that a try may take and that begins with none of a certificate's lists.
-ghost use Rattle.std.specs.Prelude.{◌≡◌, ◌≤◌, ◌<◌, ◌+◌, ◌-◌, ◌++◌, ◌∷◌, [], All, Contains, IfOk, length, slice_get};
+ghost use Rattle.std.specs.Prelude.{◌≡◌, ◌<◌, ◌+◌, ◌-◌, ◌++◌, ◌∷◌, [], All, Contains, IfOk, length, slice_get};
 ghost use Rattle.aeth_base.specs.Limits.{max_path_links};
 ghost use Rattle.aeth_chip.specs.Paths.{to_of};
 ghost use Rattle.aeth_chip.specs.declared.node.Node.TheVariants.{Ni, Router};

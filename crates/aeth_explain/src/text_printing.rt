@@ -1,5 +1,5 @@
 // Printing certificates.
-ghost use Rattle.std.specs.Prelude.{◌≡◌, ◌++◌, ◌∷◌, [], IfOk, OnOk, codes, decimal, length, map};
+ghost use Rattle.std.specs.Prelude.{◌≡◌, ◌++◌, ◌∷◌, [], IfOk, OnErr, OnOk, codes, decimal, length, map};
 ghost use Rattle.aeth_explain.specs.CutsText.{block_lines, cut_line, cuts_text, line_of, try_line};
 ghost use Rattle.aeth_app.specs.Connections.{connection_names};
 ghost use Rattle.aeth_plan.specs.Plan.{name_at};
@@ -77,13 +77,14 @@ fn push_cuts(out: &mut Vec<u8>, cuts: &[Path]) -> Result<(), NoMemory>
 
 /// Appends the first line of a text of certificates.
 pub fn push_head(out: &mut Vec<u8>) -> Result<(), NoMemory>
-    ensures { OnOk result (out.new.items ≡ out.old.items ++ ended_line (codes "explain 1")) }
+    ensures ok { OnOk result (out.new.items ≡ out.old.items ++ ended_line (codes "explain 1")) }
+    ensures err { OnErr result (out.new.items ≡ out.old.items) }
 {
     out.extend_from_slice(b"explain 1\n")?;
     Ok(())
 }
 
-/// Appends the line of a try and those of its cuts.
+/// Appends the line of a try and those of its cuts. Where memory is wanting, a part of them may stay.
 pub fn push_block(out: &mut Vec<u8>, app: &App, line: &TryLine, cuts: &Cuts) -> Result<(), NoMemory>
     ensures { OnOk result (out.new.items
         ≡ out.old.items ++ text_of_lines (block_lines app.now line.now cuts.now)) }
@@ -94,7 +95,8 @@ pub fn push_block(out: &mut Vec<u8>, app: &App, line: &TryLine, cuts: &Cuts) -> 
 
 /// Appends the last line.
 pub fn push_end(out: &mut Vec<u8>) -> Result<(), NoMemory>
-    ensures { OnOk result (out.new.items ≡ out.old.items ++ ended_line (codes "end")) }
+    ensures ok { OnOk result (out.new.items ≡ out.old.items ++ ended_line (codes "end")) }
+    ensures err { OnErr result (out.new.items ≡ out.old.items) }
 {
     out.extend_from_slice(b"end\n")?;
     Ok(())

@@ -1,5 +1,5 @@
 // What a line of a text of certificates tells.
-ghost use Rattle.aeth_explain.specs.CutsText.{line_of, same_side, same_try};
+ghost use Rattle.aeth_explain.specs.CutsText.{line_of, same_try};
 ghost use Rattle.std.specs.Prelude.{◌≡◌};
 
 use aeth_base::{Path, Side, Unit};
@@ -39,22 +39,7 @@ impl TryLine {
     {
         self.unit.conn.0 == other.unit.conn.0
             && self.unit.group.0 == other.unit.group.0
-            && same_side(self.side, other.side)
+            && self.side.is(other.side)
             && self.turn == other.turn
-    }
-}
-
-fn same_side(a: Side, b: Side) -> bool
-    ensures { result ≡ same_side a b }
-{
-    match a {
-        Side::Fwd => match b {
-            Side::Fwd => true,
-            Side::Back => false,
-        },
-        Side::Back => match b {
-            Side::Fwd => false,
-            Side::Back => true,
-        },
     }
 }

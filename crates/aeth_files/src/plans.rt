@@ -90,7 +90,7 @@ fn missing(alloc: Global, app: &App, unit: &Unit, side: Side) -> Result<Answer, 
     Ok(Answer::not_granted(text))
 }
 
-/// Appends a side of a unit.
+/// Appends a side of a unit. Where memory is wanting, a part of it may stay.
 pub fn push_side_of(text: &mut Vec<u8>, app: &App, unit: &Unit, side: Side) -> Result<(), NoMemory>
     ensures { OnOk result (text.new.items
         ≡ text.old.items ++ side_text app.now unit.now side) }

@@ -1,5 +1,4 @@
 // The program with networks as its machines, as `main` runs it.
-ghost use Rattle.aeth_answers.specs.Places.{Places};
 ghost use Rattle.aeth_headline.specs.Headline.{Headline};
 ghost use Rattle.std.specs.Prelude.{map, string_bytes};
 

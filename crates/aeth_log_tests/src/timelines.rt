@@ -1,5 +1,4 @@
 // What no clause says: that timelines are made where memory is left, and when sessions begin and end.
-ghost use Rattle.std.specs.Prelude.{◌≡◌, IfSome};
 
 use crate::designs::{PAIR, THREE};
 use aeth_app::{App, read_app};

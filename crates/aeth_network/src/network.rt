@@ -137,8 +137,8 @@ impl RoutedNetwork {
         self.cycle_from::<Brand>(order, Blank::new(1));
     }
 
-    /// The same, which counts the steps of components: each that sends, and each flit that one latches or
-    /// passes on. All others rest.
+    /// The same, which counts the steps of components: each that sends, each flit that comes to one, and
+    /// each whose way a router's table has. All others rest.
     pub fn cycle_counted<L: Ledger>(&mut self, order: &Order, steps: &mut Steps<L>)
         requires order { length order.now ≡ length self.old.components.parts }
         requires time { self.old.time < self.old.log.cycles }

@@ -65,7 +65,7 @@ impl<F> Model for Cost<F> {
 }
 
 impl<F: Fn(u32, u32) -> u32> Cost<F> {
-    /// The cost that a function gives. It is called once for each delay and number of used slots.
+    /// The cost that a function gives, which is called for each delay and number of used slots.
     pub fn new(function: F) -> Cost<F>
         requires callable { (d u : ℕ) → 1 ≤ d → d ≤ max_link_delay → u ≤ max_slots
             → F.pre function d u }

@@ -1,5 +1,5 @@
 // The search: a list of links is extended link by link, and given up where no better path goes on.
-ghost use Rattle.std.specs.Prelude.{◌≡◌, ◌+◌, ◌*◌, ◌<◌, ◌≤◌, ◌++◌, ◌∷◌, ◌↔◌, ◌⊎◌, [], ℕ, List};
+ghost use Rattle.std.specs.Prelude.{◌≡◌, ◌+◌, ◌<◌, ◌≤◌, ◌++◌, ◌∷◌, ◌↔◌, ◌⊎◌, [], ℕ, List};
 ghost use Rattle.std.specs.Prelude.{true, false, Contains, IsTrue, length, map, slice_get};
 ghost use Rattle.std.specs.Cmp.Lexicographic.{slice_cmp};
 ghost use Rattle.std.specs.Ordering.{is_lt, nat_cmp};
@@ -15,7 +15,7 @@ ghost use Rattle.aeth_paths.specs.Candidates.{is_live};
 ghost use Rattle.aeth_chip.specs.LeastOnward.{least_from};
 ghost use Rattle.aeth_paths.specs.Open.{is_open, open_steps};
 ghost use Rattle.aeth_paths.specs.Over.{IsTurnFor};
-ghost use Rattle.aeth_paths.specs.Search.{completions, first_from, is_better, keep, turn_of};
+ghost use Rattle.aeth_paths.specs.Search.{completions, first_from, keep, turn_of};
 ghost use Rattle.aeth_paths.specs.Task.{links_from};
 ghost use Rattle.aeth_paths.specs.Walk.{GainsNothing, IsLeastFrom, IsPrefix, IsTask, Stands};
 ghost use Rattle.aeth_paths.specs.Walk.{costs_of, field_of, is_before, path_in, priced};

@@ -9,7 +9,7 @@ use std::marker::Model;
 
 /// A channel's try, told without a book: what the channel asks; its turn, counted from 1; the grants
 /// that were made before it, in their order; and the interfaces from which and to which it may lead.
-/// `crowded` are those that have room for one of its two cores and not for both.
+/// `crowded` are those that are said to have room for one of its two cores and not for both.
 ///
 /// Each list of interfaces ascends. Nothing is asked of the grants, which may meet.
 #[derive(Drop)]
@@ -114,8 +114,8 @@ impl Trial {
         &self.to
     }
 
-    /// The interfaces, ascending, that have room for one of its cores and not for both: no path leads from one of
-    /// these to itself.
+    /// The interfaces, ascending, that are said to have room for one of its cores and not for both: no path leads from
+    /// one of these to itself.
     pub fn crowded(&self) -> &[NiId]
         ensures { result.now ≡ self.now.crowded }
     {

@@ -47,14 +47,14 @@ before_trans a b c = chain_numbers a.unit.conn.0 b.unit.conn.0 c.unit.conn.0 _ _
 same_number : (m : ℕ) (s : Bool) → cond (m == m) s (nat_lt m m) ≡ s
 same_number m s = grind (arith, nat_tests)
 
-same_side : (s : Side) → side_before s s ≡ false
-same_side Fwd = refl
-same_side Back = refl
+side_before-itself : (s : Side) → side_before s s ≡ false
+side_before-itself Fwd = refl
+side_before-itself Back = refl
 
 -- No grant comes before itself.
 never : (a : Grant) → grant_before a a ≡ true → ⊥
 never a before = true≢false (sym before ∙ same_number a.unit.conn.0 _
-    ∙ same_number a.unit.group.0 _ ∙ same_side a.side)
+    ∙ same_number a.unit.group.0 _ ∙ side_before-itself a.side)
 
 -- The grants of a plan stand apart.
 pub grants_apart : (plan : PlanData) → IsPlan plan → AllPairs AreApart plan.grants

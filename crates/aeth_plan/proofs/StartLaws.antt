@@ -1,13 +1,12 @@
--- Lists that are walked by place: links of a path, and starts of a set.
-use Rattle.std.proofs.Common.{◌≡◌, ◌+◌, ◌<◌, ◌≤◌, ◌∙◌, ◌&&◌, ℕ, zero, suc, Bool, true, false, List}
-use Rattle.std.proofs.Common.{[], ◌∷◌, ◌++◌, length, take, drop, get_or, Option, Some, None}
-use Rattle.std.proofs.Common.{refl, sym, ap, subst, arith, slice_get}
+-- Lists that are walked by place: starts of a set.
+use Rattle.std.proofs.Common.{◌≡◌, ◌+◌, ◌<◌, ◌≤◌, ◌∙◌, ℕ, zero, suc, true, List}
+use Rattle.std.proofs.Common.{[], ◌∷◌, ◌++◌, length, take, get_or, Option, Some, None}
+use Rattle.std.proofs.Common.{refl, sym, ap, subst, arith}
 use Rattle.std.specs.Prelude.{is_none, nat_le, nat_lt, option_map}
 use Rattle.std.specs.List.{list_all}
 use Rattle.std.proofs.lemmas.Bool.{and_from, and_parts, cond-true}
 use Rattle.std.proofs.lemmas.Bool.Decides.{nat_tests}
 use Rattle.std.proofs.lemmas.List.{append-nil, append_assoc, take_more}
-use Rattle.std.proofs.lemmas.Option.{none-some, same_Some}
 use Rattle.aeth_slots.specs.SlotSet.{Ascends}
 use Rattle.aeth_slots.proofs.Ascending.{Ascends-push, Ascends-wider}
 use Rattle.aeth_text.specs.Fields.{are_ascending, ascending_in, number_in}
@@ -17,16 +16,6 @@ use Rattle.aeth_text.specs.Order.{misplaced}
 use Rattle.aeth_text.proofs.Fronts.{with_front}
 use Rattle.aeth_text.proofs.OrderLaws.{none_misplaced, rises}
 use Rattle.aeth_plan.proofs.Places.{all_below, ascends, ascends_rises, is_none-None}
-
--- A test fails at a place, so it doesn't pass at all.
-pub fails_at : {X : Type 0} (test : X → Bool) (xs : List X) (i : ℕ) (x : X) (total : Bool)
-    → slice_get xs i ≡ Some x → test x ≡ false → list_all test (drop i xs) ≡ total
-    → false ≡ total
-fails_at test [] i x total at fails so_far = absurd (none-some x at)
-fails_at test (y ∷ xs) zero x total at fails so_far =
-    ap (λ b. b && list_all test xs) (sym (ap test (same_Some y x at) ∙ fails)) ∙ so_far
-fails_at test (y ∷ xs) (suc i) x total at fails so_far =
-    fails_at test xs i x total at fails so_far
 
 -- Starts that pass the tests of a line ascend below the size of a table.
 pub starts_ascend : (high : ℕ) (starts : List ℕ) → are_ascending starts ≡ true

@@ -48,26 +48,20 @@ impl Fault for PlanFault {
 
     fn broken_rule(&self) -> Option<BrokenRule> {
         match self {
-            PlanFault::BadLine { line } => Some(broken_rule(1, "BadLine", *line, Shown::Nothing)),
+            PlanFault::BadLine { line } => Some(BrokenRule::at(
+                1,
+                "BadLine",
+                *line,
+                Shown::Nothing,
+            )),
             PlanFault::Unknown { line, field } => {
                 let value = Shown::Number(*field as u64);
-                Some(broken_rule(2, "Unknown", *line, value))
+                Some(BrokenRule::at(2, "Unknown", *line, value))
             }
             PlanFault::WrongOrder { line } => {
-                Some(broken_rule(3, "WrongOrder", *line, Shown::Nothing))
+                Some(BrokenRule::at(3, "WrongOrder", *line, Shown::Nothing))
             }
             PlanFault::Memory => None,
         }
-    }
-}
-
-fn broken_rule(rule: u32, name: &'static str, place: u32, value: Shown) -> BrokenRule
-    ensures { result ≡ record { rule = rule; name = name.now; place = place; value = value } }
-{
-    BrokenRule {
-        rule,
-        name,
-        place,
-        value,
     }
 }

@@ -1,6 +1,5 @@
 // What the fields of a line name on a chip and in an application.
-ghost use Rattle.std.specs.Prelude.{◌≡◌, length, nat_lt, option_map, IfSome, IsTrue, OnOk};
-ghost use Rattle.std.specs.List.{list_all};
+ghost use Rattle.std.specs.Prelude.{◌≡◌, option_map, IfSome, IsTrue, OnOk};
 ghost use Rattle.aeth_base.specs.Faults.{Reads};
 ghost use Rattle.aeth_plan.specs.Layout.{first_seat_line};
 ghost use Rattle.aeth_plan.specs.Known.{IsNamed};
@@ -12,7 +11,7 @@ use crate::fault::PlanFault;
 use crate::layout::FIRST_SEAT_LINE;
 use crate::text::{GrantText, SeatText};
 use aeth_app::{App, SEATS_PER_NI};
-use aeth_base::{ConnId, GroupId, Name, Path, Unit};
+use aeth_base::{ConnId, GroupId, Name, Unit};
 use aeth_chip::Chip;
 use aeth_group::{Grant, Groups, SeatLine};
 use aeth_text::line_after;
@@ -45,18 +44,6 @@ fn known_seat(chip: &Chip, app: &App, line: u32, text: &SeatText) -> Result<Seat
     holds(line, 4, text.seat < SEATS_PER_NI)?;
     let seat = text.seat as u8;
     Ok(SeatLine { core, ni, seat })
-}
-
-/// Whether all links of a path are the chip's.
-fn has_links(chip: &Chip, path: &Path) -> bool
-    ensures { result ≡ list_all (λ link. nat_lt link.0 (length chip.now.links)) path.now }
-{
-    for i in 0..path.len() {
-        if path.link(i).0 >= chip.links() {
-            return false;
-        }
-    }
-    true
 }
 
 /// A connection that was looked up, and its name.
@@ -103,7 +90,7 @@ fn known_grant(
         return Err(PlanFault::Unknown { line, field: 2 });
     };
     holds(line, 3, text.group < groups.count())?;
-    holds(line, 5, has_links(chip, &text.links))?;
+    holds(line, 5, chip.has_links(&text.links))?;
     let size = chip.slots();
     holds(line, 6, text.starts.are_below(size))?;
     let group = GroupId(text.group);

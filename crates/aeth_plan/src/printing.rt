@@ -1,5 +1,5 @@
 // Printing a plan.
-ghost use Rattle.aeth_plan.specs.Plan.{connection_names, core_names};
+ghost use Rattle.aeth_plan.specs.Plan.{core_names};
 ghost use Rattle.aeth_plan.specs.PlanText.{HasConnection, HasSeat, grant_words, plan_text};
 ghost use Rattle.aeth_plan.specs.PlanText.{seat_words};
 ghost use Rattle.aeth_plan.specs.Spelling.{grant_line, head_line, seat_line};

@@ -1,10 +1,9 @@
 // `chain CHIP APP PLAN USE CHAIN WORDS RECEIVERS CYCLES`: what a run of a chain of forwarding cores shows.
-ghost use Rattle.aeth_answers.specs.Files.{judgement};
 ghost use Rattle.aeth_answers.specs.Places.{Files, files_of};
 ghost use Rattle.aeth_answers.specs.Stop.{Answers, Judges};
 ghost use Rattle.aeth_base.specs.Limits.{max_cycles};
 ghost use Rattle.aeth_chain.specs.Chain.{AreDistinct, IsChain};
-ghost use Rattle.aeth_chain_items.specs.ChainItems.{AreItemsOf, items_of};
+ghost use Rattle.aeth_chain_items.specs.ChainItems.{AreItemsOf};
 ghost use Rattle.aeth_chain_items.specs.ItemNames.{AreItemNames};
 ghost use Rattle.aeth_plan_commands.specs.Commands.{HasRanges};
 ghost use Rattle.aeth_plan_commands.specs.Chain.{chain_command, chain_job, chain_task, items_task};
@@ -12,7 +11,7 @@ ghost use Rattle.aeth_plan_commands.specs.Chain.{judged_items, named_task, plann
 ghost use Rattle.aeth_plan_commands.specs.Chain.{pulled_task, shapes_job, words_task};
 ghost use Rattle.aeth_group.specs.Members.{groups_of};
 ghost use Rattle.aeth_tables.specs.Reserved.{IsDesign};
-ghost use Rattle.std.specs.Prelude.{◌≡◌, ◌<◌, ◌≤◌, IfOk, IfSome, codes, length, map, string_bytes};
+ghost use Rattle.std.specs.Prelude.{◌≡◌, ◌<◌, ◌≤◌, IfOk, IfSome, length, map, string_bytes};
 
 use crate::command::PlanCommand;
 use aeth_answers::{Answer, FileName, Stop, ended, judged, number_in};

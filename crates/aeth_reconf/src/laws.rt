@@ -57,7 +57,7 @@ pub fn kept_channels_are_untouched()
 
 /// What is written for a channel stands in order: its route is set before its slots, and these before
 /// its session goes; its slots are cleared once the session has finished, and before its route. A
-/// session goes before it stops accepting words, and its queue is its own before its route is set.
+/// session stops accepting words no earlier than it goes, and its queue is its own before its route is set.
 pub fn windows_are_in_order()
     ensures route { (groups : GroupsData) (row_of : RowOf) (spans : SpanData)
         (rows : List SwitchRow) → AreWritable groups row_of spans rows → (channel : Channel)

@@ -96,32 +96,43 @@ fn sessions_over(
     let mut sessions = Vec::new(alloc);
     if let [first, later @ ..] = rows {
         let current = begun(groups, conn, first.to, 0);
-        push_rest(&mut sessions, groups, spans, conn, first.to, later, current)?;
+        let one = OneConnection {
+            groups,
+            spans,
+            conn,
+        };
+        push_rest(&mut sessions, &one, first.to, later, current)?;
     }
     Ok(sessions)
+}
+
+// One connection, whose sessions are told, and what switches do to it.
+#[derive(Clone, Copy)]
+struct OneConnection<'a> {
+    groups: &'a Groups,
+    spans: &'a Spans,
+    conn: ConnId,
 }
 
 // Appends what is still to come of a connection's sessions: the one that is open, and those that rows
 // open, the first of which leaves this use case.
 fn push_rest(
     sessions: &mut Vec<Session>,
-    groups: &Groups,
-    spans: &Spans,
-    conn: ConnId,
+    one: &OneConnection<'_>,
     first: UseId,
     rows: &[SwitchRow],
     current: Option<Session>,
 ) -> Result<(), NoMemory>
-    requires spans { spans.now.uses ≡ length groups.now.uses }
-    requires first { first.0 < length groups.now.uses }
-    requires known { All (λ row. row.to.0 < length groups.now.uses) rows.now }
+    requires spans { one.now.spans.now.uses ≡ length one.now.groups.now.uses }
+    requires first { first.0 < length one.now.groups.now.uses }
+    requires known { All (λ row. row.to.0 < length one.now.groups.now.uses) rows.now }
     ensures { OnOk result (sessions.new.items ≡ sessions.old.items
-        ++ rest_of groups.now spans.now conn.0 current first.0 rows.now) }
+        ++ rest_of one.now.groups.now one.now.spans.now one.now.conn.0 current first.0 rows.now) }
 {
     let mut from = first;
     let mut current = current;
     for row in rows {
-        current = pass(sessions, groups, spans, conn, from, row, current)?;
+        current = pass(sessions, one, from, row, current)?;
         from = row.to;
     }
     if let Some(session) = current {
@@ -138,25 +149,25 @@ fn push_rest(
 // switch closes is put behind the others.
 fn pass(
     sessions: &mut Vec<Session>,
-    groups: &Groups,
-    spans: &Spans,
-    conn: ConnId,
+    one: &OneConnection<'_>,
     from: UseId,
     row: &SwitchRow,
     current: Option<Session>,
 ) -> Result<Option<Session>, NoMemory>
-    requires spans { spans.now.uses ≡ length groups.now.uses }
-    requires from { from.0 < length groups.now.uses }
-    requires to { row.now.to.0 < length groups.now.uses }
-    ensures { IfOk result (λ behind. (rows : List SwitchRow)
-        → sessions.new.items ++ rest_of groups.now spans.now conn.0 behind row.now.to.0 rows
-        ≡ sessions.old.items ++ rest_of groups.now spans.now conn.0 current from.0 (row.now ∷ rows)) }
+    requires spans { one.now.spans.now.uses ≡ length one.now.groups.now.uses }
+    requires from { from.0 < length one.now.groups.now.uses }
+    requires to { row.now.to.0 < length one.now.groups.now.uses }
+    ensures { IfOk result (λ behind. (rows : List SwitchRow) → sessions.new.items
+        ++ rest_of one.now.groups.now one.now.spans.now one.now.conn.0 behind row.now.to.0 rows
+        ≡ sessions.old.items
+        ++ rest_of one.now.groups.now one.now.spans.now one.now.conn.0 current from.0 (row.now ∷ rows)) }
 {
-    if groups.kept(from, row.to, conn) {
+    if one.groups.kept(from, row.to, one.conn) {
         return Ok(current);
     }
-    push_closed(sessions, spans, from, row, current)?;
-    Ok(begun(groups, conn, row.to, go_by(spans, from, row)))
+    push_closed(sessions, one.spans, from, row, current)?;
+    let go = go_by(one.spans, from, row);
+    Ok(begun(one.groups, one.conn, row.to, go))
 }
 
 // Appends the open session, which a switch closes.

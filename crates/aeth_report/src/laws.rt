@@ -34,7 +34,7 @@ pub fn sessions_meet()
         → IsInUse s t → IsInUse e t → i ≡ j }
 {}
 
-/// A session goes before it stops accepting words. What it has sent by its stop has landed by its
+/// A session stops accepting words no earlier than it goes. What it has sent by its stop has landed by its
 /// finish. A session that goes after another one stops accepting words goes once that one has
 /// finished: channels that a switch opens are in use only when what was sent on those that it closes
 /// has landed.

@@ -1,5 +1,4 @@
 // Printing the lines of a log.
-ghost use Rattle.aeth_report.specs.Log.{SessionData};
 ghost use Rattle.aeth_report.specs.LogText.{drop_line, drop_lines, head_line, landing_line};
 ghost use Rattle.aeth_report.specs.LogText.{landing_room};
 ghost use Rattle.aeth_report.specs.LogText.{link_line, outside_line, outside_lines, session_line};

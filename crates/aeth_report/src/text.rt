@@ -14,7 +14,7 @@ use aeth_app::App;
 use aeth_base::{NoMemory, Side};
 use std::alloc::Global;
 
-/// Appends the lines of landings, numbered from 1.
+/// Appends the lines of landings, numbered from 1. Where memory is wanting, the first of them may stay.
 pub fn push_landings(out: &mut Vec<u8>, rows: &[Landing]) -> Result<(), NoMemory>
     ensures { OnOk result (out.new.items
         ≡ out.old.items ++ text_of_lines (map landing_line (enumerate_from 1 rows.now))) }

@@ -1,6 +1,6 @@
 // Printing router tables.
 ghost use Rattle.aeth_plan.specs.Plan.{name_at};
-ghost use Rattle.aeth_rtable.specs.RouteText.{head_line, hop_line, lines_with, route_text};
+ghost use Rattle.aeth_rtable.specs.RouteText.{head_line, hop_line, route_text};
 ghost use Rattle.aeth_text.specs.Spelling.{ended_line, text_of_lines};
 ghost use Rattle.aeth_trace.specs.Switches.{use_names};
 ghost use Rattle.std.specs.Prelude.{◌≡◌, ◌<◌, ◌++◌, IfOk, OnOk, length, map};

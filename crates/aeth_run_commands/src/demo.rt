@@ -1,6 +1,5 @@
 // `demo N`: a large run that is made from a number, summed up.
 ghost use Rattle.aeth_accepted.specs.Inputs.{AreAccepted};
-ghost use Rattle.aeth_alloc.specs.Allocation.{OutcomeData};
 ghost use Rattle.aeth_answers.specs.Places.{Files};
 ghost use Rattle.aeth_answers.specs.Stop.{Answers, Judges};
 ghost use Rattle.aeth_app.specs.App.{IsAppOf};

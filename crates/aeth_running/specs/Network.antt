@@ -49,33 +49,35 @@ state_behind events cycle old =
     components_of latched.parts wires (map (counted cycle latched.parts) latched.lanes) old.words
     (fold (noted cycle latched.parts) old.landings latched.lanes) (flits_counted wires old.flits)
 
--- What a cycle brings beside its events: the sessions that go, the words that are offered, and the rows
--- of receivers.
+-- What a cycle brings beside its events: the sessions that go.
 abbrev pub goings_in : Stimuli → ℕ → List Going
 goings_in all t = filter (λ going. going.lane.go == t) all.schedule.goings
 
+-- The words that are offered.
 abbrev pub offers_in : Stimuli → ℕ → List Offer
 offers_in all t = filter (λ offer. offer.cycle == t) all.offers
 
+-- And the rows of receivers.
 abbrev pub takes_in : Stimuli → ℕ → List Take
 takes_in all t = filter (λ take. take.cycle == t) all.takes
 
--- A session goes: its channel accepts words until it stops, and begins anew. Its receiver takes words
--- as before.
+-- A session goes: its channel accepts words until it stops.
 abbrev pub until_with : List ℕ → Going → List ℕ
 until_with untils going = slice_set untils (channel_number going.channel) going.until
 
+-- And its channel begins anew. Its receiver takes words as before.
 abbrev pub gone_with : List Lane → Going → List Lane
 gone_with lanes going =
     with_lane (channel_number going.channel) (λ lane. record going.lane { pull = lane.pull }) lanes
 
--- A word that is offered in cycle t is accepted by the session of its channel, or it is outside of all.
+-- A word that is offered in cycle t is accepted by the session of its channel, where this goes on.
 abbrev pub accepted_with : ℕ → List ℕ → List Lane → Offer → List Lane
 accepted_with t untils lanes offer =
     if nat_lt t (slice_index untils offer.number)
     then with_lane offer.number (λ lane. record lane { accepted = lane.accepted + 1 }) lanes
     else lanes
 
+-- Else it is outside of all sessions.
 abbrev pub outside_with : ℕ → List ℕ → List ℕ → Offer → List ℕ
 outside_with t untils outside offer =
     if nat_lt t (slice_index untils offer.number) then outside

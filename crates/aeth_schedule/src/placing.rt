@@ -7,7 +7,7 @@ ghost use Rattle.aeth_app.specs.Limits.{max_connections};
 ghost use Rattle.aeth_base.specs.declared.ids.Side.TheVariants.{Back, Fwd};
 ghost use Rattle.aeth_trace.specs.Channels.{channel_number};
 ghost use Rattle.aeth_trace.specs.Limits.{max_rows};
-ghost use Rattle.aeth_trace.specs.Words.{words_on, words_until};
+ghost use Rattle.aeth_trace.specs.Words.{words_until};
 ghost use Rattle.aeth_schedule.specs.Values.{before_of, start_of, values_of, values_on, values_with};
 
 use aeth_app::App;

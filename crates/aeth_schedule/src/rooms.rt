@@ -1,7 +1,6 @@
 // How many words the receive queues of a chip have room for.
 
 ghost use Rattle.std.specs.Prelude.{◌≡◌, ◌<◌, ◌*◌, All, IfOk, length};
-ghost use Rattle.aeth_ni.specs.Limits.{queues_of_interface};
 ghost use Rattle.aeth_schedule.specs.Rooms.{landing_number, raised, raised_all, rooms_of};
 
 use aeth_accepted::RunInputs;

@@ -32,6 +32,7 @@ pub record SessionGoing : Type 0 where
   pub count : ℕ
   pub lane : Lane
 
+-- The same of a session that goes.
 abbrev pub as_going : Going → SessionGoing
 as_going going = record {
   channel = going.channel;

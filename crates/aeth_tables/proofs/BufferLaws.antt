@@ -1,6 +1,6 @@
 -- What the channels of all groups need is what those of all use cases need.
 use Rattle.std.proofs.Common.{◌≡◌, ◌∙◌, ◌<◌, ◌&&◌, ◌==◌, ℕ, true, Option, Some, None, Contains}
-use Rattle.std.proofs.Common.{ap, arith, filter, inl, inr, length, refl, slice_get, sym}
+use Rattle.std.proofs.Common.{ap, arith, filter, inl, inr, length, refl}
 use Rattle.std.specs.List.{range_with_len}
 use Rattle.std.proofs.lemmas.Bool.{and_parts, cases_Bool, eqb-true}
 use Rattle.std.proofs.lemmas.Option.{slice_get_within}
@@ -10,7 +10,7 @@ use Rattle.aeth_base.proofs.Members.{slice_get-Contains}
 use Rattle.aeth_base.proofs.Ranges.{Contains-range, range-Contains}
 use Rattle.aeth_chip.specs.Chip.{ChipData}
 use Rattle.aeth_app.specs.App.{AppData, is_marked}
-use Rattle.aeth_group.specs.Members.{GroupsData, UseGroupData, group_at, group_in, groups_of, has_at}
+use Rattle.aeth_group.specs.Members.{UseGroupData, group_at, group_in, groups_of, has_at}
 use Rattle.aeth_group.specs.Members.{is_member, use_has}
 use Rattle.aeth_group.proofs.ListLemmas.{passes_from_any}
 use Rattle.aeth_group.proofs.MemberLemmas.{connections-groups_of, is_groups-groups_of}

@@ -1,12 +1,13 @@
 -- The slots of a channel carry the credits of the opposite channel's words.
 use Rattle.std.proofs.Common.{◌≤◌, ◌*◌, ℕ, max, arith}
 use Rattle.std.proofs.Math.Nat.{le-max_right}
-use Rattle.aeth_base.proofs.Division.{div_ceil-le, le-div_ceil}
+use Rattle.aeth_base.proofs.Division.{le-div_ceil}
 use Rattle.aeth_base.specs.Limits.{credits_per_flit, words_per_flit}
 use Rattle.aeth_base.specs.declared.ids.Side.{Side}
 use Rattle.aeth_base.specs.declared.ids.Side.TheVariants.{Back, Fwd}
 use Rattle.aeth_app.specs.Rates.{back_need, credit_need, fwd_need, need_of, own_need}
 use Rattle.aeth_app.specs.declared.connection.Connection.{Connection}
+use Rattle.aeth_app.proofs.NeedLemmas.{credit_need-le}
 use Rattle.aeth_tables.specs.Granted.{other_side}
 
 -- So many slots or more carry the credits of a need.
@@ -14,10 +15,6 @@ carried : (need slots : ℕ) → credit_need need ≤ slots
     → words_per_flit * need ≤ credits_per_flit * slots
 carried need slots enough =
     le-div_ceil (words_per_flit * need) credits_per_flit slots (omega arith) enough
-
-credit_need-le : (need : ℕ) → credit_need need ≤ need
-credit_need-le need =
-    div_ceil-le (words_per_flit * need) credits_per_flit need (omega arith) (omega arith)
 
 -- The lesser of two needs whose credits are carried has its carried too.
 greater_carried : (one other slots : ℕ) → words_per_flit * one ≤ credits_per_flit * slots

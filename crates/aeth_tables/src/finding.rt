@@ -1,6 +1,6 @@
 // The seats of cores and the grants of units, found in a plan, whose lines are in order.
 ghost use Rattle.aeth_base.specs.declared.ids.Side.TheVariants.{Back, Fwd};
-ghost use Rattle.aeth_check.specs.Channels.{is_before, is_for, same_side};
+ghost use Rattle.aeth_check.specs.Channels.{is_before, is_for};
 ghost use Rattle.aeth_plan.specs.Plan.{grant_before, seat_before};
 ghost use Rattle.aeth_tables.specs.Granted.{grant_of, line_of};
 ghost use Rattle.aeth_text.specs.Order.{Rises};
@@ -9,6 +9,7 @@ ghost use Rattle.std.specs.Prelude.{◌≡◌, ◌==◌, None, Some, false, if�
 ghost use Rattle.std.specs.Prelude.{option_copied, true};
 
 use aeth_base::{CoreId, Side, Unit};
+use aeth_check::{is_before, is_for};
 use aeth_group::{Grant, SeatLine};
 
 /// How many lines seat cores before this one. It halves what is left in each step.
@@ -44,49 +45,6 @@ pub(crate) fn line_of(seats: &[SeatLine], core: CoreId) -> Option<SeatLine>
     match seats.get(seats_before(seats, core)) {
         None => None,
         Some(line) => kept_seat(core, line),
-    }
-}
-
-fn same_side(a: Side, b: Side) -> bool
-    ensures { result ≡ same_side a b }
-{
-    match a {
-        Side::Fwd => match b {
-            Side::Fwd => true,
-            Side::Back => false,
-        },
-        Side::Back => match b {
-            Side::Fwd => false,
-            Side::Back => true,
-        },
-    }
-}
-
-/// Whether a grant is for a side of a unit.
-fn is_for(unit: Unit, side: Side, grant: &Grant) -> bool
-    ensures { result ≡ is_for unit side grant.now }
-{
-    grant.unit.conn.0 == unit.conn.0
-        && grant.unit.group.0 == unit.group.0
-        && same_side(grant.side, side)
-}
-
-/// Whether a grant comes before those for a side of a unit.
-fn is_before(unit: Unit, side: Side, grant: &Grant) -> bool
-    ensures { result ≡ is_before unit side grant.now }
-{
-    if grant.unit.conn.0 != unit.conn.0 {
-        return grant.unit.conn.0 < unit.conn.0;
-    }
-    if grant.unit.group.0 != unit.group.0 {
-        return grant.unit.group.0 < unit.group.0;
-    }
-    match grant.side {
-        Side::Fwd => match side {
-            Side::Fwd => false,
-            Side::Back => true,
-        },
-        Side::Back => false,
     }
 }
 

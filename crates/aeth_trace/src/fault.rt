@@ -33,22 +33,22 @@ impl Fault for TraceFault {
 
     fn broken_rule(&self) -> Option<BrokenRule> {
         match self {
-            TraceFault::BadRow { row } => Some(rule_at(1, "BadRow", *row, Shown::Nothing)),
+            TraceFault::BadRow { row } => Some(BrokenRule::at(1, "BadRow", *row, Shown::Nothing)),
             TraceFault::Unknown { row, field } => {
-                Some(rule_at(2, "Unknown", *row, Shown::Number(*field as u64)))
+                Some(BrokenRule::at(2, "Unknown", *row, Shown::Number(*field as u64)))
             }
             TraceFault::OutOfOrder { row, cycle } => {
-                Some(rule_at(3, "OutOfOrder", *row, Shown::Number(*cycle as u64)))
+                Some(BrokenRule::at(3, "OutOfOrder", *row, Shown::Number(*cycle as u64)))
             }
             TraceFault::Overlap { row, cycle: _, go } => {
-                Some(rule_at(4, "Overlap", *row, Shown::Number(*go)))
+                Some(BrokenRule::at(4, "Overlap", *row, Shown::Number(*go)))
             }
             TraceFault::TooMany { rows } => {
-                Some(rule_at(5, "TooMany", 0, Shown::Number(*rows as u64)))
+                Some(BrokenRule::at(5, "TooMany", 0, Shown::Number(*rows as u64)))
             }
             TraceFault::FirstNotZero { row, cycle, drain } => {
                 let value = value_of_first(*row, *cycle, *drain);
-                Some(rule_at(6, "FirstNotZero", *row, value))
+                Some(BrokenRule::at(6, "FirstNotZero", *row, value))
             }
             TraceFault::Memory => None,
         }
@@ -64,17 +64,6 @@ fn value_of_first(row: u32, cycle: u32, drain: u32) -> Shown
         Shown::Number(drain as u64)
     } else {
         Shown::Number(cycle as u64)
-    }
-}
-
-fn rule_at(rule: u32, name: &'static str, place: u32, value: Shown) -> BrokenRule
-    ensures { result ≡ record { rule = rule; name = name.now; place = place; value = value } }
-{
-    BrokenRule {
-        rule,
-        name,
-        place,
-        value,
     }
 }
 

@@ -1,5 +1,5 @@
 // The fields of a row.
-ghost use Rattle.std.specs.Prelude.{◌≡◌, ◌≤◌, codes, length, map, option_map};
+ghost use Rattle.std.specs.Prelude.{◌≡◌, option_map};
 ghost use Rattle.csv.specs.Records.{fields_of};
 ghost use Rattle.aeth_trace.specs.Fields.{all_four, channel_in, four_of, heads_channels, named};
 ghost use Rattle.aeth_trace.specs.Fields.{number_to, three_of, three_with};

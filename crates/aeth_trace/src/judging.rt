@@ -1,5 +1,5 @@
 // The rules that all trace files have, once their rows are read.
-ghost use Rattle.std.specs.Prelude.{◌≡◌, ◌+◌, length, map, IfErr, IfOk};
+ghost use Rattle.std.specs.Prelude.{◌≡◌, ◌+◌, map, IfErr, IfOk};
 ghost use Rattle.aeth_base.specs.Faults.{Reads};
 ghost use Rattle.aeth_trace.specs.Fault.{rule_of};
 ghost use Rattle.aeth_trace.specs.Rules.{are_few, are_in_order, are_known};

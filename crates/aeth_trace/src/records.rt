@@ -1,7 +1,8 @@
 //! The records of a file in CSV, one after the other.
-ghost use Rattle.std.specs.Prelude.{◌≡◌, ◌≤◌, ◌+◌, ◌∷◌, [], true, IfOk, MatchBool};
+ghost use Rattle.std.specs.Prelude.{◌≡◌, ◌≤◌, ◌+◌, ◌/◌, ◌∷◌, [], true, IfOk, MatchBool, length, min};
 ghost use Rattle.csv.specs.Records.{fields_of};
 ghost use Rattle.aeth_trace.specs.Left.{IsReading, left};
+ghost use Rattle.aeth_trace.specs.Limits.{short_row};
 ghost use Rattle.aeth_trace.specs.Records.{records_of};
 
 use csv::{ByteRecord, ErrorKind, Reader, ReaderBuilder};
@@ -44,7 +45,8 @@ pub fn next_row(reader: &mut Reader<&[u8]>, row: &mut ByteRecord) -> Result<bool
 /// How many rows a list begins with room for: one for ten bytes of the file, which is about the
 /// shortest row, and at most these and one. So the list seldom grows, and no byte is looked at.
 pub fn room_for(bytes: &[u8], most: u32) -> usize
-    ensures { result ≤ most + 1 }
+    ensures room { result ≡ min (length bytes.now / short_row) (most + 1) }
+    ensures most { result ≤ most + 1 }
 {
     let all = most as usize + 1;
     (bytes.len() / SHORT_ROW).min(all)

@@ -35,7 +35,8 @@ impl Spans {
         Spans { uses, pairs }
     }
 
-    /// The greatest path delay of a channel that closes when one use case is left for another.
+    /// The lag of this pair: of spans of a plan, the greatest path delay of a channel that closes when the one use
+    /// case is left for the other.
     pub fn lag(&self, u: UseId, v: UseId) -> u32
         requires u { u.0 < self.now.uses }
         requires v { v.0 < self.now.uses }
@@ -44,7 +45,8 @@ impl Spans {
         self.span(u, v).0
     }
 
-    /// The number of writes when one use case is left for another, one a cycle.
+    /// The writes of this pair: of spans of a plan, their number when the one use case is left for the other, one a
+    /// cycle.
     pub fn writes(&self, u: UseId, v: UseId) -> u32
         requires u { u.0 < self.now.uses }
         requires v { v.0 < self.now.uses }

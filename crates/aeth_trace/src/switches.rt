@@ -1,6 +1,5 @@
 // The switches between use cases.
 ghost use Rattle.std.specs.Prelude.{◌≡◌, ◌<◌, ◌∷◌, length, All, IfErr, IfOk};
-ghost use Rattle.csv.specs.Records.{fields_of};
 ghost use Rattle.aeth_base.specs.Faults.{Reads};
 ghost use Rattle.aeth_trace.specs.Fault.{rule_of};
 ghost use Rattle.aeth_trace.specs.Switches.{AreSwitchesOf, are_apart, are_apart_from, go_after};

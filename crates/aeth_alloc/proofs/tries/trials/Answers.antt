@@ -1,6 +1,6 @@
-use Rattle.std.proofs.Common.{List, subst, sym}
+use Rattle.std.proofs.Common.{subst, sym}
 use Rattle.std.specs.Prelude.{All}
-use Rattle.aeth_paths.specs.Trials.{IsTrialOf, TrialData}
+use Rattle.aeth_paths.specs.Trials.{IsTrialOf}
 use Rattle.aeth_alloc.proofs.TryLemmas.{if-ok}
 use Rattle.aeth_alloc.proofs.tries.trials.Goals as goal
 

@@ -28,7 +28,7 @@ returns c =
     let cuts = cuts_of c.args.design.now.chip (groups_of app) in
     text-whole app cuts tries c.loop-i.i c.push_head.new.out.items c.loop-i.text.items
     c.push_end.new.out.items
-    (c.in_ok-push_head.ensures ∙ ap (λ t. t ++ ended_line (codes "explain 1")) c.new-text.ensures.items)
+    (c.in_ok-push_head.ensures.ok ∙ ap (λ t. t ++ ended_line (codes "explain 1")) c.new-text.ensures.items)
     c.loop-i.invariant (omega (arith, c.loop-i-test.false, c.len-i-end.ensures))
-    c.in_ok-push_end.ensures
+    c.in_ok-push_end.ensures.ok
     ∙ ap (λ (ts : List TrialData). cuts_text app (map line_of ts) (map cuts ts)) c.requires.tries

@@ -1,6 +1,4 @@
 use Rattle.std.proofs.Common.{◌≡◌, ◌+◌, ◌++◌, ◌%◌, ◌∙◌, List, ap, arith, length, refl, subst, sym}
-use Rattle.aeth_running.proofs.RouterTables.{headers-route}
-use Rattle.aeth_running.specs.Routing.{ByHeaders}
 use Rattle.std.proofs.lemmas.List.FromFn.{length-map-range_with_len}
 use Rattle.std.specs.List.{join_with_byte}
 use Rattle.aeth_text.specs.Limits.{comma}

@@ -5,8 +5,8 @@ use Rattle.aeth_reconf.proofs.timeline.push_rest.Given as goal
 -- What the rows that are left bring is still to come.
 abbrev pub invariant-loop-row : goal.invariant-loop-row
 invariant-loop-row l = record {
-  known : l.from.0 < length l.groups.uses;
+  known : l.from.0 < length l.one.groups.now.uses;
   comes : l.sessions.items
-      ++ rest_of l.groups l.spans l.conn.0 l.current l.from.0 (drop l.row-index l.rows)
-      ≡ l.fn.sessions.items ++ rest_of l.groups l.spans l.conn.0 l.fn.current l.fn.first.0 l.rows;
+      ++ rest_of l.one.groups.now l.one.spans.now l.one.conn.0 l.current l.from.0 (drop l.row-index l.rows)
+      ≡ l.fn.sessions.items ++ rest_of l.one.groups.now l.one.spans.now l.one.conn.0 l.fn.current l.fn.first.0 l.rows;
 }

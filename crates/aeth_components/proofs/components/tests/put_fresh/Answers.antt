@@ -1,11 +1,9 @@
 use Rattle.std.proofs.Common.{◌≡◌, ◌∙◌, ap, refl, sym, List, None, Option, Some, ℕ}
-use Rattle.std.proofs.Common.{Bool, false, length, map, replicate, set, slice_get}
-use Rattle.std.specs.List.{All}
+use Rattle.std.proofs.Common.{false, length, map, replicate, set, slice_get}
 use Rattle.std.proofs.lemmas.List.{length-map, length-replicate, map-set}
 use Rattle.std.proofs.lemmas.List.Elements.{All-set}
 use Rattle.aeth_clocked.specs.declared.flit.Flit.{Flit}
 use Rattle.aeth_router.specs.Onward.{Nothing, carried}
-use Rattle.aeth_router.specs.Passing.{has_table}
 use Rattle.aeth_router.specs.Router.{new_router}
 use Rattle.aeth_router.specs.declared.part.Part.{Part}
 use Rattle.aeth_router.specs.declared.part.Part.TheVariants.{Interface, Router, Stage, TableRouter}
