@@ -107,10 +107,11 @@ def quoted(names, room=12):
     return "[\n" + "".join("  " + ", ".join(f'"{name}"' for name in row) + ",\n" for row in rows) + "]"
 
 
-def link_line(one, other, delay):
-    """The two links between a pair of nodes, in one line."""
+def link_line(pair, one, other, delay):
+    """The two links between a pair of nodes, in one line, with their numbers."""
     last = f", delay = {delay}" if delay > 1 else ""
-    return f'  {{from = "{one}", to = "{other}"{last}}}, {{from = "{other}", to = "{one}"{last}}},\n'
+    links = f'{{from = "{one}", to = "{other}"{last}}}, {{from = "{other}", to = "{one}"{last}}},'
+    return f"  {links}  # {2 * pair}, {2 * pair + 1}\n"
 
 
 def chip_text(shape, slots, delay, homes, words):
@@ -127,11 +128,14 @@ def chip_text(shape, slots, delay, homes, words):
     lines.append(f"version = {2 if slots > PLAIN_SLOTS or delay > 1 else 1}\nslots = {slots}\n")
     lines.append(f"routers = {quoted([f'r{place}' for place in range(shape.routers)])}\n")
     lines.append(f"nis = {quoted([f'n{place}' for place in range(len(homes))])}\n")
-    lines.append("link = [\n  # Interfaces and their routers.\n")
-    lines += [link_line(f"n{place}", f"r{home}", 1) for place, home in enumerate(homes)]
+    lines.append("link = [  # with their numbers\n  # Interfaces and their routers.\n")
+    lines += [link_line(place, f"n{place}", f"r{home}", 1) for place, home in enumerate(homes)]
     if shape.pairs:
         lines.append("  # Routers and their neighbours.\n")
-    lines += [link_line(f"r{one}", f"r{other}", delay if is_long else 1) for one, other, is_long in shape.pairs]
+    lines += [
+        link_line(pair, f"r{one}", f"r{other}", delay if is_long else 1)
+        for pair, (one, other, is_long) in enumerate(shape.pairs, len(homes))
+    ]
     return "".join(lines) + "]\n"
 
 

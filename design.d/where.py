@@ -268,13 +268,27 @@ def why_unread(file):
     return "can't be read: it is a folder" if file.is_dir() else "can't be read"
 
 
+def is_pipe(path):
+    """Whether a path is of something that gives its bytes once only."""
+    try:
+        return Path(path).is_fifo()
+    except (OSError, ValueError):
+        return False
+
+
+def read_away(paths):
+    """What is told where files were pipes, which `aeth` has read away."""
+    return [f"{path} is a pipe, which can't be read again: what this points at is told of files." for path in paths]
+
+
 def where(words):
     """Runs a command, and says what it refuses in words. Gives its status, and both texts with these words."""
     status, out, errors = run_aeth(*words)
     paths = dict(zip(FILES.get(words[0] if words else "", []), words[1:]))
+    gone = [path for path in paths.values() if is_pipe(path)]
     lines, may_help = [], []
     for line in errors.splitlines():
-        tells = usage(words) if line == "usage" else told(line, paths)
+        tells = usage(words) if line == "usage" else read_away(gone) if gone else told(line, paths)
         lines += [line, *("  " + tell for tell in tells if tell != HELP)]
         may_help = ["  " + HELP] if HELP in tells else may_help
     return status, out, "".join(line + "\n" for line in lines + may_help)

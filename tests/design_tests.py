@@ -6,6 +6,7 @@ import csv
 import io
 import re
 import sys
+import tomllib
 import unittest
 
 from home import Home, PROGRAM, TOP
@@ -74,6 +75,14 @@ class Chips(Designs):
                     slots = 128 if "--slots" in more else 64
                     tells = f"chip slots {slots} routers {routers} nis {routers} links {links} far {far} unreached 0\n"
                     self.assertEqual((status, text), (0, tells), errors)
+
+    def test_links_have_their_numbers(self):
+        text = self.run_script("design", "chip", "ring", "3", "--delay", "2")[1]
+        chip = tomllib.loads(text)
+        told = [int(number) for numbers in re.findall(r"(?m)# ([\d, ]+)$", text) for number in numbers.split(", ")]
+        self.assertEqual(told, list(range(len(chip["link"]))))
+        line = next(line for line in text.splitlines() if line.endswith("# 10, 11"))
+        self.assertIn('{from = "r2", to = "r0", delay = 2}, {from = "r0", to = "r2", delay = 2},', line)
 
     def test_interfaces_at_named_routers(self):
         path = self.made("chip", "chip", "ring", "4", "--at", "r0,r2,r2")
@@ -220,6 +229,11 @@ class Refusals(Designs):
         status, _, errors = self.run_script("design", "where", *given)
         self.assertEqual(status, 2, errors)
         return errors.replace(str(path), "FILE"), line
+
+    def test_a_pipe_is_told_of(self):
+        status, _, errors = self.home.design("where", "chip", "/dev/stdin", given=b"version = 1\n")
+        self.assertEqual(status, 2, errors)
+        self.assertIn("  /dev/stdin is a pipe, which can't be read again", errors)
 
     def test_files_of_toml(self):
         one = ("app", "pair.toml", "one.toml")

@@ -322,6 +322,9 @@ class Inputs(WithProgram):
             status, out, said = self.home.draw(*words)
             self.assertEqual((status, out), (1, ""))
             self.assertTrue(said.startswith("usage: draw plan"))
+        self.assertIn("draw: `nosuch` is none of plan, run,", self.home.draw("nosuch")[2])
+        self.assertIn("draw: `up` is no side: fwd or back\n", self.home.draw("plan", *PAIR, "u1", "c0", "up")[2])
+        self.assertIn("draw: wave takes 7 words, not 1\n", self.home.draw("wave", "chip.toml")[2])
 
     def test_what_cant_be_written(self):
         with open("/dev/full", "wb") as full:
