@@ -7,7 +7,8 @@ use std::fmt;
 
 /// There was no memory for what a call had to keep.
 ///
-/// Each call that may answer it says what stays as it was. No clause says when memory is wanting.
+/// What a call promises of what it changes, where memory is wanting too, stands in its contract; where that says
+/// nothing, it may be changed. No clause says when memory is wanting.
 #[derive(Clone, Copy, Debug, PartialEq, Eq)]
 pub struct NoMemory;
 

@@ -1,4 +1,9 @@
 -- A lane: a leg of a chain in a run, as the code is given it; and the cycles of its words.
+--
+--   leg_in, server_in, AreOffers, IsLane      a lane, and what is asked of it
+--   sending_cycles, taking_cycles, crediting_cycles, after, IsReceiving      the cycles of its words
+--   run_in, legs_in, IsRunning      a lane in a run, and all legs of a chain
+--
 -- This project's own.
 use Rattle.std.specs.Prelude.{ℕ, ◌+◌, ◌-◌, ◌*◌, ◌<◌, ◌≤◌, ◌≡◌, All, List, if◌then◌else◌, length, map}
 use Rattle.std.specs.Prelude.{nat_le, slice_index}

@@ -1,4 +1,12 @@
 -- What the index of a chip's links has, by which the links of a node are found without a walk.
+--
+--   HasEntries, list_in, list_at, as_router, as_ni      entries by numbers, lists of lists, nodes by numbers
+--   AreListed, entry_for      the links of each node of a kind at one end
+--   IsPort, AreRouterLinks      the links of routers, and their ports
+--   ni_link, ni_link_with, IsNiLink, AreNiLinks      the links of network interfaces
+--   AreLinkLists, count_at, crowded_in      both, and a router with too many links
+--   IsEnds, IsFurther, IsIndex      the ends of interfaces, further wires, and the index whole
+--
 -- This project's own.
 use Rattle.std.specs.Prelude.{◌≡◌, ◌<◌, ℕ, List, [], ◌∷◌, Option, Some, None, length, map}
 use Rattle.std.specs.Prelude.{slice_get, take, count_by, max, nat_le, if◌then◌else◌}

@@ -1,5 +1,5 @@
 // Names in files.
-ghost use Rattle.std.specs.Prelude.{◌≡◌, ◌<◌, ◌^◌, ◌++◌, ◌∷◌, [], fold, length, map, not, IfOk, OnOk, None};
+ghost use Rattle.std.specs.Prelude.{◌≡◌, ◌<◌, ◌^◌, ◌++◌, ◌∷◌, [], fold, length, map, not, IfOk, IsSome, OnOk, None};
 ghost use Rattle.std.specs.List.{filter_map, list_any};
 ghost use Rattle.std.specs.Str.{bytes_eq};
 ghost use Rattle.aeth_base.specs.Name.{name_of};
@@ -56,12 +56,14 @@ fn add_text<'a>(seen: &mut IndexSet<&'a str>, text: &'a str) -> Result<bool, NoM
     Ok(is_new)
 }
 
-/// A text that is among those of a set. A new one is put at the set's end.
+/// A text that is among those of a set, which then stays as it was. A new one is put at the set's end.
 pub fn repeated<'a>(seen: &mut IndexSet<&'a str>, text: &'a str) -> Result<Option<Shown>, NoMemory>
     ensures shown { IfOk result (λ shown. shown
         ≡ repeated (map (λ t. t.now) seen.old.keys) text.now) }
     ensures seen { IfOk result (λ shown. shown ≡ None
         → map (λ t. t.now) seen.new.keys ≡ map (λ t. t.now) seen.old.keys ++ text.now ∷ []) }
+    ensures known { IfOk result (λ shown. IsSome shown
+        → map (λ t. t.now) seen.new.keys ≡ map (λ t. t.now) seen.old.keys) }
 {
     if add_text(seen, text)? {
         Ok(None)
@@ -71,7 +73,8 @@ pub fn repeated<'a>(seen: &mut IndexSet<&'a str>, text: &'a str) -> Result<Optio
 }
 
 /// The walk after a check of each text, which is to differ from those of a set and from the texts
-/// before it. The texts are put at the set's end, up to the first that is broken.
+/// before it. The texts are put at the set's end, up to the first that is broken; which texts the set then has is
+/// left open.
 pub fn repeats<'a>(
     walk: Walk,
     seen: &mut IndexSet<&'a str>,

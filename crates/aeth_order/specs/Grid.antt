@@ -1,4 +1,10 @@
 -- The table of units behind units: a place for each connection and each number that a group may have.
+--
+--   places, grid_place, unit_at, is_unit_at      the places of units
+--   grid_of, marks_of, waits, waits_seated, nobody      the keys at all places, and which units wait
+--   Falls, IsFound      lists in their own order, and the first that passes a test
+--   IsPlaced, IsGrid, IsOrdered      what holds of the table, and of units beside it
+--
 -- This project's own.
 use Rattle.std.specs.Prelude.{◌≡◌, ◌<◌, ℕ, ◌+◌, ◌*◌, ◌/◌, ◌%◌, ◌==◌, ◌&&◌, Bool, true, false, List, length}
 use Rattle.std.specs.Prelude.{map, AllPairs, Contains, Option, Some, None, slice_get}

@@ -1,5 +1,12 @@
 -- The words of the search for the chosen set: ways over free slots from a slot to an end.
 -- Once round the table is a way from a slot to the same slot one table later.
+--
+--   IsWay, Reaches, ReachesWithin      a way, and whether there is one over so many slots
+--   IsEarliest, AreEarliest, IsNextOnWay      the least free slots from which an end is reached
+--   IsFewest, IsFirstWay, AddsFirstWay      the fewest slots of a way, and the first of these ways
+--   IsRound, HasRound, StartsWithin      ways once round the table
+--   IsLeastSize, IsFirstMember, IsFirstRound      the number of slots of a round, and the first of these rounds
+--
 use Rattle.std.specs.Prelude.{ℕ, ◌+◌, ◌<◌, ◌≤◌, ◌≡◌, ◌≢◌, List, [], ◌∷◌, ◌++◌, length, Contains}
 use Rattle.std.specs.Prelude.{max, slice_index}
 use Rattle.std.specs.declared.cmp.Ordering.TheVariants.{Less}
