@@ -22,16 +22,17 @@ use Rattle.aeth_answers.proofs.TaskLemmas.{IsAfter-same, IsAfter-then, IsAnswer-
 
 -- Once a file was read that isn't too long, what comes next of its bytes is left.
 pub Leaves-text_file : (old now : Files) (file name bytes : List ℕ) (next : List ℕ → Task)
-    → IsAfter old now → ((held : List ℕ) → old.content name ≡ Some held → bytes ≡ held)
+    → IsAfter old now → IsFaultless old.faults now.faults
+    → ((held : List ℕ) → old.content name ≡ Some held → bytes ≡ held)
     → length bytes ≤ max_file_bytes
     → Leaves old now (text_file file name next) (next bytes)
-Leaves-text_file old now file name bytes next after read short =
+Leaves-text_file old now file name bytes next after clean read short =
     let judges : List ℕ → Task =
     λ held. if nat_le (length held) max_file_bytes then next held
     else ends (refused_file file too_long) in
     let goes : judges bytes ≡ next bytes = rw (le-leb (length bytes) max_file_bytes short) refl in
     subst (λ (rest : Task). Leaves old now (text_file file name next) rest) goes
-    (Leaves-reads old now file name judges bytes after read)
+    (Leaves-reads old now file name judges bytes after clean read)
 
 -- There are so many bytes, however many.
 some_bytes : (n : ℕ) → (bytes : List ℕ) × (length bytes ≡ n)
@@ -49,9 +50,10 @@ on_long (Some bytes) Holds long holds = holds bytes (long bytes refl)
 
 -- The refusal of a file that is too long ends a task that reads it.
 pub IsAnswer-too_long : (old new : Files) (file name : List ℕ) (next : List ℕ → Task) (answer : Job)
+    → IsFaultless old.faults new.faults
     → ((bytes : List ℕ) → old.content name ≡ Some bytes → max_file_bytes < length bytes)
     → answer ≡ refused_file file too_long → IsAnswer old new (text_file file name next) answer
-IsAnswer-too_long old new file name next answer long is =
+IsAnswer-too_long old new file name next answer clean long is =
     let refused : answer.status ≡ refused_status = rw is refl in record {
       within = omega (arith, refused);
       command = λ usage. omega (arith, refused, usage);
@@ -59,6 +61,7 @@ IsAnswer-too_long old new file name next answer long is =
           (λ bytes. ComesTo old.content (if nat_le (length bytes) max_file_bytes then next bytes
           else ends (refused_file file too_long)) answer) long
           (λ bytes more. rw (lt-leb (length bytes) max_file_bytes more) is);
+      faultless = λ below. clean;
       fault = λ fault. absurd (omega (arith, refused, fault));
     }
 
@@ -135,7 +138,7 @@ gives-told now file rule_of view told (Err fault) (Err (Ends answer)) reads hand
     let broken : told ≡ Err hands.0 = rw hands.1 at reads in
     let refused : answer.status ≡ refused_status = rw hands.2 refl in
     λ next. rw (broken, ← hands.2)
-    (IsAnswer-ends now now answer (omega (arith, refused)) (λ usage. omega (arith, refused, usage)))
+    (IsAnswer-ends now answer (omega (arith, refused)) (λ usage. omega (arith, refused, usage)))
 gives-told now file rule_of view told (Err fault) (Err Memory) reads hands = tt
 
 pub Judges-told : {X E A : Type 0} (now : Files) (file : List ℕ) (rule_of : E → Option BrokenRule)
@@ -191,13 +194,13 @@ pub IsAnswer-refused : (now : Files) (file : List ℕ) (broken : BrokenRule) (an
     → IsAnswer now now (ends (refused_file file broken)) answer
 IsAnswer-refused now file broken answer is =
     rw is
-    (IsAnswer-ends now now (refused_file file broken) (omega arith) (λ usage. omega (arith, usage)))
+    (IsAnswer-ends now (refused_file file broken) (omega arith) (λ usage. omega (arith, usage)))
 
 -- A job that isn't granted ends a task.
 pub IsAnswer-not_granted : (now : Files) (text : List ℕ) (answer : Job) → answer ≡ not_granted text
     → IsAnswer now now (ends (not_granted text)) answer
 IsAnswer-not_granted now text answer is =
-    rw is (IsAnswer-ends now now (not_granted text) (omega arith) (λ usage. omega (arith, usage)))
+    rw is (IsAnswer-ends now (not_granted text) (omega arith) (λ usage. omega (arith, usage)))
 
 -- An answer that was made, if memory wasn't wanting, is that of a task at its end.
 ended-answered : (now : Files) (job : Job) (made : Result Job NoMemory) (came : Result Job Stop)
@@ -205,7 +208,7 @@ ended-answered : (now : Files) (job : Job) (made : Result Job NoMemory) (came : 
     → IfOk made (λ answer. answer ≡ job) → Ended made came
     → IfAnswer came (IsAnswer now now (ends job))
 ended-answered now job (Ok answer) came below command is hands =
-    rw (hands, is) (IsAnswer-ends now now job below command)
+    rw (hands, is) (IsAnswer-ends now job below command)
 ended-answered now job (Err cause) came below command is hands = rw hands tt
 
 pub Answers-ended : (now : Files) (job : Job) (made : Result Job NoMemory) (came : Result Job Stop)

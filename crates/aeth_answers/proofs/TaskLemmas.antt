@@ -3,7 +3,7 @@ use Rattle.std.proofs.Common.{◌≡◌, ◌≢◌, ◌∙◌, ◌≤◌, ◌<�
 use Rattle.std.proofs.Common.{refl, sym, subst, arith}
 use Rattle.std.proofs.Math.Path.{fun_ext}
 use Rattle.std.proofs.lemmas.Option.{none-some, same_Some}
-use Rattle.aeth_io.specs.Causes.{Rose}
+use Rattle.aeth_io.specs.Causes.{IsFaultless, Rose}
 use Rattle.aeth_answers.specs.Job.{Job, read_fault}
 use Rattle.aeth_answers.specs.Places.{Files, IsAfter}
 use Rattle.aeth_answers.specs.Status.{read_fault_status, usage_status}
@@ -23,12 +23,13 @@ IsAfter-then old now new first more = record {
 }
 
 -- A task that is at its end is answered by its job.
-pub IsAnswer-ends : (old new : Files) (job : Job) → job.status < read_fault_status
-    → job.status ≢ usage_status → IsAnswer old new (ends job) job
-IsAnswer-ends old new job below command = record {
+pub IsAnswer-ends : (now : Files) (job : Job) → job.status < read_fault_status
+    → job.status ≢ usage_status → IsAnswer now now (ends job) job
+IsAnswer-ends now job below command = record {
   within = omega arith;
   command = command;
   job = λ low. refl;
+  faultless = λ low name. refl;
   fault = λ fault. absurd (omega (arith, fault));
 }
 
@@ -41,6 +42,7 @@ IsAnswer-fault old new file name next answer rose is =
       within = omega arith;
       command = λ usage. absurd (omega (arith, usage));
       job = λ below. absurd (omega (arith, below));
+      faultless = λ below. absurd (omega (arith, below));
       fault = λ _. record {
         file = file;
         name = name;
@@ -62,11 +64,12 @@ reached_next : (content : Option (List ℕ)) (bytes : List ℕ) (Reached : List 
 reached_next None bytes Reached read reached = (bytes, reached)
 reached_next (Some held) bytes Reached read reached = subst Reached (read held refl) reached
 
--- Once a file was read, over the same contents, what comes next of its bytes is left.
+-- Once a file was read, over the same contents and without a fault, what comes next of its bytes is left.
 pub Leaves-reads : (old now : Files) (file name : List ℕ) (next : List ℕ → Task) (bytes : List ℕ)
-    → IsAfter old now → ((held : List ℕ) → old.content name ≡ Some held → bytes ≡ held)
+    → IsAfter old now → IsFaultless old.faults now.faults
+    → ((held : List ℕ) → old.content name ≡ Some held → bytes ≡ held)
     → Leaves old now (reads file name next) (next bytes)
-Leaves-reads old now file name next bytes after read new answer answers_now =
+Leaves-reads old now file name next bytes after clean read new answer answers_now =
     let IsAnswerOver : (List ℕ → Option (List ℕ)) → Type 0 =
     λ content. IsAnswer (record { content = content; faults = now.faults }) new (next bytes)
     answer in
@@ -75,6 +78,7 @@ Leaves-reads old now file name next bytes after read new answer answers_now =
       command = answers.command;
       job = λ below. reached_next (old.content name) bytes
           (λ held. ComesTo old.content (next held) answer) read (answers.job below);
+      faultless = λ below name. answers.faultless below name ∙ clean name;
       fault = λ fault. let it = answers.fault fault in record {
         file = it.file;
         name = it.name;

@@ -8,7 +8,7 @@
 --   IsAnswer, IsReadFault   what a run answers: the job, or that a file can't be read
 -- This project's own.
 use Rattle.std.specs.Prelude.{ℕ, ◌≡◌, ◌≢◌, ◌<◌, ◌≤◌, ◌⊎◌, List, Option, Some, None}
-use Rattle.aeth_io.specs.Causes.{Rose}
+use Rattle.aeth_io.specs.Causes.{IsFaultless, Rose}
 use Rattle.aeth_answers.specs.Job.{Job, read_fault}
 use Rattle.aeth_answers.specs.Places.{Files}
 use Rattle.aeth_answers.specs.Status.{read_fault_status, usage_status}
@@ -62,10 +62,11 @@ pub record IsReadFault (old new : Files) (task : Task) (answer : Job) : Type 0 w
   pub rose : Rose (old.faults name) (new.faults name)
   pub reached : ComesToRead old.content task file name
 
--- The answer to a task: its job, or that a file can't be read. The words that it came of are a
--- command.
+-- The answer to a task: its job, where no call on the shelf failed; or that a file can't be read. The
+-- words that it came of are a command.
 pub record IsAnswer (old new : Files) (task : Task) (answer : Job) : Type 0 where
   pub within : answer.status ≤ read_fault_status
   pub command : answer.status ≢ usage_status
   pub job : answer.status < read_fault_status → ComesTo old.content task answer
+  pub faultless : answer.status < read_fault_status → IsFaultless old.faults new.faults
   pub fault : answer.status ≡ read_fault_status → IsReadFault old new task answer

@@ -3,6 +3,7 @@ use Rattle.std.proofs.Common.{◌≡◌, ◌∙◌, ◌≤◌, ◌<◌, ℕ, Lis
 use Rattle.std.proofs.Common.{ap, refl, subst, sym, arith}
 use Rattle.std.proofs.Math.Nat.{eq-or-lt_of_le}
 use Rattle.std.proofs.lemmas.Option.{same_Some}
+use Rattle.aeth_io.specs.Causes.{IsFaultless}
 use Rattle.aeth_io.specs.declared.shelf.Shelf as shelf
 use Rattle.aeth_io.specs.declared.sink.Sink as sink
 use Rattle.aeth_answers.specs.Job.{Job, err_text, usage}
@@ -21,14 +22,20 @@ module _ (outcomes : Outcomes) (old new : Files) (answer : Job) where
   -- The status of an answer is at most that of a read fault.
   answer_within : (said : Option Command) → IsAnswerTo outcomes old new said answer
       → answer.status ≤ read_fault_status
-  answer_within None is = rw is (omega arith)
+  answer_within None is = rw is.0 (omega arith)
   answer_within (Some command) is = is.within
 
   -- Below that, the words come to the answer.
   answer_comes : (said : Option Command) → IsAnswerTo outcomes old new said answer
       → answer.status < read_fault_status → WordsComeTo outcomes old.content said answer
-  answer_comes None is below = is
+  answer_comes None is below = is.0
   answer_comes (Some command) is below = is.job below
+
+  -- And no call on the shelf failed.
+  answer_faultless : (said : Option Command) → IsAnswerTo outcomes old new said answer
+      → answer.status < read_fault_status → IsFaultless old.faults new.faults
+  answer_faultless None is below = is.1
+  answer_faultless (Some command) is below = is.faultless below
 
   -- An answer is usage where the words are no command.
   answer_is_usage : (said : Option Command) → IsAnswerTo outcomes old new said answer
@@ -41,7 +48,7 @@ module _ (outcomes : Outcomes) (old new : Files) (answer : Job) where
       → answer.status ≡ read_fault_status
       → (command : Command) × (said ≡ Some command)
       × IsReadFault old new (task_of outcomes command) answer
-  answer_is_fault None is fault = absurd (omega (arith, ap (λ (job : Job). job.status) is, fault))
+  answer_is_fault None is fault = absurd (omega (arith, ap (λ (job : Job). job.status) is.0, fault))
   answer_is_fault (Some command) is fault = (command, refl, is.fault fault)
 
 -- What words come to is their job, where the contents on which it rests are told.
@@ -84,6 +91,7 @@ module _ {H O E : Type 0} (outcomes : Outcomes) (h : shelf.Ghosts H) (o : sink.G
           out_is = λ below asked told. rw (← same below asked told) written.out;
           err_is = λ below asked told. rw (← same below asked told) written.err;
           answered = λ below. (answer, comes below, refl, written.out, written.err);
+          answered_shelf = answer_faultless outcomes from to answer said is;
           err_kept = written.err_kept;
           out_kept = λ _. written.out_kept;
           usage_only = answer_is_usage outcomes from to answer said is;
@@ -120,6 +128,7 @@ module _ {H O E : Type 0} (outcomes : Outcomes) (h : shelf.Ghosts H) (o : sink.G
       out_is = λ below. absurd (omega (arith, below));
       err_is = λ below. absurd (omega (arith, below));
       answered = λ below. absurd (omega (arith, below));
+      answered_shelf = λ below. absurd (omega (arith, below));
       err_kept = λ done. absurd (omega (arith, done));
       out_kept = λ below. absurd (omega (arith, below));
       usage_only = λ usage. absurd (omega (arith, usage));

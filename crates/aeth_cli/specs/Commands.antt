@@ -66,9 +66,9 @@ module _ (outcomes : Outcomes) where
   abbrev pub job : (List ℕ → Option (List ℕ)) → List (List ℕ) → Option Job
   job content words = asked_job content (command_of words)
 
-  -- The answer to a command, or to words that are none.
+  -- The answer to a command, or to words that are none, for which no file is read.
   abbrev pub IsAnswerTo : Files → Files → Option Command → Job → Type 0
-  IsAnswerTo old new None answer = answer ≡ usage
+  IsAnswerTo old new None answer = (answer ≡ usage) × IsFaultless old.faults new.faults
   IsAnswerTo old new (Some command) answer = IsAnswer old new (task_of command) answer
 
   -- A call answers a command, or words that are none, and whatever it comes to, it only read. Want of

@@ -53,6 +53,9 @@ pub record Promise {H O E : Type 0} (outcomes : Outcomes) (h : shelf.Ghosts H)
       × (status ≡ answer.status)
       × (o.written new.out ≡ appended (o.written old.out) (out_text answer))
       × (e.written new.err ≡ appended (e.written old.err) (err_text answer))
+  -- No call on the shelf failed: what a file told isn't told by another try.
+  pub answered_shelf : status < read_fault_status
+      → IsFaultless (h.faults old.shelf) (h.faults new.shelf)
   -- `err` is as before where the job is done, and `out` where it isn't.
   pub err_kept : status ≡ done_status → new.err ≡ old.err
   pub out_kept : status < read_fault_status → status ≢ done_status → new.out ≡ old.out

@@ -12,8 +12,8 @@ returns-in-Ok g c =
       faultless = read.faultless (λ fault. cc);
       judges = λ next. Leaves-text_file (files_of g.H.Shelf c.args.shelf.now)
           (files_of g.H.Shelf c.read_all.new.shelf) c.args.file.now c.args.name.now
-          c.in-Ok.bytes.items next (record { kept = read.kept; later = read.later }) read.ok
-          read.within;
+          c.in-Ok.bytes.items next (record { kept = read.kept; later = read.later })
+          (read.faultless (λ fault. cc)) read.ok read.within;
     }
 
 -- The file can't be read.
@@ -37,7 +37,7 @@ returns-in_ok-too_long-in-Err-TooLong g c =
       faultless = tt;
       judges = λ next. IsAnswer-too_long (files_of g.H.Shelf c.args.shelf.now)
           (files_of g.H.Shelf c.read_all.new.shelf) c.args.file.now c.args.name.now next
-          c.in_ok-too_long-in-Err-TooLong.field-0
+          c.in_ok-too_long-in-Err-TooLong.field-0 (read.faultless (λ fault. cc))
           (λ bytes told. read.only_too_long bytes told long)
           c.in_ok-too_long-in-Err-TooLong.ensures;
     }
