@@ -7,7 +7,7 @@ mod ComeLemmas
 mod CountedCycle
 mod CountedLemmas
 pub mod CountingLemmas
-mod CycleLemmas
+pub mod CycleLemmas
 mod DriveLemmas
 mod EndLemmas
 pub mod EnteringLemmas

@@ -1,6 +1,6 @@
 -- The slot tables of components: which phases of a cycle keep them, and what they are at first.
 use Rattle.std.proofs.Common.{ℕ, ◌≡◌, ◌<◌, ◌∙◌, refl, sym, ap, arith, subst, inl, inr}
-use Rattle.std.proofs.Common.{List, [], length, map, Option, Some, None, replicate, slice_get}
+use Rattle.std.proofs.Common.{List, [], false, length, map, Option, Some, None, replicate, slice_get}
 use Rattle.std.specs.Prelude.{◌⊎◌, slice_set}
 use Rattle.std.specs.List.{All, range_with_len, slice_index_or}
 use Rattle.std.proofs.lemmas.Bool.{cases_lt}
@@ -14,7 +14,8 @@ use Rattle.aeth_router.specs.declared.part.Part.TheVariants.{Interface, Router, 
 use Rattle.aeth_components.specs.Changes.{on_interface}
 use Rattle.aeth_ni.specs.Interface.{changed}
 use Rattle.aeth_components.specs.Components.{part_count}
-use Rattle.aeth_components.specs.Frames.{RouterFrame, frame_of}
+use Rattle.aeth_components.specs.Ends.{is_interface}
+use Rattle.aeth_components.specs.Frames.{frame_of}
 use Rattle.aeth_components.specs.Injecting.{AreInjecting, entries_of, marks_at, table_at}
 use Rattle.aeth_components.specs.Making.{new_parts}
 use Rattle.aeth_components.specs.Phases.{Moment, in_turn, pulled, refilled}
@@ -49,25 +50,24 @@ tables-pulled cycle moment =
     views-turns (pulled cycle) entries_of (views-pulled entries_of entries-changed cycle)
     (range_with_len 0 (length moment.lanes)) moment
 
--- A router has none, so one in place of another keeps the tables.
-entries-router : (incoming outgoing : List ℕ) (part : Part)
-    → frame_of part ≡ RouterFrame incoming outgoing → entries_of part ≡ []
-entries-router incoming outgoing (Interface ni) framed = absurd (cc framed)
-entries-router incoming outgoing (Router router) framed = refl
-entries-router incoming outgoing (TableRouter router) framed = refl
-entries-router incoming outgoing (Stage stage) framed = absurd (cc framed)
+-- Only an interface has one, so another component in place of one keeps the tables.
+entries-other : (part : Part) → is_interface (frame_of part) ≡ false → entries_of part ≡ []
+entries-other (Interface ni) other = absurd (cc other)
+entries-other (Router router) other = refl
+entries-other (TableRouter router) other = refl
+entries-other (Stage stage) other = refl
 
-pub tables-replaced : (parts : List Part) (number : ℕ) (part : Part) (incoming outgoing : List ℕ)
-    → frame_of part ≡ RouterFrame incoming outgoing
+pub tables-replaced : (parts : List Part) (number : ℕ) (part : Part)
+    → is_interface (frame_of part) ≡ false
     → slice_get (map frame_of parts) number ≡ Some (frame_of part)
     → map entries_of (slice_set parts number part) ≡ map entries_of parts
-tables-replaced parts number part incoming outgoing framed at =
+tables-replaced parts number part other at =
     let found = from-map frame_of parts number (frame_of part) at in
     views-slice_set entries_of parts number part
     (seen-at entries_of parts number found.0 found.1
     ∙ ap (λ (table : List (Option ℕ)). Some table)
-    (entries-router incoming outgoing found.0 (sym found.2 ∙ framed)
-    ∙ sym (entries-router incoming outgoing part framed)))
+    (entries-other found.0 (ap is_interface (sym found.2) ∙ other)
+    ∙ sym (entries-other part other)))
 
 -- Before the first cycle each table is empty, or has no entry for any slot.
 module _ (chip : ChipData) (rooms : List ℕ) where

@@ -1,4 +1,10 @@
 -- What the events of a cycle do to one queue and to one entry of a slot table.
+--
+--   write_end, event_end, queue_written, queue_done      the queue that an event changes, and what it makes of it
+--   Touches, SwitchesAlone      an event changes a queue, and what all events do to it
+--   entry_in, entry_of, SlotWrite, slot_written, slot_write      entries of tables, and writes to them
+--   Writes, WritesAlone      an event writes a slot, and what all events do to its entry
+--
 -- This project's own.
 use Rattle.std.specs.Prelude.{◌≡◌, ℕ, List, Option, Some, None, map, slice_get}
 use Rattle.std.specs.List.{slice_index_or}

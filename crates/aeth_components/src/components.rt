@@ -1,7 +1,7 @@
 // The components of a network and the channels' sessions.
 
-ghost use Rattle.std.specs.Prelude.{◌≡◌, ◌≤◌, ◌<◌, ◌↔◌, ◌*◌, ◌+◌, ℕ, All, IfOk, IfSome, IsTrue, None};
-ghost use Rattle.std.specs.Prelude.{length, map, replicate, slice_get, slice_set};
+ghost use Rattle.std.specs.Prelude.{◌≡◌, ◌≤◌, ◌<◌, ◌↔◌, ◌*◌, ◌+◌, ℕ, All, IfOk, IfSome, IsTrue, None, Some};
+ghost use Rattle.std.specs.Prelude.{false, length, map, replicate, slice_get, slice_set};
 ghost use Rattle.aeth_base.specs.Limits.{max_cycles};
 ghost use Rattle.aeth_ni.specs.Limits.{queues_of_interface};
 ghost use Rattle.aeth_clocked.specs.Wires.{flit_on};
@@ -11,6 +11,7 @@ ghost use Rattle.aeth_components.specs.Changes.{switched};
 ghost use Rattle.aeth_components.specs.Channels.{AreStill};
 ghost use Rattle.aeth_components.specs.Components.{Cycle, first_components};
 ghost use Rattle.aeth_components.specs.Components.{frames_of, part_count, ready_of, wires_driven};
+ghost use Rattle.aeth_components.specs.Ends.{is_interface};
 ghost use Rattle.aeth_components.specs.Entering.{TakesRows, with_rows};
 ghost use Rattle.aeth_components.specs.Events.{IsDoable};
 ghost use Rattle.aeth_components.specs.First.{HasSender, IsFirst};
@@ -42,9 +43,6 @@ use aeth_router::{Part, RouterRow};
 use std::alloc::Global;
 use std::marker::{Brand, Model};
 use std::sync::ledger::{Blank, Ledger};
-
-#[cfg(test)]
-mod tests;
 
 /// The components of a network, its wires, the session of each channel, and what a log is made of:
 /// the cycle in which each word landed, and the flits on each link. It knows nothing of what should
@@ -226,6 +224,25 @@ impl Components {
         ensures { self.new ≡ record self.old { parts = with_rows rows.now self.old.parts } }
     {
         enter_all(&mut self.parts, rows);
+    }
+
+    /// A router or a stage takes the place of another whose links it has, as where it is reset or a fault is put
+    /// in. What is under way is lost: no wire has a flit any more, and no component what it latched last.
+    pub fn replace(&mut self, place: usize, part: Part)
+        requires links { slice_get (frames_of self.old) place ≡ Some (frame_of part) }
+        requires kind { is_interface (frame_of part) ≡ false }
+        ensures { self.new ≡ record self.old {
+          parts = all_seen (replicate (length self.old.wires) None)
+              (slice_set self.old.parts place part);
+          wires = replicate (length self.old.wires) None;
+        } }
+    {
+        let by_table = part.has_table();
+        self.turns.has_tables = by_table || self.turns.has_tables;
+        self.parts[place] = part;
+        self.turns.onward.settle(&mut self.wires);
+        self.wires.clear();
+        self.turns.flits = 0;
     }
 
     /// Events before the first cycle.

@@ -1,5 +1,5 @@
 use Rattle.std.proofs.Common.{◌≡◌, length}
-use Rattle.aeth_components.proofs.components.tests.play.Given as goal
+use Rattle.aeth_hardware_tests.proofs.network.play.Given as goal
 use Rattle.aeth_components.specs.Components.{frames_of}
 
 -- The order fits the components, whose frames stay.
