@@ -7,17 +7,24 @@ Runs `rt ci` at the top of the repository, or the command that the words give, a
 half second. What it writes goes to standard error as it comes; the table is printed behind it: for each crate the seconds
 of its own proof, of its tests and of its must-fail edits, then all others (Python, compilers, programs), then the sums. Ends with
 the command's status. For a measure from nothing take a fresh clone, on a machine that does nothing else.
+
+A processor that others share is slower in one hour than in another. So the script goes through one loop again and again
+meanwhile, always the same, and the last lines tell how long that took, at best and in the mean, and what the run would have
+taken had it been at its best throughout.
 """
 import os
 import pathlib
 import re
 import resource
+import statistics
 import subprocess
 import sys
 import time
 
 KINDS = ("own", "tests", "edits")
 TICKS = os.sysconf("SC_CLK_TCK")
+YARD_STEPS = 400_000
+YARD_SECONDS = 5
 NAME = re.compile(r"(?:^|\0)--crate-name\0([^\0]*)")
 
 
@@ -73,6 +80,14 @@ def sample(top, taken, kinds):
             taken[key] = (int(fields[10]) + int(fields[11])) / TICKS
 
 
+def yardstick():
+    """The processor seconds of a loop that is always the same."""
+    began, number = time.process_time(), 1
+    for step in range(YARD_STEPS):
+        number = number * 31 + step & 0xFFFFFFFF
+    return time.process_time() - began
+
+
 def table_of(taken, kinds):
     table = {}
     for key, seconds in taken.items():
@@ -82,7 +97,7 @@ def table_of(taken, kinds):
     return table
 
 
-def show(table, spent, clock):
+def show(table, spent, clock, yards):
     print(f"{'CRATE':24}" + "".join(f"{kind:>9}" for kind in KINDS))
     for crate, row in sorted(table.items(), key=lambda it: -sum(it[1].values())):
         print(f"{crate:24}" + "".join(f"{row[kind]:9.0f}" for kind in KINDS))
@@ -90,17 +105,22 @@ def show(table, spent, clock):
     print(f"{'all':24}" + "".join(f"{sums[kind]:9.0f}" for kind in KINDS))
     print(f"{'others':24}{spent - sum(sums.values()):9.0f}")
     print(f"{spent / 60:.1f} processor minutes, {clock / 60:.1f} minutes of clock")
+    best, mean = min(yards), statistics.fmean(yards)
+    print(f"The same loop took {best * 1000:.0f} milliseconds at best, {mean * 1000:.0f} in the mean:")
+    print(f"at its best throughout, the machine would have taken {spent / 60 * best / mean:.1f} processor minutes.")
 
 
 def main(words):
     os.chdir(pathlib.Path(__file__).resolve().parent.parent)
-    taken, kinds, began = {}, {}, time.monotonic()
+    taken, kinds, yards, began = {}, {}, [yardstick()], time.monotonic()
     run = subprocess.Popen(words or ["rt", "ci"], stdin=subprocess.DEVNULL, stdout=sys.stderr)
     while run.poll() is None:
         sample(str(run.pid), taken, kinds)
+        if time.monotonic() > began + YARD_SECONDS * len(yards):
+            yards.append(yardstick())
         time.sleep(0.5)
     used = resource.getrusage(resource.RUSAGE_CHILDREN)
-    show(table_of(taken, kinds), used.ru_utime + used.ru_stime, time.monotonic() - began)
+    show(table_of(taken, kinds), used.ru_utime + used.ru_stime, time.monotonic() - began, yards)
     return run.returncode
 
 
