@@ -8,6 +8,7 @@ from aeth import run_aeth
 from files import read, toml_lines
 from paths import why_none
 from places import WALKS, row_line
+from plans import why_broken
 from rules import broken_at, columns_of, forms_of, keys_at, rules_of, rules_of_logs, rules_of_plans
 from usage import usage
 
@@ -216,15 +217,19 @@ def refused_unit(connection, group, side, turn, paths):
 
 
 def broken_plan(rule, line, other, paths):
+    """The lines of a plan that break a rule, what the rule says, and what is wrong with them."""
     plan = paths["plan"]
     lines = Path(plan).read_text(encoding="ascii").splitlines()
-    shown = [f"{plan}, line {number}: {lines[int(number) - 1]}" for number in (line, other) if number != "0"]
+    named_lines = [int(number) for number in (line, other) if number != "0"]
+    shown = [f"{plan}, line {number}: {lines[number - 1]}" for number in named_lines]
+    why = why_broken(
+        int(rule), [lines[number - 1] for number in named_lines], lines, read_once(paths["chip"]), read_once(paths["app"]))
     if not shown:
         seated = {row.split(" ")[1] for row in lines if row.startswith("seat ")}
         cores = toml_lines.read(Path(paths["app"]).read_bytes())[0]["core"]
         core = next(core for core in cores if "ni" in core and core["name"] not in seated)
         shown = [f"{plan}: it has no line `seat {core['name']} {core['ni']} ..`"]
-    return shown + [f"Rule {rule} of an accepted plan is broken where {rules_of_plans()[rule].strip()}."]
+    return shown + [f"Rule {rule} of an accepted plan is broken where {rules_of_plans()[rule].strip()}.", *filter(None, [why])]
 
 
 def fault(rule, row, paths):

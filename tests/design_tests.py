@@ -292,6 +292,36 @@ class Refusals(Designs):
         errors = self.run_script("design", "where", "check", pair, two, broken)[2]
         self.assertIn("it has no line `seat dsp n0 ..`", errors)
 
+    def test_numbers_of_plans(self):
+        """What is wrong with a plan's path, slots or two grants, where `check` names their lines alone."""
+        pair, one = EXAMPLES / "pair.toml", EXAMPLES / "one.toml"
+        text = (EXAMPLES / "one.plan").read_text(encoding="ascii")
+        for number, old, new, tells in (
+            (5, "fwd 0,4,3", "fwd 0,4,5,1", "It ends at n0, and not at n1."),
+            (5, "fwd 0,4,3", "fwd 4,3", "Link 4 leads from r0 to r1, and the way stands at n0 there."),
+            (5, "fwd 0,4,3", "fwd 0,4,5,4,3", "It comes to r0 twice."),
+            (6, "3 0,4", "3 0", "It needs 2 slots, and has 1."),
+            (6, "3 0,4", "3 0,1", "The greatest gap of its slots is 7. A latency of 6 on a path of 3 cycles allows one of 4."),
+        ):
+            with self.subTest(new=new):
+                broken = self.file("broken.plan", text.replace(old, new))
+                status, _, errors = self.run_script("design", "where", "check", pair, one, broken)
+                self.assertEqual((status, errors.splitlines()[0]), (3, f"broken {number} 4 0"))
+                self.assertIn(tells, errors)
+
+    def test_grants_that_meet(self):
+        """Two connections from one core to another, of which both have slot 0 of the first link."""
+        one = (EXAMPLES / "one.toml").read_text(encoding="utf-8")
+        head, connection = one.split("[[connection]]")
+        connection, use = connection.split("[[use]]")
+        other = connection.replace('"c0"', '"c1"')
+        app = self.file("both.toml", "[[connection]]".join([head, connection, other]) + "[[use]]" + use.replace('["c0"]', '["c0", "c1"]'))
+        grants = "".join(f"grant {name} 0 fwd 0,4,3 0,4\ngrant {name} 0 back 2,5,1 {slot}\n" for name, slot in (("c0", 0), ("c1", 1)))
+        plan = self.file("both.plan", f"plan 1 8\nseat cpu n0 0\nseat mem n1 0\n{grants}end\n")
+        errors = self.run_script("design", "where", "check", EXAMPLES / "pair.toml", app, plan)[2]
+        self.assertEqual(errors.splitlines()[0], "broken 7 4 6")
+        self.assertIn("Both have slot 0 of link 0, from n0 to r0.", errors)
+
     def test_rows_of_traces(self):
         words = ("simulate", "pair.toml", "two.toml", "two.plan", "two.words.csv", "two.receivers.csv", "two.switches.csv", "24")
         plan = self.file("two.plan", self.run_script("aeth", "allocate", EXAMPLES / "pair.toml", EXAMPLES / "two.toml")[1])
