@@ -48,6 +48,24 @@ class Designs(unittest.TestCase):
         return self.file(name, text)
 
 
+class Statuses(Designs):
+    """Each status below that of a failing write as the system gets it, with its text on the one stream or the other."""
+
+    def test_statuses(self):
+        pair, one = EXAMPLES / "pair.toml", EXAMPLES / "one.toml"
+        twice = self.file("twice.toml", pair.read_text(encoding="utf-8").replace('["r0", "r1"]', '["r0", "r0"]'))
+        plan = self.file("few.plan", (EXAMPLES / "one.plan").read_text(encoding="ascii").replace("3 0,4", "3 0"))
+        for words, tells in (
+            (("check", pair, one, EXAMPLES / "one.plan"), (0, "accepted\n", "")),
+            (("checks", pair), (1, "", "usage\n")),
+            (("chip", twice), (2, "", "refused chip 4 NameTwice 1 r0\n")),
+            (("check", pair, one, plan), (3, "", "broken 6 4 0\n")),
+            (("chip", "no_such_file.toml"), (4, "", "read fault chip\n")),
+        ):
+            with self.subTest(words=words):
+                self.assertEqual(self.run_script("aeth", *words), tells)
+
+
 class Chips(Designs):
     """What `aeth chip` says of each shape: routers, links, and the greatest least distance."""
 

@@ -1,0 +1,5 @@
+pub mod Designs
+pub mod Traces
+pub mod Texts
+pub mod Audits
+pub mod Chains
