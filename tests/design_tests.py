@@ -5,6 +5,7 @@ from tempfile import NamedTemporaryFile
 import csv
 import io
 import re
+import subprocess
 import sys
 import tomllib
 import unittest
@@ -63,7 +64,8 @@ class Statuses(Designs):
             (("chip", "no_such_file.toml"), (4, "", "read fault chip\n")),
         ):
             with self.subTest(words=words):
-                self.assertEqual(self.run_script("aeth", *words), tells)
+                ran = subprocess.run([PROGRAM, *words], capture_output=True, text=True, check=False)
+                self.assertEqual((ran.returncode, ran.stdout, ran.stderr), tells)
 
 
 class Chips(Designs):
