@@ -1,8 +1,13 @@
-//! Tests of components: wires and orders, network interfaces, routers, and all of a network together.
+//! Tests of chips and components: ports, wires and distances, orders, network interfaces, routers, and all of a network
+//! together.
 #![tactic(auto)]
 
 #[cfg(test)]
+mod chips;
+#[cfg(test)]
 mod clocked;
+#[cfg(test)]
+mod distances;
 #[cfg(test)]
 mod interface;
 #[cfg(test)]

@@ -1,5 +1,5 @@
 use Rattle.std.proofs.Common.{◌<◌, All, length}
-use Rattle.aeth_design_tests.proofs.chips.offsets_of.Given as goal
+use Rattle.aeth_hardware_tests.proofs.chips.offsets_of.Given as goal
 
 -- The links so far are the chip's.
 abbrev pub invariant-loop-link : goal.invariant-loop-link
