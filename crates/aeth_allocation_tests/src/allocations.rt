@@ -3,7 +3,8 @@
 use crate::apps::{ONE, ROLL};
 use crate::chips::{PAIR, SLOW_TWIN};
 use crate::outcomes::{AskedOfAllocation, Price};
-use crate::setups::{Question, is_right};
+use crate::setups::Question::OfAllocation;
+use crate::setups::{Row, wrong_row};
 use aeth_alloc::Refused;
 use aeth_base::{ConnId, GroupId, Side, Unit};
 
@@ -41,19 +42,12 @@ end
 };
 
 /// A chip, an application, and what is asked of the allocation.
-const ROWS: &[(&str, &str, AskedOfAllocation)] = &[
-    (PAIR, ROLL, ROLLED_BACK),
-    (SLOW_TWIN, ONE, FASTER),
+const ROWS: &[Row] = &[
+    (PAIR, ROLL, OfAllocation(ROLLED_BACK)),
+    (SLOW_TWIN, ONE, OfAllocation(FASTER)),
 ];
 
 #[test]
 fn allocations_are_as_worked_out(rt: HostRuntime) {
-    for (i, (chip, app, asked)) in ROWS.iter().enumerate() {
-        let question = Question::OfAllocation(asked);
-        assert_eq!(rt;
-            is_right(rt.alloc(), chip, app, question),
-            Some(true),
-            "row {i}"
-        );
-    }
+    assert_eq!(rt; wrong_row(rt.alloc(), ROWS), None);
 }

@@ -41,9 +41,24 @@ pub(crate) fn is_book_right(
     grants: &[(u32, u64)],
     asked: &AskedOfBook,
 ) -> Option<bool> {
-    let mut book = Book::new(alloc, chip, app, groups).ok()?;
-    grant_all(chip, &mut book, grants)?;
-    is_asked_right(alloc, chip, &mut book, asked)
+    match Book::new(alloc, chip, app, groups) {
+        Ok(mut book) => is_right_after(alloc, chip, &mut book, grants, asked),
+        Err(_) => None,
+    }
+}
+
+/// Whether the answer is right of a book to which these grants are added first.
+fn is_right_after(
+    alloc: Global,
+    chip: &Chip,
+    book: &mut Book,
+    grants: &[(u32, u64)],
+    asked: &AskedOfBook,
+) -> Option<bool>
+    requires { book.old.links ≡ chip.now.links }
+{
+    grant_all(chip, book, grants)?;
+    Some(is_asked_right(alloc, chip, book, asked))
 }
 
 /// Makes grants over links 0, 4 and 3, out of those slots of each mask that are free.
@@ -75,24 +90,38 @@ fn grant(chip: &Chip, book: &mut Book, unit: Unit, path: Path, slots: u64) -> Op
     book.add(grant).ok()
 }
 
-fn is_asked_right(alloc: Global, chip: &Chip, book: &mut Book, asked: &AskedOfBook) -> Option<bool>
+fn is_asked_right(alloc: Global, chip: &Chip, book: &mut Book, asked: &AskedOfBook) -> bool
     requires { book.old.links ≡ chip.now.links }
 {
     match asked {
         AskedOfBook::Starts(conn, group, links, mask) => {
-            Some(starts(chip, book, unit(*conn, *group), links) == *mask)
+            starts(chip, book, unit(*conn, *group), links) == *mask
         }
-        AskedOfBook::Used(conn, link, slots) => Some(used(chip, book, *conn, *link)? == *slots),
-        AskedOfBook::Narrowed(link, offset, mask) => Some(
-            narrowed::<Brand>(chip, book, *link, *offset, Blank::new(1))? == *mask,
-        ),
-        AskedOfBook::TakenOff(conns, left, mask) => {
-            Some(is_taken_off(chip, book, conns, *left, *mask))
+        AskedOfBook::Used(conn, link, slots) => used(chip, book, *conn, *link) == Some(*slots),
+        AskedOfBook::Narrowed(link, offset, mask) => {
+            leaves(chip, book, *link, *offset) == Some(*mask)
         }
+        AskedOfBook::TakenOff(conns, left, mask) => is_taken_off(chip, book, conns, *left, *mask),
         AskedOfBook::First(price, search, answer) => {
-            let far = Distances::of(alloc, chip).ok()?;
-            Some(is_first(chip, &far, book, *price, search, answer))
+            is_first_found(alloc, chip, book, *price, search, answer)
         }
+    }
+}
+
+/// Whether the first path is found so; not where memory runs out.
+fn is_first_found(
+    alloc: Global,
+    chip: &Chip,
+    book: &Book,
+    price: Price,
+    search: &Search,
+    answer: &Answer,
+) -> bool
+    requires { book.now.links ≡ chip.now.links }
+{
+    match Distances::of(alloc, chip) {
+        Ok(far) => is_first(chip, &far, book, price, search, answer),
+        Err(_) => false,
     }
 }
 
@@ -112,26 +141,27 @@ fn used(chip: &Chip, book: &Book, conn: u32, link: u32) -> Option<u32>
     Some(book.used(unit(conn, 0), LinkId(link)))
 }
 
-fn narrowed<L: Ledger>(
-    chip: &Chip,
-    book: &Book,
-    link: u32,
-    offset: u32,
-    blank: Blank,
-) -> Option<u64>
+/// The mask of the starts that a link leaves of all, where the chip has the link.
+fn leaves(chip: &Chip, book: &Book, link: u32, offset: u32) -> Option<u64>
+    requires { book.now.links ≡ chip.now.links }
+{
+    if link >= chip.links() {
+        return None;
+    }
+    Some(narrowed::<Brand>(chip, book, LinkId(link), offset, Blank::new(1)))
+}
+
+fn narrowed<L: Ledger>(chip: &Chip, book: &Book, link: LinkId, offset: u32, blank: Blank) -> u64
     requires book { book.now.links ≡ chip.now.links }
+    requires link { link.0 < length chip.now.links }
     requires name { blank.name ≡ L.name }
     requires parts { blank.parts ≡ L.parts }
     requires one { L.parts ≡ 1 }
 {
     let mut steps = Steps::<L>::open(blank);
-    if link >= chip.links() {
-        return None;
-    }
     let unit = unit(1, 0);
     let all = book.free(unit, &Path::empty());
-    let starts = book.narrow(unit, LinkId(link), offset, &all, &mut steps);
-    Some(mask_of(&starts))
+    mask_of(&book.narrow(unit, link, offset, &all, &mut steps))
 }
 
 fn is_taken_off(chip: &Chip, book: &mut Book, conns: &[Option<u32>], left: usize, mask: u64) -> bool

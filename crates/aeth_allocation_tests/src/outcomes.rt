@@ -4,12 +4,12 @@ ghost use Rattle.aeth_group.specs.Members.{groups_of};
 ghost use Rattle.aeth_plan.specs.Plan.{IsPlanOf};
 ghost use Rattle.std.specs.Prelude.{◌≡◌, IfSome};
 
+use crate::texts::is_text;
 use aeth_alloc::{Outcome, Refused, allocate, allocate_with};
 use aeth_app::App;
 use aeth_chip::Chip;
 use aeth_group::Groups;
 use aeth_paths::Cost;
-use aeth_plan::print;
 use std::alloc::Global;
 
 /// What links cost.
@@ -40,11 +40,28 @@ pub(crate) fn is_allocation_right(
     requires app { IsAppOf chip.now app.now }
     requires groups { groups.now ≡ groups_of app.now }
 {
-    let outcome = match asked.price {
-        Price::OfApplication => by_application(alloc, chip, app, groups)?,
-        Price::Delay => by_delay(alloc, chip, app, groups)?,
-    };
-    is_outcome(alloc, chip, app, groups, &outcome, asked)
+    match outcome_by(alloc, chip, app, groups, asked.price) {
+        Some(outcome) => is_outcome(alloc, chip, app, groups, &outcome, asked),
+        None => None,
+    }
+}
+
+/// What the allocation comes to where links have this price.
+fn outcome_by(
+    alloc: Global,
+    chip: &Chip,
+    app: &App,
+    groups: &Groups,
+    price: Price,
+) -> Option<Outcome>
+    requires app { IsAppOf chip.now app.now }
+    requires groups { groups.now ≡ groups_of app.now }
+    ensures { IfSome result (λ outcome. IsPlanOf chip.now app.now groups.now outcome.plan) }
+{
+    match price {
+        Price::OfApplication => by_application(alloc, chip, app, groups),
+        Price::Delay => by_delay(alloc, chip, app, groups),
+    }
 }
 
 fn by_application(alloc: Global, chip: &Chip, app: &App, groups: &Groups) -> Option<Outcome>
@@ -69,7 +86,6 @@ fn by_delay(alloc: Global, chip: &Chip, app: &App, groups: &Groups) -> Option<Ou
 }
 
 /// Whether this is what the allocation must come to.
-#[tactic(auto, using(aeth_plan::proofs::PlanLaws::seats_named, aeth_plan::proofs::PlanLaws::grants_named))]
 fn is_outcome(
     alloc: Global,
     chip: &Chip,
@@ -80,6 +96,7 @@ fn is_outcome(
 ) -> Option<bool>
     requires { IsPlanOf chip.now app.now groups.now outcome.now.plan }
 {
-    let printed = print(alloc, &outcome.plan, chip, app).ok()?;
-    Some(outcome.refused.as_slice() == asked.refused && printed.as_slice() == asked.plan.as_bytes())
+    let plan = asked.plan.as_bytes();
+    let is_planned = is_text(alloc, chip, app, groups, &outcome.plan, plan)?;
+    Some(is_planned && outcome.refused.as_slice() == asked.refused)
 }

@@ -3,7 +3,7 @@ ghost use Rattle.aeth_base.specs.Limits.{max_slots};
 ghost use Rattle.std.specs.Prelude.{◌≡◌, ◌+◌, ◌≤◌};
 
 use crate::grants::{mask_of, unit};
-use aeth_base::{LinkId, NiId, Path, Side, Steps};
+use aeth_base::{LinkId, NiId, NoMemory, Path, Side, Steps};
 use aeth_book::Book;
 use aeth_chip::{Chip, Distances};
 use aeth_paths::{Cost, Found, Request, find, find_counted};
@@ -106,7 +106,7 @@ fn both_answer<F: Fn(u32, u32) -> u32>(
 {
     let found = found(chip, far, book, search, cost);
     let counted = counted::<F, Brand>(chip, far, book, search, cost, Blank::new(1));
-    is_answer(found, answer) && is_answer(counted, answer)
+    is_answer(&found, answer) && is_answer(&counted, answer)
 }
 
 /// What a search asks for.
@@ -127,18 +127,21 @@ fn found<F: Fn(u32, u32) -> u32>(
     book: &Book,
     search: &Search,
     cost: &Cost<F>,
-) -> Option<Found>
+) -> Result<Option<Found>, NoMemory>
     requires far { far.now ≡ chip.now.links }
     requires book { book.now.links ≡ chip.now.links }
 {
     let ask = request(search);
-    let Search {
-        from,
-        to,
-        crowded,
-        ..
-    } = search;
-    find(chip, far, book, &ask, from, to, crowded, cost).ok()?
+    find(
+        chip,
+        far,
+        book,
+        &ask,
+        search.from,
+        search.to,
+        search.crowded,
+        cost,
+    )
 }
 
 /// What is found with its steps counted.
@@ -149,7 +152,7 @@ fn counted<F: Fn(u32, u32) -> u32, L: Ledger>(
     search: &Search,
     cost: &Cost<F>,
     blank: Blank,
-) -> Option<Found>
+) -> Result<Option<Found>, NoMemory>
     requires far { far.now ≡ chip.now.links }
     requires book { book.now.links ≡ chip.now.links }
     requires name { blank.name ≡ L.name }
@@ -158,20 +161,25 @@ fn counted<F: Fn(u32, u32) -> u32, L: Ledger>(
 {
     let mut steps = Steps::<L>::open(blank);
     let ask = request(search);
-    let Search {
-        from,
-        to,
-        crowded,
-        ..
-    } = search;
-    find_counted(chip, far, book, &ask, from, to, crowded, cost, &mut steps).ok()?
+    find_counted(
+        chip,
+        far,
+        book,
+        &ask,
+        search.from,
+        search.to,
+        search.crowded,
+        cost,
+        &mut steps,
+    )
 }
 
 /// Whether this is the path that must be found, with its slots.
-fn is_answer(found: Option<Found>, answer: &Answer) -> bool {
+fn is_answer(found: &Result<Option<Found>, NoMemory>, answer: &Answer) -> bool {
     match found {
-        None => answer.0.is_empty(),
-        Some(found) => has_links(&found.path, answer.0) && mask_of(&found.slots) == answer.1,
+        Err(_) => false,
+        Ok(None) => answer.0.is_empty(),
+        Ok(Some(found)) => has_links(&found.path, answer.0) && mask_of(&found.slots) == answer.1,
     }
 }
 

@@ -22,7 +22,6 @@ pub(crate) enum AskedOfPlan {
 }
 
 /// Whether the answer is right.
-#[tactic(auto, using(aeth_plan::proofs::MadePlans::grants_apart))]
 pub(crate) fn is_plan_right(
     alloc: Global,
     chip: &Chip,
@@ -35,11 +34,28 @@ pub(crate) fn is_plan_right(
     requires groups { groups.now ≡ groups_of app.now }
 {
     let text = text.as_bytes();
-    let Ok(plan) = read_plan(alloc, text, chip, app, groups) else {
-        return None;
-    };
+    match read_plan(alloc, text, chip, app, groups) {
+        Ok(plan) => is_right_of(alloc, chip, app, groups, &plan, text, asked),
+        Err(_) => None,
+    }
+}
+
+/// Whether the answer is right of the plan that was read.
+#[tactic(auto, using(aeth_plan::proofs::MadePlans::grants_apart))]
+fn is_right_of(
+    alloc: Global,
+    chip: &Chip,
+    app: &App,
+    groups: &Groups,
+    plan: &Plan,
+    text: &[u8],
+    asked: &AskedOfPlan,
+) -> Option<bool>
+    requires app { IsAppOf chip.now app.now }
+    requires plan { IsPlanOf chip.now app.now groups.now plan.now }
+{
     match asked {
-        AskedOfPlan::Text => is_text(alloc, chip, app, groups, &plan, text),
+        AskedOfPlan::Text => is_text(alloc, chip, app, groups, plan, text),
         AskedOfPlan::Made(slots, seats, grants) => {
             is_made(alloc, chip, app, plan.grants(), (*slots, *seats, *grants))
         }
@@ -48,7 +64,7 @@ pub(crate) fn is_plan_right(
 
 /// Whether a plan is printed so.
 #[tactic(auto, using(aeth_plan::proofs::PlanLaws::seats_named, aeth_plan::proofs::PlanLaws::grants_named))]
-fn is_text(
+pub(crate) fn is_text(
     alloc: Global,
     chip: &Chip,
     app: &App,
@@ -58,8 +74,10 @@ fn is_text(
 ) -> Option<bool>
     requires { IsPlanOf chip.now app.now groups.now plan.now }
 {
-    let printed = print(alloc, plan, chip, app).ok()?;
-    Some(printed.as_slice() == text)
+    match print(alloc, plan, chip, app) {
+        Ok(printed) => Some(printed.as_slice() == text),
+        Err(_) => None,
+    }
 }
 
 /// Whether the plan that the first seats and these grants make has this size and so many of each.
@@ -73,7 +91,24 @@ fn is_made(
     requires app { IsAppOf chip.now app.now }
     requires apart { AllPairs AreApart grants.now }
 {
-    let seats = Seats::new(alloc, chip, app).ok()?;
-    let made = Plan::of(alloc, chip, &seats, grants).ok()?;
-    Some((made.slots(), made.seats().len(), made.grants().len()) == has)
+    match Seats::new(alloc, chip, app) {
+        Ok(seats) => is_made_of(alloc, chip, &seats, grants, has),
+        Err(_) => None,
+    }
+}
+
+/// Whether the plan that these seats and grants make has this size and so many of each.
+fn is_made_of(
+    alloc: Global,
+    chip: &Chip,
+    seats: &Seats,
+    grants: &[Grant],
+    has: (u32, usize, usize),
+) -> Option<bool>
+    requires { AllPairs AreApart grants.now }
+{
+    match Plan::of(alloc, chip, seats, grants) {
+        Ok(made) => Some((made.slots(), made.seats().len(), made.grants().len()) == has),
+        Err(_) => None,
+    }
 }

@@ -86,20 +86,38 @@ fn first_of_all(size: u32, free: u32, need: u32, gap: u32) -> Option<u32>
     first
 }
 
+/// The mask of the set that is chosen out of the free slots.
+fn choice(size: u32, free: u32, need: u32, gap: u32) -> Option<u32>
+    requires some { 1 ≤ size }
+    requires within { size ≤ 32 }
+    requires need { 1 ≤ need }
+{
+    match choose(&set_of(size, free), need, gap) {
+        Some(chosen) => Some(mask_of(&chosen)),
+        None => None,
+    }
+}
+
+/// The first need and gap for which the choice isn't the first of all.
+fn first_other_choice(size: u32, free: u32) -> Option<(u32, u32)>
+    requires some { 1 ≤ size }
+    requires within { size ≤ 16 }
+{
+    for need in 1..size + 2 {
+        for gap in 0..size + 2 {
+            if choice(size, free, need, gap) != first_of_all(size, free, need, gap) {
+                return Some((need, gap));
+            }
+        }
+    }
+    None
+}
+
 #[test]
 fn choice_is_the_first_of_all_subsets(rt: HostRuntime) {
     for size in 1..7 {
         for free in 0..1 << size {
-            for need in 1..size + 2 {
-                for gap in 0..size + 2 {
-                    let chosen = choose(&set_of(size, free), need, gap);
-                    assert_eq!(rt;
-                        chosen.map(|set| mask_of(&set)),
-                        first_of_all(size, free, need, gap),
-                        "{size} {free} {need} {gap}"
-                    );
-                }
-            }
+            assert_eq!(rt; first_other_choice(size, free), None, "{size} {free}");
         }
     }
 }

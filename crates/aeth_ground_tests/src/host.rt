@@ -13,62 +13,108 @@ fn mixed_bytes(alloc: Global, count: usize) -> Result<Vec<u8>, AllocError> {
     Ok(bytes)
 }
 
-/// Four bytes of a file from a place on, or as many as there are.
-fn four_bytes<H: Shelf>(
-    alloc: Global,
-    shelf: &mut H,
-    name: &str,
-    at: u64,
-) -> Result<Vec<u8>, Fail> {
-    let mut four = [0; 4];
-    let Ok(taken) = shelf.read(name, at, &mut four) else {
-        return Ok(Vec::new(alloc));
-    };
-    Ok(Vec::from_slice(alloc, &four[..taken])?)
+/// Writes a file of so many mixed bytes.
+fn write_mixed(rt: &HostRuntime, name: &str, count: usize) -> Result<(), Fail> {
+    let bytes = mixed_bytes(rt.alloc(), count)?;
+    fs::write(rt, name, bytes.as_slice())?;
+    Ok(())
+}
+
+/// Whether a shelf reads these bytes of a file, and no others.
+fn reads_whole<H: Shelf>(alloc: Global, shelf: &mut H, name: &str, bytes: &[u8]) -> bool {
+    match read_all(alloc, shelf, name) {
+        Ok(text) => text.as_slice() == bytes,
+        Err(_) => false,
+    }
+}
+
+/// Whether a shelf over the machine's files reads these bytes of a file.
+fn host_reads_whole(rt: &HostRuntime, name: &str, bytes: &[u8]) -> Result<bool, Fail> {
+    let mut shelf = HostShelf::new(rt.clone()?);
+    Ok(reads_whole(rt.alloc(), &mut shelf, name, bytes))
+}
+
+/// Whether a file is read with the bytes with which it is written.
+fn is_read_as_written(rt: &HostRuntime, name: &str, bytes: &[u8]) -> Result<bool, Fail> {
+    fs::write(rt, name, bytes)?;
+    let is_read = host_reads_whole(rt, name, bytes)?;
+    fs::remove_file(rt, name)?;
+    Ok(is_read)
 }
 
 #[test]
 fn a_host_shelf_reads_whole_files(rt: HostRuntime) -> Result<(), Fail> {
-    let name = "aeth_host_shelf_whole.txt";
     let bytes = mixed_bytes(rt.alloc(), 40_000)?;
-    fs::write(&rt, name, bytes.as_slice())?;
-    let mut shelf = HostShelf::new(rt.clone()?);
-    let text = read_all(rt.alloc(), &mut shelf, name);
-    fs::remove_file(&rt, name)?;
-    assert_eq!(rt; text.ok().as_deref(), Some(bytes.as_slice()));
+    let is_read = is_read_as_written(&rt, "aeth_host_shelf_whole.txt", bytes.as_slice())?;
+    assert!(rt; is_read);
     Ok(())
+}
+
+/// Places of a file of 250 mixed bytes, and the bytes from there on, four or as many as there are.
+const PIECES: [(u64, &[u8]); 8] = [
+    (5, &[5, 6, 7, 8]),
+    (9, &[9, 10, 11, 12]),
+    (5, &[5, 6, 7, 8]),
+    (0, &[0, 1, 2, 3]),
+    (4, &[4, 5, 6, 7]),
+    (247, &[247, 248, 249]),
+    (250, &[]),
+    (300, &[]),
+];
+
+/// Whether a shelf reads this piece into four bytes from a place on.
+fn reads_piece<H: Shelf>(shelf: &mut H, name: &str, at: u64, piece: &[u8]) -> bool {
+    let mut four = [0; 4];
+    match shelf.read(name, at, &mut four) {
+        Ok(taken) => &four[..taken] == piece,
+        Err(_) => false,
+    }
+}
+
+/// The first place from which on a shelf doesn't read its piece.
+fn first_misread<H: Shelf>(shelf: &mut H, name: &str) -> Option<u64> {
+    for (at, piece) in PIECES {
+        if !reads_piece(shelf, name, at, piece) {
+            return Some(at);
+        }
+    }
+    None
+}
+
+/// The first place from which on a shelf over the machine's files doesn't read its piece.
+fn host_first_misread(rt: &HostRuntime, name: &str) -> Result<Option<u64>, Fail> {
+    let mut shelf = HostShelf::new(rt.clone()?);
+    Ok(first_misread(&mut shelf, name))
 }
 
 #[test]
 fn a_host_shelf_reads_from_a_place_on(rt: HostRuntime) -> Result<(), Fail> {
     let name = "aeth_host_shelf_places.txt";
-    let bytes = mixed_bytes(rt.alloc(), 250)?;
-    fs::write(&rt, name, bytes.as_slice())?;
-    let mut shelf = HostShelf::new(rt.clone()?);
-    let rows = [
-        (5, [5, 6, 7, 8].as_slice()),
-        (9, [9, 10, 11, 12].as_slice()),
-        (5, [5, 6, 7, 8].as_slice()),
-        (0, [0, 1, 2, 3].as_slice()),
-        (4, [4, 5, 6, 7].as_slice()),
-        (247, [247, 248, 249].as_slice()),
-        (250, [].as_slice()),
-        (300, [].as_slice()),
-    ];
-    for (at, piece) in rows {
-        let four = four_bytes(rt.alloc(), &mut shelf, name, at)?;
-        assert_eq!(rt; four.as_slice(), piece, "{at}");
-    }
+    write_mixed(&rt, name, 250)?;
+    let misread = host_first_misread(&rt, name)?;
     fs::remove_file(&rt, name)?;
+    assert_eq!(rt; misread, None);
     Ok(())
+}
+
+/// Why a file can't be read.
+fn failure<H: Shelf>(alloc: Global, shelf: &mut H, name: &str) -> Option<ReadFail> {
+    read_all(alloc, shelf, name).err()
+}
+
+/// Why a shelf over the machine's files can't read a name that there isn't, and a folder.
+fn host_failures(rt: &HostRuntime) -> Result<[Option<ReadFail>; 2], Fail> {
+    let mut shelf = HostShelf::new(rt.clone()?);
+    let alloc = rt.alloc();
+    Ok([
+        failure(alloc, &mut shelf, "no such file"),
+        failure(alloc, &mut shelf, "/"),
+    ])
 }
 
 #[test]
 fn a_host_shelf_fails_at_what_is_no_file(rt: HostRuntime) -> Result<(), Fail> {
-    let mut shelf = HostShelf::new(rt.clone()?);
-    for name in ["no such file", "/"] {
-        let text = read_all(rt.alloc(), &mut shelf, name);
-        assert_eq!(rt; text.err(), Some(ReadFail::Fault), "{name}");
-    }
+    let failures = host_failures(&rt)?;
+    assert_eq!(rt; failures, [Some(ReadFail::Fault), Some(ReadFail::Fault)]);
     Ok(())
 }

@@ -34,10 +34,17 @@ const WORKED: [(u32, &[u32], u32, u32, u32); 13] = [
     (128, &[0, 1], 2, 4, 94),
 ];
 
+// The table size, the words a slot and the rate of the first row whose latency is another.
+fn first_other_latency() -> Option<(u32, u32, u32)> {
+    for (size, slots, cap, rate, theta) in WORKED {
+        if latency_of(&set_of(size, slots), cap, rate) != Some(theta) {
+            return Some((size, cap, rate));
+        }
+    }
+    None
+}
+
 #[test]
 fn worked_latencies(rt: HostRuntime) {
-    for (size, slots, cap, rate, theta) in WORKED {
-        let found = latency_of(&set_of(size, slots), cap, rate);
-        assert_eq!(rt; found, Some(theta), "{size} {cap} {rate}");
-    }
+    assert_eq!(rt; first_other_latency(), None);
 }

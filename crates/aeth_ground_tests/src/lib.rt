@@ -13,6 +13,8 @@ mod header;
 #[cfg(test)]
 mod host;
 #[cfg(test)]
+mod landings;
+#[cfg(test)]
 mod latency;
 mod names;
 #[cfg(test)]

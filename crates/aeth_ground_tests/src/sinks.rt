@@ -31,53 +31,71 @@ impl Write for Flaky<'_> {
     }
 }
 
+/// What three writes give, to a sink above such a writer.
+fn flaky_writes(bytes: &mut Vec<u8>) -> [Result<(), Failed>; 3] {
+    let mut sink = HostSink::new(Flaky {
+        to: bytes,
+        calls: 0,
+    });
+    [
+        write_all(&mut sink, b"flits"),
+        write_all(&mut sink, b"s"),
+        write_all(&mut sink, b" go"),
+    ]
+}
+
 #[test]
 fn a_host_sink_writes_and_fails(rt: HostRuntime) -> Result<(), Fail> {
     let mut bytes = Vec::new(rt.alloc());
-    let mut sink = HostSink::new(Flaky {
-        to: &mut bytes,
-        calls: 0,
-    });
-    assert_eq!(rt; write_all(&mut sink, b"flits"), Err(Failed));
-    assert_eq!(rt; write_all(&mut sink, b"s"), Err(Failed));
-    assert_eq!(rt; write_all(&mut sink, b" go"), Ok(()));
-    drop(sink);
-    assert_eq!(rt; bytes.as_slice(), b"flit go".as_slice());
+    let writes = flaky_writes(&mut bytes);
+    assert!(rt; writes == [Err(Failed), Err(Failed), Ok(())]);
+    assert!(rt; bytes.as_slice() == b"flit go".as_slice());
     Ok(())
 }
 
-/// Whether `0,4` is written whole to a sink of such room, and what of it is written.
-fn written(
-    alloc: Global,
-    room: usize,
-    most: usize,
-    fail: Option<u64>,
-) -> Result<(bool, Vec<u8>), Fail> {
+/// The list of the call that fails, if there is one.
+pub(crate) fn failing_calls(alloc: Global, fail: Option<u64>) -> Result<Vec<u64>, Fail> {
     let mut calls = Vec::new(alloc);
     if let Some(call) = fail {
         calls.push(call)?;
     }
-    let mut sink = MemSink::new(alloc, room, most.max(1), calls)?;
-    let whole = write_all(&mut sink, b"0,4").is_ok();
-    Ok((whole, Vec::from_slice(alloc, sink.bytes())?))
+    Ok(calls)
+}
+
+/// Room, the most bytes a call, the call that fails, whether all is written, and what is.
+type Writing = (usize, usize, Option<u64>, bool, &'static str);
+
+const WRITINGS: [Writing; 7] = [
+    (64, 64, None, true, "0,4"),
+    (64, 2, None, true, "0,4"),
+    (64, 2, Some(1), false, "0,"),
+    (64, 64, Some(0), false, ""),
+    (64, 64, Some(1), true, "0,4"),
+    (3, 64, None, true, "0,4"),
+    (2, 64, None, false, "0,"),
+];
+
+/// Whether `0,4` is so written to a sink of such room.
+fn is_writing(alloc: Global, writing: Writing) -> Result<bool, Fail> {
+    let (room, most, fail, whole, text) = writing;
+    let mut sink = MemSink::new(alloc, room, most.max(1), failing_calls(alloc, fail)?)?;
+    let all = write_all(&mut sink, b"0,4").is_ok();
+    Ok(all == whole && sink.bytes() == text.as_bytes())
+}
+
+/// The place of the first writing that is otherwise.
+fn first_other_writing(alloc: Global) -> Result<Option<usize>, Fail> {
+    for place in 0..WRITINGS.len() {
+        if !is_writing(alloc, WRITINGS[place])? {
+            return Ok(Some(place));
+        }
+    }
+    Ok(None)
 }
 
 #[test]
 fn a_sink_in_memory_takes_what_it_should(rt: HostRuntime) -> Result<(), Fail> {
-    // (room, most bytes a call, the call that fails, whether all is written, what is)
-    let rows = [
-        (64, 64, None, true, "0,4"),
-        (64, 2, None, true, "0,4"),
-        (64, 2, Some(1), false, "0,"),
-        (64, 64, Some(0), false, ""),
-        (64, 64, Some(1), true, "0,4"),
-        (3, 64, None, true, "0,4"),
-        (2, 64, None, false, "0,"),
-    ];
-    for (room, most, fail, whole, text) in rows {
-        let (all, bytes) = written(rt.alloc(), room, most, fail)?;
-        assert_eq!(rt; all, whole, "{room} {most}");
-        assert_eq!(rt; bytes.as_slice(), text.as_bytes(), "{room} {most}");
-    }
+    let other = first_other_writing(rt.alloc())?;
+    assert_eq!(rt; other, None);
     Ok(())
 }

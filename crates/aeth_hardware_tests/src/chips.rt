@@ -4,7 +4,6 @@ ghost use Rattle.std.specs.Prelude.{◌<◌, All, length};
 use aeth_base::{LinkId, Path, RouterId};
 use aeth_chip::{Chip, read_chip};
 use std::alloc::Global;
-use std::test::Fail;
 
 /// Two routers, each with a network interface, and a link each way between them. Three links take
 /// more than a cycle.
@@ -23,33 +22,40 @@ fn pair(alloc: Global) -> Option<Chip> {
     read_chip(alloc, PAIR.as_bytes()).ok()
 }
 
-#[test]
-fn ports_lead_out_of_a_router(rt: HostRuntime) -> Result<(), Fail> {
-    let chip = pair(rt.alloc()).ok_or("a chip")?;
-    let rows = [
-        (0, 0, Some(1)),
-        (0, 1, Some(4)),
-        (0, 2, None),
-        (1, 1, Some(5)),
-        (2, 0, None),
-    ];
-    for (router, port, link) in rows {
-        let exit = match chip.exit(RouterId(router), port) {
-            Some(link) => Some(link.0),
-            None => None,
-        };
-        assert_eq!(rt; exit, link, "{router} {port}");
+/// Routers and ports, and the links that these lead to.
+const EXITS: [(u32, u8, Option<LinkId>); 5] = [
+    (0, 0, Some(LinkId(1))),
+    (0, 1, Some(LinkId(4))),
+    (0, 2, None),
+    (1, 1, Some(LinkId(5))),
+    (2, 0, None),
+];
+
+// The first of these ports that leads elsewhere.
+fn wrong_exit(chip: &Chip) -> Option<(u32, u8)> {
+    for (router, port, link) in EXITS {
+        if chip.exit(RouterId(router), port) != link {
+            return Some((router, port));
+        }
     }
-    assert_eq!(rt;
-        chip.outgoing(RouterId(1)),
-        [LinkId(3), LinkId(5)].as_slice()
-    );
-    assert_eq!(rt;
-        chip.incoming(RouterId(1)),
-        [LinkId(2), LinkId(4)].as_slice()
-    );
-    assert_eq!(rt; chip.incoming(RouterId(2)), [].as_slice());
-    Ok(())
+    None
+}
+
+// Whether these links leave the second router, and enter it, and none enters a third.
+fn has_its_links(chip: &Chip) -> bool {
+    chip.outgoing(RouterId(1)) == [LinkId(3), LinkId(5)].as_slice()
+        && chip.incoming(RouterId(1)) == [LinkId(2), LinkId(4)].as_slice()
+        && chip.incoming(RouterId(2)).is_empty()
+}
+
+fn ports_of_pair(alloc: Global) -> Option<(Option<(u32, u8)>, bool)> {
+    let chip = pair(alloc)?;
+    Some((wrong_exit(&chip), has_its_links(&chip)))
+}
+
+#[test]
+fn ports_lead_out_of_a_router(rt: HostRuntime) {
+    assert_eq!(rt; ports_of_pair(rt.alloc()), Some((None, true)));
 }
 
 /// The wire so many places behind a link.
@@ -65,24 +71,36 @@ fn wire_of(chip: &Chip, link: u32, place: u32) -> Option<u32> {
     }
 }
 
-#[test]
-fn wires_stand_behind_their_links(rt: HostRuntime) -> Result<(), Fail> {
-    let chip = pair(rt.alloc()).ok_or("a chip")?;
-    assert_eq!(rt; chip.wires(), 12);
-    let rows = [
-        (1, 0, Some(1)),
-        (1, 1, Some(6)),
-        (1, 2, Some(7)),
-        (1, 3, None),
-        (3, 1, Some(8)),
-        (3, 3, Some(10)),
-        (4, 1, Some(11)),
-        (5, 1, None),
-    ];
-    for (link, place, wire) in rows {
-        assert_eq!(rt; wire_of(&chip, link, place), wire, "{link} {place}");
+/// Links and places, and the wires that stand there.
+const WIRES: [(u32, u32, Option<u32>); 8] = [
+    (1, 0, Some(1)),
+    (1, 1, Some(6)),
+    (1, 2, Some(7)),
+    (1, 3, None),
+    (3, 1, Some(8)),
+    (3, 3, Some(10)),
+    (4, 1, Some(11)),
+    (5, 1, None),
+];
+
+// The first of these places at which another wire stands.
+fn wrong_wire(chip: &Chip) -> Option<(u32, u32)> {
+    for (link, place, wire) in WIRES {
+        if wire_of(chip, link, place) != wire {
+            return Some((link, place));
+        }
     }
-    Ok(())
+    None
+}
+
+fn wires_of_pair(alloc: Global) -> Option<(u32, Option<(u32, u32)>)> {
+    let chip = pair(alloc)?;
+    Some((chip.wires(), wrong_wire(&chip)))
+}
+
+#[test]
+fn wires_stand_behind_their_links(rt: HostRuntime) {
+    assert_eq!(rt; wires_of_pair(rt.alloc()), Some((12, None)));
 }
 
 /// The offset at a place of a path, 0 past its end.
@@ -113,9 +131,12 @@ fn offsets_of(chip: &Chip, links: [u32; 3]) -> Option<[u32; 5]> {
     ])
 }
 
+fn offsets_of_pair(alloc: Global) -> Option<[u32; 5]> {
+    let chip = pair(alloc)?;
+    offsets_of(&chip, [0, 4, 3])
+}
+
 #[test]
-fn a_flit_enters_each_link_after_the_delays_before(rt: HostRuntime) -> Result<(), Fail> {
-    let chip = pair(rt.alloc()).ok_or("a chip")?;
-    assert_eq!(rt; offsets_of(&chip, [0, 4, 3]), Some([0, 1, 3, 7, 7]));
-    Ok(())
+fn a_flit_enters_each_link_after_the_delays_before(rt: HostRuntime) {
+    assert_eq!(rt; offsets_of_pair(rt.alloc()), Some([0, 1, 3, 7, 7]));
 }

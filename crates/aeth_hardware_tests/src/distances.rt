@@ -23,12 +23,10 @@ fn number(answer: Option<u32>) -> u32 {
 
 /// The answers for a chip: between each two interfaces of `n0` and `n1`, then onward to `n0` and to
 /// `n1` from the first, the second and the third router.
-fn answers(alloc: Global, text: &str) -> Option<[u32; 10]> {
-    let chip = read_chip(alloc, text.as_bytes()).ok()?;
-    let far = Distances::of(alloc, &chip).ok()?;
+fn answers_of(far: &Distances) -> [u32; 10] {
     let a = NiId(0);
     let b = NiId(1);
-    Some([
+    [
         number(far.between(a, a)),
         number(far.between(a, b)),
         number(far.between(b, a)),
@@ -39,7 +37,17 @@ fn answers(alloc: Global, text: &str) -> Option<[u32; 10]> {
         number(far.onward(RouterId(0), b)),
         number(far.onward(RouterId(1), b)),
         number(far.onward(RouterId(2), b)),
-    ])
+    ]
+}
+
+fn distances_of(alloc: Global, text: &str) -> Option<Distances> {
+    let chip = read_chip(alloc, text.as_bytes()).ok()?;
+    Distances::of(alloc, &chip).ok()
+}
+
+fn answers(alloc: Global, text: &str) -> Option<[u32; 10]> {
+    let far = distances_of(alloc, text)?;
+    Some(answers_of(&far))
 }
 
 #[test]

@@ -177,24 +177,41 @@ fn carry(alloc: Global, chip: &Chip, pair: &mut Components, by_table: bool) -> b
     played(alloc, pair, 5, 20)
 }
 
-// The cycles in which the words landed.
-fn landed_on(alloc: Global, chip: &Chip, by_table: bool) -> Option<[u32; 5]> {
-    if chip.nis() != 2 || chip.routers() != 2 || chip.slots() != 8 {
-        return None;
-    }
-    let mut pair = pair_of(alloc, chip)?;
-    if !carry(alloc, chip, &mut pair, by_table) {
-        return None;
-    }
+fn landings_of(pair: &Components) -> Option<[u32; 5]> {
     match pair.landings() {
         [a, b, c, d, e] => Some([*a, *b, *c, *d, *e]),
         _ => None,
     }
 }
 
+fn carried(alloc: Global, chip: &Chip, pair: &mut Components, by_table: bool) -> Option<[u32; 5]>
+    requires { slice_get (frames_of pair.old) 2
+        ≡ Some (frame_of (made_router chip.now ByHeader 0)) }
+{
+    if carry(alloc, chip, pair, by_table) {
+        landings_of(pair)
+    } else {
+        None
+    }
+}
+
+// The cycles in which the words landed.
+fn landed_on(alloc: Global, chip: &Chip, by_table: bool) -> Option<[u32; 5]>
+    requires nis { length chip.now.nis ≡ 2 }
+    requires routers { length chip.now.routers ≡ 2 }
+    requires slots { chip.now.slots ≡ 8 }
+{
+    let mut pair = pair_of(alloc, chip)?;
+    carried(alloc, chip, &mut pair, by_table)
+}
+
 fn landed(alloc: Global, by_table: bool) -> Option<[u32; 5]> {
     let chip = read_chip(alloc, PAIR.as_bytes()).ok()?;
-    landed_on(alloc, &chip, by_table)
+    if chip.nis() == 2 && chip.routers() == 2 && chip.slots() == 8 {
+        landed_on(alloc, &chip, by_table)
+    } else {
+        None
+    }
 }
 
 // Flits leave in cycles 4, 8 and 12, and land 3 cycles later. The first with its two words is lost: it doesn't

@@ -52,13 +52,11 @@ fn router_of(alloc: Global, text: &str, number: u32, wires: u32) -> Option<Route
     ensures outputs { IfSome result (λ router. AreLinks (router_outputs router) wires) }
 {
     let chip = read_chip(alloc, text.as_bytes()).ok()?;
-    if chip.wires() != wires {
-        return None;
+    if chip.wires() == wires {
+        router_in(alloc, &chip, number).ok()
+    } else {
+        None
     }
-    let Ok(router) = router_in(alloc, &chip, number) else {
-        return None;
-    };
-    Some(router)
 }
 
 // What the router `r0` of `PAIR` drives on links 1 and 4 when it has latched these flits from

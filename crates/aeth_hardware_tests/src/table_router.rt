@@ -70,22 +70,40 @@ fn enter(router: &mut TableRouter, number: u32) -> bool
     true
 }
 
+// The router with its entries, where they are entries of it.
+fn entered(router: TableRouter, number: u32) -> Option<TableRouter>
+    ensures inputs { IfSome result (λ now. now.incoming ≡ router.incoming) }
+    ensures outputs { IfSome result (λ now. now.outgoing ≡ router.outgoing) }
+{
+    let mut router = router;
+    if enter(&mut router, number) {
+        Some(router)
+    } else {
+        None
+    }
+}
+
+// A router of a chip with so many wires, with its entries.
+fn router_on(alloc: Global, chip: &Chip, number: u32) -> Option<TableRouter>
+    requires { wires_of chip.now.links ≡ WIRES }
+    ensures inputs { IfSome result (λ router. AreLinks (table_inputs router) WIRES) }
+    ensures outputs { IfSome result (λ router. AreLinks (table_outputs router) WIRES) }
+{
+    let router = router_in(alloc, chip, number).ok()?;
+    entered(router, number)
+}
+
 // A router of the pair, with its entries.
 fn router_of(alloc: Global, number: u32) -> Option<TableRouter>
     ensures inputs { IfSome result (λ router. AreLinks (table_inputs router) WIRES) }
     ensures outputs { IfSome result (λ router. AreLinks (table_outputs router) WIRES) }
 {
     let chip = read_chip(alloc, PAIR.as_bytes()).ok()?;
-    if chip.wires() != WIRES {
-        return None;
+    if chip.wires() == WIRES {
+        router_on(alloc, &chip, number)
+    } else {
+        None
     }
-    let Ok(mut router) = router_in(alloc, &chip, number) else {
-        return None;
-    };
-    if !enter(&mut router, number) {
-        return None;
-    }
-    Some(router)
 }
 
 // What the pair carries when its routers latch these flits from links 0 and 2 in a cycle: on links

@@ -1,6 +1,7 @@
 // In which cycles a network is busy: these were worked out by hand from the rules.
 use crate::files::Texts;
-use crate::playing::busy_in;
+use crate::playing::is_busy_in;
+use std::alloc::Global;
 use std::test::Fail;
 
 /// A run, and the cycles in which it is busy, behind which the number of its cycles stands.
@@ -99,11 +100,18 @@ const ROWS: [Row; 5] = [
     },
 ];
 
+/// The number of the first row whose run is busy in other cycles.
+fn wrong_row(alloc: Global) -> Result<Option<usize>, Fail> {
+    for (i, row) in ROWS.iter().enumerate() {
+        if !is_busy_in(alloc, &row.texts, row.cycles, row.busy)? {
+            return Ok(Some(i));
+        }
+    }
+    Ok(None)
+}
+
 #[test]
 fn still_cycles_are_passed_over(rt: HostRuntime) -> Result<(), Fail> {
-    for row in &ROWS {
-        let busy = busy_in(rt.alloc(), &row.texts, row.cycles)?;
-        assert_eq!(rt; busy.as_slice(), row.busy);
-    }
+    assert_eq!(rt; wrong_row(rt.alloc())?, None);
     Ok(())
 }

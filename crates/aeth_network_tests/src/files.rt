@@ -51,6 +51,10 @@ pub(crate) struct Texts<'a> {
 
 /// A shelf with the files.
 pub(crate) fn shelf_of(alloc: Global, texts: &Texts) -> Result<MemShelf, Fail> {
+    Ok(MemShelf::new(files_of(alloc, texts)?, Vec::new(alloc)))
+}
+
+fn files_of(alloc: Global, texts: &Texts) -> Result<Vec<(String, Vec<u8>)>, Fail> {
     let mut files = Vec::new(alloc);
     for (name, text) in [
         ("pair", PAIR),
@@ -60,10 +64,17 @@ pub(crate) fn shelf_of(alloc: Global, texts: &Texts) -> Result<MemShelf, Fail> {
         ("receivers", texts.receivers),
         ("switches", texts.switches),
     ] {
-        let bytes = Vec::from_slice(alloc, text.as_bytes())?;
-        files.push((name.to_string(alloc)?, bytes))?;
+        files.push(file_of(alloc, name, text)?)?;
     }
-    Ok(MemShelf::new(files, Vec::new(alloc)))
+    Ok(files)
+}
+
+/// A file, by its name.
+fn file_of(alloc: Global, name: &str, text: &str) -> Result<(String, Vec<u8>), Fail> {
+    Ok((
+        name.to_string(alloc)?,
+        Vec::from_slice(alloc, text.as_bytes())?,
+    ))
 }
 
 /// Their names.

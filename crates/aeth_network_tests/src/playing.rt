@@ -1,7 +1,11 @@
-// The cycles in which the network of files is busy. Each step makes one thing and hands it on.
+// Whether the network of files is busy in given cycles. Each step makes one thing and hands it on,
+// since the proof of a function grows fast with what it owns.
 ghost use Rattle.std.specs.Prelude.{◌≡◌, ◌≤◌, length};
+ghost use Rattle.aeth_accepted.specs.Inputs.{AreAccepted};
 ghost use Rattle.aeth_app.specs.App.{IsAppOf};
 ghost use Rattle.aeth_base.specs.Limits.{max_cycles};
+ghost use Rattle.aeth_group.specs.Members.{groups_of};
+ghost use Rattle.aeth_playing.specs.RunInputs.{inputs_of};
 
 use crate::files::{Texts, names, shelf_of};
 use aeth_accepted::RunInputs;
@@ -14,36 +18,66 @@ use aeth_playing::Design;
 use std::alloc::Global;
 use std::test::Fail;
 
-/// More turns than a run of these tests has busy cycles.
-const AMPLE: u32 = 99;
-
-/// The cycles of a run of so many in which its network is busy, and then the number of cycles.
-pub(crate) fn busy_in(alloc: Global, texts: &Texts, cycles: u32) -> Result<Vec<u32>, Fail>
+/// Whether the network of a run of so many cycles is busy in just these, behind which the number of
+/// cycles stands.
+pub(crate) fn is_busy_in(
+    alloc: Global,
+    texts: &Texts,
+    cycles: u32,
+    busy: &[u32],
+) -> Result<bool, Fail>
     requires { cycles ≤ max_cycles }
 {
     let Some(files) = names() else {
         return Err(Fail::from("names"));
     };
     let mut shelf = shelf_of(alloc, texts)?;
-    let Ok(design) = read_design(alloc, &files.chip, &files.app, &mut shelf) else {
-        return Err(Fail::from("design"));
-    };
-    busy_on(alloc, &design, &files, &mut shelf, cycles)
+    is_busy_with(alloc, &files, &mut shelf, cycles, busy)
 }
 
-fn busy_on(
+fn is_busy_with(
+    alloc: Global,
+    files: &RunFiles,
+    shelf: &mut MemShelf,
+    cycles: u32,
+    busy: &[u32],
+) -> Result<bool, Fail>
+    requires { cycles ≤ max_cycles }
+{
+    match read_design(alloc, &files.chip, &files.app, shelf) {
+        Ok(design) => is_busy_on(alloc, &design, files, shelf, cycles, busy),
+        Err(_) => Err(Fail::from("design")),
+    }
+}
+
+fn is_busy_on(
     alloc: Global,
     design: &Design,
     files: &RunFiles,
     shelf: &mut MemShelf,
     cycles: u32,
-) -> Result<Vec<u32>, Fail>
+    busy: &[u32],
+) -> Result<bool, Fail>
     requires of_chip { IsAppOf design.now.chip design.now.app }
     requires cycles { cycles ≤ max_cycles }
 {
-    let Ok(run) = read_run(alloc, design, files, shelf) else {
-        return Err(Fail::from("run"));
-    };
+    match read_run(alloc, design, files, shelf) {
+        Ok(run) => is_run_busy(alloc, design, &run, cycles, busy),
+        Err(_) => Err(Fail::from("run")),
+    }
+}
+
+fn is_run_busy(
+    alloc: Global,
+    design: &Design,
+    run: &Run,
+    cycles: u32,
+    busy: &[u32],
+) -> Result<bool, Fail>
+    requires groups { run.now.planned.groups ≡ groups_of design.now.app }
+    requires accepted { AreAccepted
+        (inputs_of design.now run.now.planned.plan run.now.traces cycles) }
+{
     let inputs = RunInputs::of(
         &design.chip,
         &design.app,
@@ -54,32 +88,41 @@ fn busy_on(
         &run.traces.switches,
         cycles,
     );
-    Ok(busy_by(alloc, &inputs)?)
+    Ok(is_busy_by(alloc, &inputs, busy)?)
 }
 
-fn busy_by(alloc: Global, inputs: &RunInputs) -> Result<Vec<u32>, NoMemory> {
-    let mut network = RoutedNetwork::new(alloc, inputs)?;
-    let order = Order::rotation(alloc, network.parts(), 0)?;
-    busy_from(alloc, &mut network, &order)
+fn is_busy_by(alloc: Global, inputs: &RunInputs, busy: &[u32]) -> Result<bool, NoMemory> {
+    match RoutedNetwork::new(alloc, inputs) {
+        Ok(mut network) => is_network_busy(alloc, &mut network, busy),
+        Err(fault) => Err(fault),
+    }
 }
 
-/// The busy cycles that are left, and then the number of cycles.
-fn busy_from(
+fn is_network_busy(
     alloc: Global,
     network: &mut RoutedNetwork,
-    order: &Order,
-) -> Result<Vec<u32>, NoMemory>
+    busy: &[u32],
+) -> Result<bool, NoMemory> {
+    let order = Order::rotation(alloc, network.parts(), 0)?;
+    Ok(is_busy_from(network, &order, busy))
+}
+
+/// Whether the busy cycles that are left, and then the number of cycles, are these.
+fn is_busy_from(network: &mut RoutedNetwork, order: &Order, busy: &[u32]) -> bool
     requires { length order.now ≡ length network.old.components.parts }
 {
-    let mut busy = Vec::new(alloc);
-    for _turn in 0..AMPLE {
+    let mut is_over = false;
+    for cycle in busy {
         let next = network.next_busy();
-        busy.push(next)?;
+        if is_over || next != *cycle {
+            return false;
+        }
         network.skip(next);
         if network.time() >= network.cycles() {
-            return Ok(busy);
+            is_over = true;
+        } else {
+            network.cycle(order);
         }
-        network.cycle(order);
     }
-    Ok(busy)
+    is_over
 }

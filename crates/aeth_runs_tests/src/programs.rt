@@ -5,7 +5,10 @@ use aeth_base::{Channel, ConnId, NiId, Side};
 use aeth_ni::{ChannelRow, Write};
 use aeth_reconf::program;
 use aeth_slots::SlotSet;
+use std::alloc::Global;
 use std::test::*;
+
+const NI: NiId = NiId(0);
 
 // Two slots of a table of 8.
 fn two_slots(first: u32, second: u32) -> SlotSet
@@ -25,7 +28,7 @@ fn row(conn: u32, queue: u8, slots: SlotSet, remote: u8, credits: u32) -> Channe
             conn: ConnId(conn),
             side: Side::Fwd,
         },
-        ni: NiId(0),
+        ni: NI,
         queue,
         slots,
         route: 1,
@@ -34,36 +37,46 @@ fn row(conn: u32, queue: u8, slots: SlotSet, remote: u8, credits: u32) -> Channe
     }
 }
 
+// The writes of a program that closes slots 0 and 4 of queue 0 and opens slots 1 and 6 of queue 8.
+const WRITES: [Write; 6] = [
+    Write::ClearSlot { ni: NI, slot: 0 },
+    Write::ClearSlot { ni: NI, slot: 4 },
+    Write::ClearRoute { ni: NI, queue: 0 },
+    Write::SetRoute {
+        ni: NI,
+        queue: 8,
+        route: 1,
+        remote: 9,
+        credits: 5,
+    },
+    Write::SetSlot {
+        ni: NI,
+        slot: 1,
+        queue: 8,
+    },
+    Write::SetSlot {
+        ni: NI,
+        slot: 6,
+        queue: 8,
+    },
+];
+
+// Whether the program is made, and of these writes.
+fn is_program(
+    alloc: Global,
+    closing: &[ChannelRow],
+    opening: &[ChannelRow],
+    expected: &[Write],
+) -> bool {
+    match program(alloc, closing, opening) {
+        Ok(writes) => writes.as_slice() == expected,
+        Err(_) => false,
+    }
+}
+
 #[test]
-fn a_channel_closes_before_another_opens(rt: HostRuntime) -> Result<(), Fail> {
-    let ni = NiId(0);
+fn a_channel_closes_before_another_opens(rt: HostRuntime) {
     let closing = [row(0, 0, two_slots(0, 4), 8, 9)];
     let opening = [row(1, 8, two_slots(1, 6), 9, 5)];
-    let Ok(writes) = program(rt.alloc(), &closing, &opening) else {
-        return Err(Fail::from("a program"));
-    };
-    let expected = [
-        Write::ClearSlot { ni, slot: 0 },
-        Write::ClearSlot { ni, slot: 4 },
-        Write::ClearRoute { ni, queue: 0 },
-        Write::SetRoute {
-            ni,
-            queue: 8,
-            route: 1,
-            remote: 9,
-            credits: 5,
-        },
-        Write::SetSlot {
-            ni,
-            slot: 1,
-            queue: 8,
-        },
-        Write::SetSlot {
-            ni,
-            slot: 6,
-            queue: 8,
-        },
-    ];
-    assert_eq!(rt; writes.as_slice(), expected.as_slice());
-    Ok(())
+    assert!(rt; is_program(rt.alloc(), &closing, &opening, &WRITES));
 }

@@ -1,9 +1,11 @@
 // What no clause says: that timelines are made where memory is left, and when sessions begin and end.
+ghost use Rattle.aeth_group.specs.Members.{groups_of};
+ghost use Rattle.std.specs.Prelude.{◌≡◌, IfSome, length};
 
 use crate::designs::{PAIR, THREE};
 use aeth_app::{App, read_app};
 use aeth_base::{Channel, ConnId, Side};
-use aeth_chip::read_chip;
+use aeth_chip::{Chip, read_chip};
 use aeth_group::Groups;
 use aeth_reconf::{Session, Timeline};
 use aeth_trace::{Spans, read_switches};
@@ -28,29 +30,60 @@ const SPANS: [(u32, u32); 9] = [
 // which drains for 5 cycles. The second is closed, opened anew, and kept.
 const SWITCHES: &str = "cycle,use,drain\n0,u1,0\n10,u0,0\n20,u1,0\n30,u2,5\n";
 
+// The spans of three use cases.
+fn spans_of_three(alloc: Global) -> Option<Spans>
+    ensures { IfSome result (λ spans. spans.uses ≡ 3) }
+{
+    match Vec::from_array(alloc, SPANS) {
+        Ok(pairs) => Some(Spans::new(3, pairs)),
+        Err(_) => None,
+    }
+}
+
+// The timeline of the switches, with the groups and the spans of the application.
+fn timeline_of(alloc: Global, app: &App, groups: &Groups, spans: &Spans) -> Option<Timeline>
+    requires groups { groups.now ≡ groups_of app.now }
+    requires spans { spans.now.uses ≡ length app.now.uses }
+{
+    match read_switches(alloc, SWITCHES.as_bytes(), app, spans) {
+        Ok(switches) => Timeline::of(alloc, app, groups, &switches, spans).ok(),
+        Err(_) => None,
+    }
+}
+
+// The same, with its spans.
+fn timeline_with(alloc: Global, app: &App, spans: &Spans) -> Option<Timeline>
+    requires { spans.now.uses ≡ length app.now.uses }
+{
+    match Groups::of(alloc, app) {
+        Ok(groups) => timeline_of(alloc, app, &groups, spans),
+        Err(_) => None,
+    }
+}
+
 // The timeline of the switches for an application of three use cases.
-fn timeline_with(alloc: Global, app: &App) -> Option<Timeline> {
-    let Ok(groups) = Groups::of(alloc, app) else {
-        return None;
-    };
+fn timeline_of_three(alloc: Global, app: &App) -> Option<Timeline> {
     if app.uses() != 3 {
         return None;
     }
-    let Ok(pairs) = Vec::from_array(alloc, SPANS) else {
-        return None;
-    };
-    let spans = Spans::new(3, pairs);
-    let Ok(switches) = read_switches(alloc, SWITCHES.as_bytes(), app, &spans) else {
-        return None;
-    };
-    Timeline::of(alloc, app, &groups, &switches, &spans).ok()
+    match spans_of_three(alloc) {
+        Some(spans) => timeline_with(alloc, app, &spans),
+        None => None,
+    }
+}
+
+// The timeline of the switches on a chip.
+fn timeline_on(alloc: Global, chip: &Chip) -> Option<Timeline> {
+    match read_app(alloc, THREE.as_bytes(), chip) {
+        Ok(app) => timeline_of_three(alloc, &app),
+        Err(_) => None,
+    }
 }
 
 // The timeline of the switches.
 fn timeline(alloc: Global) -> Option<Timeline> {
     let chip = read_chip(alloc, PAIR.as_bytes()).ok()?;
-    let app = read_app(alloc, THREE.as_bytes(), &chip).ok()?;
-    timeline_with(alloc, &app)
+    timeline_on(alloc, &chip)
 }
 
 // A session of group 0: when it goes, and how it closes where a switch closes it.
@@ -84,13 +117,23 @@ const SESSIONS: [(u32, Side, &[Told]); 3] = [
     (1, Side::Fwd, &[(0, Some((10, 10, 13))), (24, None)]),
 ];
 
+// The first connection that has other sessions.
+fn first_other_connection(timeline: &Timeline) -> Option<u32> {
+    for (conn, side, told) in SESSIONS {
+        let channel = Channel {
+            conn: ConnId(conn),
+            side,
+        };
+        if !are_sessions(timeline.sessions(channel), told) {
+            return Some(conn);
+        }
+    }
+    None
+}
+
 #[test]
 fn connections_are_kept_and_closed_and_opened_anew(rt: HostRuntime) -> Result<(), Fail> {
     let timeline = timeline(rt.alloc()).ok_or("a timeline")?;
-    for (conn, side, told) in SESSIONS {
-        let conn = ConnId(conn);
-        let sessions = timeline.sessions(Channel { conn, side });
-        assert!(rt; are_sessions(sessions, told), "{}", conn.0);
-    }
+    assert_eq!(rt; first_other_connection(&timeline), None);
     Ok(())
 }

@@ -47,11 +47,15 @@ fn pair(alloc: Global) -> Result<Chip, Fail> {
     }
 }
 
-/// The application.
-pub(crate) fn two(alloc: Global) -> Result<App, Fail> {
-    let chip = pair(alloc)?;
-    match read_app(alloc, TWO.as_bytes(), &chip) {
+fn two_on(alloc: Global, chip: &Chip) -> Result<App, Fail> {
+    match read_app(alloc, TWO.as_bytes(), chip) {
         Ok(app) => Ok(app),
         Err(_) => Err(Fail::from("an application")),
     }
+}
+
+/// The application.
+pub(crate) fn two(alloc: Global) -> Result<App, Fail> {
+    let chip = pair(alloc)?;
+    two_on(alloc, &chip)
 }

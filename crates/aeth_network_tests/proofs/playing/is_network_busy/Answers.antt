@@ -1,10 +1,10 @@
 use Rattle.std.proofs.Common.{◌∙◌, ◌+◌, ◌%◌, ap, length}
 use Rattle.std.proofs.lemmas.List.FromFn.{length-map-range_with_len}
-use Rattle.aeth_network_tests.proofs.playing.busy_by.Goals as goal
+use Rattle.aeth_network_tests.proofs.playing.is_network_busy.Goals as goal
 
 -- The order has a number for each component.
-pub busy_from-requires : goal.busy_from-requires
-busy_from-requires c =
+pub is_busy_from-requires : goal.is_busy_from-requires
+is_busy_from-requires c =
     let count = c.parts.result in
     ap length c.in_ok-order.ensures
     ∙ length-map-range_with_len (λ place. (0 + place) % count) 0 count

@@ -1,4 +1,4 @@
-use Rattle.aeth_allocation_tests.proofs.grants.is_asked_right.Given as goal
+use Rattle.aeth_allocation_tests.proofs.grants.leaves.Given as goal
 
 -- The ledger of the blank.
 abbrev pub ghosts-narrowed : goal.ghosts-narrowed

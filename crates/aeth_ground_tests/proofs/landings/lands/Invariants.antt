@@ -1,5 +1,5 @@
 use Rattle.std.proofs.Common.{◌*◌, ◌≡◌, ◌≤◌}
-use Rattle.aeth_ground_tests.proofs.server.lands.Given as goal
+use Rattle.aeth_ground_tests.proofs.landings.lands.Given as goal
 
 -- In each cycle no more words are offered, and no more land, than in all cycles.
 abbrev pub invariant-loop-t : goal.invariant-loop-t
