@@ -61,7 +61,7 @@ module _ (inputs : Inputs) (accepted : AreAccepted inputs) where
       })
 
   -- What holds of each grant of the plan.
-  grant_is : (grant : Grant) → Contains inputs.plan.grants grant
+  pub grant_is : (grant : Grant) → Contains inputs.plan.grants grant
       → IsGrantOf inputs.chip inputs.app (groups_of inputs.app) grant
   grant_is grant has = all_has_by (IsGrantOf inputs.chip inputs.app (groups_of inputs.app))
       inputs.plan.grants grant accepted.design.plan_is.grants has

@@ -5,7 +5,7 @@ use Rattle.std.proofs.Common.{arith}
 use Rattle.std.specs.Prelude.{AllPairs, nat_lt, ◌==◌}
 use Rattle.std.specs.List.{range_with_len}
 use Rattle.std.specs.List.Sorted.{IsPermutation}
-use Rattle.std.proofs.lemmas.Bool.{and_from, and_parts, eq-eqb, eqb-true, false≢true}
+use Rattle.std.proofs.lemmas.Bool.{and_from, and_parts, eq-eqb, eqb-true}
 use Rattle.std.proofs.lemmas.Bool.Decides.{nat_tests}
 use Rattle.std.proofs.lemmas.List.Elements.{Contains-append_cases, Contains-append_left}
 use Rattle.std.proofs.lemmas.List.Elements.{Contains-append_right}
@@ -147,16 +147,6 @@ before-by-side a b unit fwd back =
     λ k. grant_before (record { unit = unit k; side = fwd k; path = a.path; slots = a.slots })
     (record { unit = b.unit; side = back k; path = b.path; slots = b.slots }) in
     shown ∙ same-unit b.unit.conn.0 b.unit.group.0 true
-
-side-not-before : (side : Side) → side_before side side ≡ false
-side-not-before Fwd = refl
-side-not-before Back = refl
-
--- No grant comes before itself.
-pub not-itself : (a : Grant) → grant_before a a ≡ true → ⊥
-not-itself a before =
-    false≢true (sym (same-unit a.unit.conn.0 a.unit.group.0 (side_before a.side a.side)
-    ∙ side-not-before a.side) ∙ before)
 
 -- At most one grant is for a side of a unit.
 ordered-alone : (unit : GroupUnit) (side : Side) (grants : List Grant) → AllPairs AreApart grants

@@ -1,8 +1,8 @@
 -- An admissible path is one of the listed paths.
-use Rattle.std.proofs.Common.{◌+◌, ℕ, List, [], ◌∷◌, Contains, length, map, arith}
+use Rattle.std.proofs.Common.{◌+◌, ℕ, List, Contains, length, arith}
 use Rattle.std.specs.List.{range_with_len}
 use Rattle.std.proofs.lemmas.Option.{slice_get_within}
-use Rattle.aeth_base.proofs.Members.{Contains-flat_map, Contains-here, Contains-map, Contains-there}
+use Rattle.aeth_base.proofs.Members.{Contains-flat_map, Contains-map}
 use Rattle.aeth_base.proofs.Ranges.{Contains-range}
 use Rattle.aeth_base.specs.Limits.{max_path_links}
 use Rattle.aeth_base.specs.declared.ids.LinkId.{LinkId}
@@ -13,17 +13,8 @@ use Rattle.aeth_chip.specs.declared.node.Link.{Link}
 use Rattle.aeth_chip.specs.declared.node.Node.TheVariants.{Ni}
 use Rattle.aeth_chip.specs.Paths.{BeginsAt, IsAdmissible, to_of}
 use Rattle.aeth_chip.proofs.JoinedLaws.{joined-each}
+use Rattle.aeth_chip.proofs.LeastDistanceLemmas.{Contains-lists_of}
 use Rattle.aeth_alloc.specs.FirstCandidate.{paths_of}
-
--- A list of so many elements, all in another list, is one of its lists.
-Contains-lists_of : {X : Type 0} (xs ys : List X) → ((y : X) → Contains ys y → Contains xs y)
-    → Contains (lists_of (length ys) xs) ys
-Contains-lists_of xs [] each = Contains-here [] []
-Contains-lists_of xs (y ∷ ys) each =
-    Contains-flat_map (λ x. map (λ rest. x ∷ rest) (lists_of (length ys) xs)) xs y (y ∷ ys)
-    (each y (Contains-here y ys))
-    (Contains-map (λ rest. y ∷ rest) (lists_of (length ys) xs) ys
-    (Contains-lists_of xs ys (λ z has. each z (Contains-there y ys z has))))
 
 -- An admissible path is listed.
 pub path-listed : (chip : ChipData) (detour : ℕ) (a b : NiId) (path : List LinkId)

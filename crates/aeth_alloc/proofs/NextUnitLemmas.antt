@@ -1,19 +1,19 @@
 -- The next unit is one that waits, and none is next only where none waits; each turn takes one.
-use Rattle.std.proofs.Common.{◌≡◌, ◌<◌, ◌⊎◌, Bool, cond, true, false}
-use Rattle.std.proofs.Common.{List, [], ◌∷◌, Contains, Option, Some, None, eqb, filter, length}
-use Rattle.std.proofs.Common.{not, refl, sym, ap, subst, inl, inr, arith}
-use Rattle.std.specs.Prelude.{fold, option_map}
-use Rattle.std.specs.Ordering.{is_lt}
-use Rattle.std.specs.declared.cmp.Ordering.{Ordering}
+use Rattle.std.proofs.Common.{◌≡◌, ◌<◌, true}
+use Rattle.std.proofs.Common.{List, [], Contains, Option, Some, None, eqb, filter, length}
+use Rattle.std.proofs.Common.{not, refl, sym, ap, arith}
+use Rattle.std.specs.Prelude.{option_map}
 use Rattle.std.proofs.lemmas.Bool.{and_from, and_parts, eq-eqb, eqb-true}
 use Rattle.std.proofs.lemmas.List.Filters.{length-filter_both}
 use Rattle.std.proofs.lemmas.Option.{none-some, same_Some}
-use Rattle.aeth_base.proofs.Members.{Contains-filter, Contains-here}
-use Rattle.aeth_base.proofs.Members.{Contains-some, Contains-there}
+use Rattle.aeth_base.proofs.Members.{Contains-filter}
+use Rattle.aeth_base.proofs.Members.{Contains-some}
 use Rattle.aeth_base.specs.declared.ids.Unit.{Unit as GroupUnit}
-use Rattle.aeth_order.specs.Order.{earlier, first_by, turn_order}
+use Rattle.aeth_order.specs.Order.{first_by, turn_order}
 use Rattle.aeth_order.specs.Units.{UnitsData, is_unit, next_unit, without_unit}
 use Rattle.aeth_order.specs.declared.keys.UnitKeys.{UnitKeys}
+use Rattle.aeth_order.proofs.LeastLemmas.{first_by-none}
+use Rattle.aeth_order.proofs.NextLemmas.{first_by-among}
 use Rattle.aeth_seats.specs.Places.{Place}
 
 -- A unit waits.
@@ -21,43 +21,6 @@ pub record Waits (units : UnitsData) (unit : GroupUnit) : Type 0 where
   pub keys : UnitKeys
   pub listed : Contains units.waiting keys
   pub unit_is : keys.unit ≡ unit
-
-module _ (order : UnitKeys → UnitKeys → Ordering) where
-  -- The first of a list is in it.
-  one-of : (a b : UnitKeys) (first : Bool) (m : UnitKeys) → cond first b a ≡ m
-      → (a ≡ m) ⊎ (b ≡ m)
-  one-of a b true m is = inr is
-  one-of a b false m is = inl is
-
-  folds-to : (units : List UnitKeys) (best m : UnitKeys)
-      → fold (earlier order) (Some best) units ≡ Some m → (best ≡ m) ⊎ Contains units m
-  folds-to [] best m is = inl (same_Some best m is)
-  folds-to (x ∷ units) best m is =
-      elim (folds-to units (cond (is_lt (order x best)) x best) m is) [
-        | inl one ↦ elim (one-of best x (is_lt (order x best)) m one) [
-          | inl kept ↦ inl kept
-          | inr here ↦ inr (subst (Contains (x ∷ units)) here (Contains-here x units))
-        ]
-        | inr later ↦ inr (Contains-there x units m later)
-      ]
-
-  first-among : (units : List UnitKeys) (m : UnitKeys) → first_by order units ≡ Some m
-      → Contains units m
-  first-among [] m is = absurd (none-some m is)
-  first-among (x ∷ units) m is = elim (folds-to units x m is) [
-    | inl here ↦ subst (Contains (x ∷ units)) here (Contains-here x units)
-    | inr later ↦ Contains-there x units m later
-  ]
-
-  -- A list that isn't empty has a first.
-  folds-some : (units : List UnitKeys) (best : UnitKeys)
-      → fold (earlier order) (Some best) units ≡ None → ⊥
-  folds-some [] best is = none-some best (sym is)
-  folds-some (x ∷ units) best is = folds-some units (cond (is_lt (order x best)) x best) is
-
-  none-first : (units : List UnitKeys) → first_by order units ≡ None → units ≡ []
-  none-first [] is = refl
-  none-first (x ∷ units) is = absurd (folds-some units x is)
 
 -- The next unit waits.
 pub next-waits : (units : UnitsData) (places : List (Option Place)) (unit : GroupUnit)
@@ -69,7 +32,7 @@ next-waits units places unit is =
       | None ↦ λ first none. absurd (none-some unit none)
       | Some keys ↦ λ first some. record {
         keys = keys;
-        listed = first-among (turn_order places) units.waiting keys first;
+        listed = first_by-among (turn_order places) units.waiting keys first;
         unit_is = same_Some keys.unit unit some;
       }
     ]
@@ -82,7 +45,7 @@ none-waits units places is =
     let cases : (o : Option UnitKeys) → first_by (turn_order places) units.waiting ≡ o
     → option_map (λ (a : UnitKeys). a.unit) o ≡ None → units.waiting ≡ [] =
     elim [
-      | None ↦ λ first none. none-first (turn_order places) units.waiting first
+      | None ↦ λ first none. first_by-none (turn_order places) units.waiting first
       | Some keys ↦ λ first some. absurd (none-some keys.unit (sym some))
     ]
     in cases (first_by (turn_order places) units.waiting) refl is

@@ -1,17 +1,16 @@
 -- The interfaces at the ends of a candidate have seats for its cores.
 use Rattle.std.proofs.Common.{◌≡◌, ◌≢◌, ◌∙◌, ◌<◌, ◌≤◌, ℕ, Bool, true, List, Contains, Option, Some, None}
 use Rattle.std.proofs.Common.{length, filter, refl, sym, ap, subst, inl, inr, arith}
-use Rattle.std.specs.Prelude.{unwrap_or}
 use Rattle.std.specs.List.{range_with_len}
 use Rattle.std.proofs.lemmas.Bool.{cases_eq, eq-eqb}
-use Rattle.aeth_base.proofs.Lists.{slice_get-slice_set_other}
 use Rattle.aeth_base.proofs.Members.{Contains-filter, Contains-map, filter-Contains, map-Contains}
 use Rattle.aeth_base.proofs.Ranges.{All-range, Contains-range}
 use Rattle.aeth_base.specs.declared.ids.NiId.{NiId}
-use Rattle.aeth_seats.specs.Places.{Place, free_count, has_free, lowest_free, placed, placed_on, seat_of}
+use Rattle.aeth_seats.specs.Places.{Place, free_count, has_free, lowest_free, placed, seat_of}
 use Rattle.aeth_seats.specs.Seats.{SeatsData, candidates_of, crowded_of, interfaces, interfaces_from}
 use Rattle.aeth_seats.specs.Seats.{is_crowded}
 use Rattle.aeth_seats.proofs.FreeLemmas.{free-other, free-placed, free-some, some-free}
+use Rattle.aeth_seats.proofs.SeatingLemmas.{placed_on-other}
 use Rattle.aeth_paths.specs.Candidates.{IsAllowed}
 use Rattle.aeth_alloc.specs.Channels.{with_seat, with_seat_by}
 
@@ -44,16 +43,9 @@ candidate-place seats core ni has none =
     (subst (λ place. Contains (interfaces_from seats place) ni) none has)
 
 -- A core that takes a seat leaves the others where they are.
-other-on : (places : List (Option Place)) (core other : ℕ) (ni : NiId) (seat : Option ℕ)
-    → other ≢ core → seat_of (placed_on places core ni seat) other ≡ seat_of places other
-other-on places core other ni None apart = refl
-other-on places core other ni (Some seat) apart =
-    ap (λ place. unwrap_or place None)
-    (slice_get-slice_set_other places core other (Some (ni, seat)) apart)
-
 pub other-stays : (places : List (Option Place)) (core other : ℕ) (ni : NiId) → other ≢ core
     → seat_of (placed places core ni) other ≡ seat_of places other
-other-stays places core other ni = other-on places core other ni (lowest_free places ni.0)
+other-stays places core other ni = placed_on-other places core ni (lowest_free places ni.0) other
 
 -- ---- the receiver, once the sender is placed
 

@@ -20,6 +20,7 @@ use Rattle.aeth_group.specs.declared.grant.Grant.{Grant}
 use Rattle.aeth_group.proofs.ConflictLemmas.{held_from_conflict}
 use Rattle.aeth_group.proofs.UnitLemmas.{unit_from_units}
 use Rattle.aeth_book.specs.Book.{AreApart, BookData, IsBook}
+use Rattle.aeth_plan.proofs.MadePlans.{before_irrefl}
 use Rattle.aeth_plan.proofs.SeatedCores.{seated_cores_rise}
 use Rattle.aeth_plan.specs.Making.{IsPlanWith, seated_cores}
 use Rattle.aeth_plan.specs.Plan.{PlanData, grant_before}
@@ -35,7 +36,7 @@ use Rattle.aeth_alloc.specs.Refusals.{IsAmong, LacksOnlyRefused}
 use Rattle.aeth_alloc.specs.Turns.{State}
 use Rattle.aeth_alloc.specs.declared.outcome.Refused.{Refused}
 use Rattle.aeth_alloc.proofs.InOrderLemmas.{Contains-in_order, in_order-Contains}
-use Rattle.aeth_alloc.proofs.InOrderLemmas.{in_order-ordered, in_order-permutation, in_order-rises, not-itself}
+use Rattle.aeth_alloc.proofs.InOrderLemmas.{in_order-ordered, in_order-permutation, in_order-rises}
 use Rattle.aeth_alloc.proofs.LastStateLemmas.{none-waits-last, sound-turns}
 use Rattle.aeth_alloc.proofs.OrderedLists.{no_two-ordered, ordered-weaker}
 use Rattle.aeth_alloc.proofs.SeatLineLemmas.{ni-seated, seats-apart}
@@ -89,7 +90,7 @@ module _ (design : Design) (groups : GroupsData) (reserved : Reserved)
       (in_order-ordered groups grants sound.apart) (λ a b has has' before conflict.
       grants-clear reserved.book sound.book a b (in_order-Contains groups grants a has)
       (in_order-Contains groups grants b has')
-      (λ same. not-itself b (subst (λ c. grant_before c b ≡ true) same before))
+      (λ same. before_irrefl b (subst (λ c. grant_before c b ≡ true) same before))
       (subst (λ (gs : GroupsData). Conflict gs reserved.book.links a b) (sym sound.groups_are)
       (subst (λ (ls : List Link). Conflict groups ls a b) (sym sound.of.links) conflict))))
 

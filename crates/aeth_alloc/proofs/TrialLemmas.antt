@@ -1,15 +1,14 @@
 -- The trials of an allocation: each is one on the chip, none has a candidate, and they tell of the
 -- refusals one by one.
 use Rattle.std.proofs.Common.{◌≡◌, ◌∙◌, ◌<◌, ◌≤◌, ◌+◌, ◌++◌, ℕ, zero, suc, List, [], ◌∷◌, Contains, Option}
-use Rattle.std.proofs.Common.{None, Some, length, map, refl, sym, ap, subst, inl, inr, arith, All}
+use Rattle.std.proofs.Common.{None, Some, length, map, refl, sym, ap, subst, arith, All}
 use Rattle.std.proofs.Common.{Bool, true, false, cond, ◌&&◌}
 use Rattle.std.specs.Prelude.{IfSome, is_none, option_and_then, option_map, option_to_list}
 use Rattle.std.specs.List.{cons_option, filter_map, range_with_len}
 use Rattle.std.proofs.lemmas.List.{map-append}
 use Rattle.std.proofs.lemmas.List.Elements.{Contains-get_or, filter_map-append}
 use Rattle.std.proofs.lemmas.Option.{none-some, same_Some}
-use Rattle.aeth_base.proofs.Members.{Contains-cases, Contains-here, Contains-nil, Contains-slice_get}
-use Rattle.aeth_base.proofs.Members.{Contains-there}
+use Rattle.aeth_base.proofs.Members.{Contains-slice_get, filter_map-Contains}
 use Rattle.aeth_base.proofs.Ranges.{range-Contains, range_with_len-more}
 use Rattle.aeth_base.specs.declared.ids.NiId.{NiId}
 use Rattle.aeth_base.specs.declared.ids.Side.{Side}
@@ -47,25 +46,6 @@ use Rattle.aeth_alloc.proofs.TurnLemmas.{after_turns-next}
 use Rattle.aeth_alloc.proofs.UnitTryLemmas.{sound-one}
 
 -- ---- lists
-
--- What is in the list of what a function gives is given for some element.
-filter_map-Contains : {X Y : Type 0} (h : X → Option Y) (xs : List X) (y : Y)
-    → Contains (filter_map h xs) y → (x : X) × Contains xs x × (h x ≡ Some y)
-filter_map-Contains h [] y has = Contains-nil has
-filter_map-Contains {X} {Y} h (x ∷ xs) y has =
-    let later : Contains (filter_map h xs) y → (z : X) × Contains (x ∷ xs) z × (h z ≡ Some y) =
-    λ among. let (z, is_in, told) = filter_map-Contains h xs y among in
-    (z, Contains-there x xs z is_in, told) in
-    let go : (o : Option Y) → h x ≡ o → Contains (cons_option o (filter_map h xs)) y
-    → (z : X) × Contains (x ∷ xs) z × (h z ≡ Some y) =
-    elim [
-      | None ↦ λ at among. later among
-      | Some one ↦ λ at among. elim (Contains-cases one (filter_map h xs) y among) [
-        | inl same ↦ (x, Contains-here x xs, at ∙ ap Some same)
-        | inr others ↦ later others
-      ]
-    ]
-    in go (h x) refl has
 
 one-told : (o : Option TrialData) → map refused_of (cons_option o []) ≡ option_to_list (option_map refused_of o)
 one-told None = refl

@@ -2,7 +2,7 @@
 use Rattle.std.proofs.Common.{◌≡◌, ◌∙◌, ◌+◌, ◌++◌, ◌<◌, ℕ, zero, suc, List, Contains, Option, Some, None}
 use Rattle.std.proofs.Common.{length, not, refl, sym, ap, subst, arith}
 use Rattle.std.specs.Prelude.{option_map, slice_get}
-use Rattle.std.proofs.lemmas.List.{length-map, length-set}
+use Rattle.std.proofs.lemmas.List.{length-map}
 use Rattle.std.proofs.lemmas.Option.{none-some, same_Some}
 use Rattle.aeth_group.proofs.MemberLemmas.{connections-groups_of}
 use Rattle.aeth_base.proofs.Members.{filter-Contains, map-Contains}
@@ -18,9 +18,10 @@ use Rattle.aeth_group.proofs.UnitLemmas.{unit_from_units}
 use Rattle.aeth_order.specs.Units.{UnitsData, all_units, is_unit, keys_by, keys_of, next_unit}
 use Rattle.aeth_order.specs.Units.{without_unit}
 use Rattle.aeth_order.specs.declared.keys.UnitKeys.{UnitKeys}
-use Rattle.aeth_seats.specs.Places.{Place, lowest_free, placed_on, seat_of}
+use Rattle.aeth_seats.specs.Places.{Place, lowest_free, seat_of}
 use Rattle.aeth_seats.specs.Seats.{SeatsData}
 use Rattle.aeth_seats.proofs.FirstLemmas.{seats-of-app}
+use Rattle.aeth_seats.proofs.SeatingLemmas.{length-placed_on}
 use Rattle.aeth_paths.specs.declared.request.Found.{Found}
 use Rattle.aeth_check.specs.Channels.{receiver, sender}
 use Rattle.aeth_alloc.specs.Channels.{Design, Reserved, first_for, tried, tried_by, with_found}
@@ -51,18 +52,13 @@ pub record AreAlike (old new : SeatsData) : Type 0 where
   pub fixed : new.fixed ≡ old.fixed
   pub cores : length new.places ≡ length old.places
 
-alike-on : (places : List (Option Place)) (core : ℕ) (ni : NiId) (seat : Option ℕ)
-    → length (placed_on places core ni seat) ≡ length places
-alike-on places core ni None = refl
-alike-on places core ni (Some seat) = length-set places core (Some (ni, seat))
-
 alike-by : (seats : SeatsData) (core : ℕ) (ni : NiId) (place : Option Place)
     → AreAlike seats (with_seat_by seats core ni place)
 alike-by seats core ni (Some place) = record { nis = refl; fixed = refl; cores = refl }
 alike-by seats core ni None = record {
   nis = refl;
   fixed = refl;
-  cores = alike-on seats.places core ni (lowest_free seats.places ni.0);
+  cores = length-placed_on seats.places core ni (lowest_free seats.places ni.0);
 }
 
 -- A core that sits on an interface leaves all else alike.

@@ -1,23 +1,14 @@
 -- Positions of a core's connections ascend.
-use Rattle.std.proofs.Common.{◌≡◌, ◌∙◌, ◌<◌, ℕ, zero, suc, true, List, [], ◌∷◌}
-use Rattle.std.proofs.Common.{take, slice_get, refl, inl, inr, arith}
+use Rattle.std.proofs.Common.{◌≡◌, ◌∙◌, ◌<◌, ℕ, true, List}
+use Rattle.std.proofs.Common.{take, slice_get, inl, inr, arith}
 use Rattle.std.specs.Prelude.{IsSomeAnd, IsTrue}
 use Rattle.std.proofs.lemmas.Bool.{cases_order}
 use Rattle.std.proofs.lemmas.List.{take-take}
 use Rattle.std.proofs.lemmas.Option.{slice_get_cases}
-use Rattle.aeth_base.proofs.Lists.{count_by-before}
+use Rattle.aeth_base.proofs.Lists.{count_by-before, slice_get-take}
 use Rattle.aeth_base.specs.declared.ids.CoreId.{CoreId}
 use Rattle.aeth_app.specs.App.{is_end, position_of}
 use Rattle.aeth_app.specs.declared.connection.Connection.{Connection}
-
--- What stands before an end of a list stands there in the list.
-slice_get-take : {X : Type 0} (xs : List X) (i j : ℕ) → i < j
-    → slice_get (take j xs) i ≡ slice_get xs i
-slice_get-take [] i zero below = refl
-slice_get-take [] i (suc j) below = refl
-slice_get-take (x ∷ xs) i zero below = absurd (omega arith)
-slice_get-take (x ∷ xs) zero (suc j) below = refl
-slice_get-take (x ∷ xs) (suc i) (suc j) below = slice_get-take xs i j (omega arith)
 
 -- A later connection has a greater position.
 pub position_of-ascends : (connections : List Connection) (core : CoreId) (i j : ℕ)
@@ -29,7 +20,7 @@ position_of-ascends connections core i j ends before =
           let here : is_end core found.0 ≡ true = rw found.2 at ends in
           rw (← take-take i j connections (omega arith))
           (count_by-before (is_end core) (take j connections) i found.0
-          (slice_get-take connections i j before ∙ found.2) here)
+          (slice_get-take j connections i before ∙ found.2) here)
       | inr past ↦ absurd (rw past.1 at ends)
     ]
 

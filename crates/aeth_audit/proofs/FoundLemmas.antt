@@ -1,12 +1,13 @@
 -- What is in the cell of a link and a slot is what the link may be reserved for in a cycle of the
 -- slot.
-use Rattle.std.proofs.Common.{◌≡◌, ◌∙◌, ◌≤◌, ◌+◌, ◌-◌, ◌*◌, ◌/◌, ◌%◌, ℕ, List, length}
+use Rattle.std.proofs.Common.{◌≡◌, ◌∙◌, ◌+◌, ◌-◌, ◌*◌, ◌%◌, ℕ, List, length}
 use Rattle.std.proofs.Common.{Contains, Some, slice_get, refl, sym, ap, subst, arith}
-use Rattle.std.proofs.Math.Nat.{add-mod_right, add-mul-mod_self_left, div-add-mod, mod-add-mod}
+use Rattle.std.proofs.Math.Nat.{mod-add-mod}
 use Rattle.std.proofs.Math.Nat.{mod-eq_of_lt, mod-lt}
 use Rattle.std.proofs.lemmas.List.Elements.{All-contains}
 use Rattle.std.proofs.lemmas.Nat.{same_from_place}
 use Rattle.std.proofs.lemmas.Option.{same_Some, slice_get_within}
+use Rattle.aeth_base.proofs.Division.{mod-before}
 use Rattle.aeth_base.proofs.Members.{Contains-slice_get, slice_get-Contains}
 use Rattle.aeth_group.specs.declared.grant.Grant.{Grant}
 use Rattle.aeth_server.proofs.SlotCycleLemmas.{is_slot-member, member-is_slot}
@@ -17,22 +18,6 @@ use Rattle.aeth_audit.specs.Places.{IsOfGrants, IsPlaced, cell_at}
 use Rattle.aeth_audit.specs.declared.judge.Judge.{Judge}
 use Rattle.aeth_audit.specs.declared.places.Place.{Place}
 use Rattle.aeth_audit.proofs.PlaceLemmas.{rotated-below}
-
--- A slot so many cycles on, and as many back round the table.
-round : (x a size : ℕ) → 1 ≤ size → ((x + a) % size + (size - a % size)) % size ≡ x % size
-round x a size some =
-    let back = size - a % size in
-    let below = mod-lt a {m = size} (omega (arith, some)) in
-    let split = div-add-mod a size in
-    let whole : (x + a) + back ≡ (x + size) + size * (a / size) = omega (arith, below, split) in
-    mod-add-mod (x + a) size back ∙ ap (λ n. n % size) whole
-    ∙ add-mul-mod_self_left (x + size) size (a / size) ∙ add-mod_right x size
-
--- Where two cycles have one slot so many cycles on, they have one slot.
-same-before : (x y a size : ℕ) → 1 ≤ size → (x + a) % size ≡ (y + a) % size → x % size ≡ y % size
-same-before x y a size some same =
-    sym (round x a size some) ∙ ap (λ n. (n + (size - a % size)) % size) same
-    ∙ round y a size some
 
 -- The cell of a link and of the slot of a cycle.
 abbrev pub cell : Judge → ℕ → ℕ → ℕ
@@ -69,7 +54,7 @@ module _ (judge : Judge) (is : IsJudge judge) (l t : ℕ) (place : Place) where
       ap (λ n. (start + place.ahead) % n) (sym sizes) ∙ sym at ∙ slots
       ∙ ap (λ n. n % size) (sym back) in
       let same : start ≡ injected % size =
-      sym (mod-eq_of_lt bounds.1) ∙ same-before start injected place.ahead size some enters in
+      sym (mod-eq_of_lt bounds.1) ∙ mod-before start injected place.ahead size some enters in
       record {
         grant = grant;
         is_grant = of.is_grant;

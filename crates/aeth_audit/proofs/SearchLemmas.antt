@@ -6,33 +6,15 @@ use Rattle.std.proofs.Common.{refl, sym, ap, subst, inl, inr, arith}
 use Rattle.std.proofs.lemmas.Bool.{cases_Bool, cases_lt}
 use Rattle.std.proofs.lemmas.Bool.Decides.{nat_tests}
 use Rattle.std.proofs.lemmas.Option.{get_or_from_slice_get, same_Some, slice_get_within}
-use Rattle.std.specs.Prelude.{find, nat_lt, ◌&&◌, ◌||◌, ◌==◌}
+use Rattle.std.specs.Prelude.{nat_lt, ◌&&◌, ◌||◌, ◌==◌}
 use Rattle.std.specs.List.Sorted.{IsNonDecreasingBy, IsPartitionPoint, IsPartitionedBy}
 use Rattle.aeth_text.specs.Order.{Rises, RisesAfter}
+use Rattle.aeth_tables.proofs.FindLaws.{find-at, find-none}
 use Rattle.aeth_audit.specs.Audit.{row_on}
 use Rattle.aeth_audit.specs.LinkLog.{is_before, is_later}
 use Rattle.aeth_audit.specs.declared.row.LinkRow.{LinkRow}
 
 module _ {X : Type 0} (test : X → Bool) where
-  -- Where no item passes, none is found.
-  pub find-none : (xs : List X) → ((k : ℕ) (x : X) → slice_get xs k ≡ Some x → test x ≡ false)
-      → find test xs ≡ None
-  find-none [] fails = refl
-  find-none (x ∷ xs) fails =
-      ap (λ (b : Bool). cond b (Some x) (find test xs)) (fails 0 x refl)
-      ∙ find-none xs (λ k. fails (suc k))
-
-  -- The first that passes is found.
-  pub find-at : (xs : List X) (n : ℕ) (x : X)
-      → ((k : ℕ) (y : X) → k < n → slice_get xs k ≡ Some y → test y ≡ false)
-      → slice_get xs n ≡ Some x → test x ≡ true → find test xs ≡ Some x
-  find-at [] n x fails at passes = absurd (cc at)
-  find-at (y ∷ ys) zero x fails at passes =
-      ap (λ (b : Bool). cond b (Some y) (find test ys)) (ap test (same_Some y x at) ∙ passes) ∙ at
-  find-at (y ∷ ys) (suc n) x fails at passes =
-      ap (λ (b : Bool). cond b (Some y) (find test ys)) (fails 0 y (omega arith) refl)
-      ∙ find-at ys n x (λ k z less. fails (suc k) z (omega arith)) at passes
-
   -- Where the first items pass and the others fail, a filter keeps the first ones.
   pub filter-point : (xs : List X) (n : ℕ) → n ≤ length xs
       → ((k : ℕ) (x : X) → k < n → slice_get xs k ≡ Some x → test x ≡ true)

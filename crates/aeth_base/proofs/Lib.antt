@@ -4,7 +4,7 @@ pub mod Division
 pub mod ExtremeLemmas
 pub mod Filters
 pub mod Lists
-mod MarkLemmas
+pub mod MarkLemmas
 pub mod MarkedLemmas
 mod MarkedMasks
 pub mod Members
@@ -16,3 +16,4 @@ pub mod Permutations
 pub mod Ranges
 pub mod Sequences
 pub mod SideLemmas
+pub mod TestLemmas

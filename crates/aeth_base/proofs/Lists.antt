@@ -1,10 +1,11 @@
 -- Laws of lists read by `slice_get`, where an element may be of any type and so has no default; of
--- whether some element passes a test, and of how many do.
+-- whether some element passes a test, and of how many do; of sums; and of numbers that never fall.
 use Rattle.std.proofs.Common.{◌≡◌, ◌≢◌, ◌<◌, ◌+◌, ◌∙◌, ℕ, zero, suc, Bool, true, false, List, []}
 use Rattle.std.proofs.Common.{◌∷◌, length, take, Option, Some, None, slice_get, cond, refl, sym, ap}
-use Rattle.std.proofs.Common.{◌⊎◌, ◌||◌, ◌++◌, drop, map, arith, inl, inr}
+use Rattle.std.proofs.Common.{◌⊎◌, ◌≤◌, ◌||◌, ◌++◌, drop, map, arith, inl, inr}
 use Rattle.std.specs.Option.{option_map}
-use Rattle.std.specs.List.{count_by, list_any, slice_set}
+use Rattle.std.specs.List.{count_by, list_any, slice_set, sum_by}
+use Rattle.std.specs.List.Sorted.{IsNonDecreasing}
 use Rattle.std.proofs.lemmas.Bool.{cases_Bool}
 use Rattle.std.proofs.lemmas.List.Sums.{sum_by-cons}
 use Rattle.std.proofs.lemmas.List.{drop_more, take-append-le, take_all, take_more}
@@ -28,6 +29,18 @@ pub option_map-some : {X Y : Type 0} (f : X → Y) (o : Option X) (y : Y) → op
 option_map-some f None y is = absurd (none-some y is)
 option_map-some f (Some x) y is = (x, refl, same_Some (f x) y is)
 
+-- A list has an item at each place within.
+pub item-at : {X : Type 0} (xs : List X) (i : ℕ) → i < length xs
+    → (x : X) × (slice_get xs i ≡ Some x)
+item-at [] i within = absurd (omega arith)
+item-at (x ∷ xs) zero within = (x, refl)
+item-at (x ∷ xs) (suc i) within = item-at xs i (omega arith)
+
+-- The image of what stands at a place stands there in the list of images.
+pub map-at : {X Y : Type 0} (f : X → Y) (xs : List X) (i : ℕ) (x : X) → slice_get xs i ≡ Some x
+    → slice_get (map f xs) i ≡ Some (f x)
+map-at f xs i x at = slice_get-map f xs i ∙ ap (option_map f) at
+
 -- What stands at a place of a list of images is the image of what stands there.
 pub map-slice_get : {X Y : Type 0} (f : X → Y) (xs : List X) (i : ℕ) (y : Y)
     → slice_get (map f xs) i ≡ Some y → (x : X) × (slice_get xs i ≡ Some x) × (f x ≡ y)
@@ -39,6 +52,14 @@ pub take-slice_get : {X : Type 0} (xs : List X) (i : ℕ) (x : X) → slice_get 
 take-slice_get {X} xs i x at =
     take_more xs i x (slice_get_within xs i x at)
     ∙ ap (λ (last : X). take i xs ++ last ∷ []) (get_or_from_slice_get xs i x x at)
+
+-- What stands before an end of a list stands there in the list.
+pub slice_get-take : {X : Type 0} (n : ℕ) (xs : List X) (i : ℕ) → i < n
+    → slice_get (take n xs) i ≡ slice_get xs i
+slice_get-take zero xs i less = absurd (omega arith)
+slice_get-take (suc n) [] i less = refl
+slice_get-take (suc n) (x ∷ xs) zero less = refl
+slice_get-take (suc n) (x ∷ xs) (suc i) less = slice_get-take n xs i (omega arith)
 
 -- A vector whose items are written over by as many has these.
 pub written_back : {X : Type 0} (old new : List X) (count : ℕ) → count ≡ length old
@@ -94,6 +115,16 @@ slice_get-slice_set_other (x ∷ xs) (suc i) zero y other = refl
 slice_get-slice_set_other (x ∷ xs) (suc i) (suc j) y other =
     slice_get-slice_set_other xs i j y (λ same. other (ap (λ k. suc k) same))
 
+-- A sum over images.
+pub sum_by-map : {X Y : Type 0} (f : Y → ℕ) (g : X → Y) (xs : List X)
+    → sum_by f (map g xs) ≡ sum_by (λ x. f (g x)) xs
+sum_by-map f g [] = refl
+sum_by-map f g (x ∷ xs) =
+    let first = sum_by-cons f (g x) (map g xs) in
+    let same = sum_by-cons (λ x. f (g x)) x xs in
+    let rest = sum_by-map f g xs in
+    omega arith
+
 -- A first item that passes a test counts.
 pub count_by-yes : {X : Type 0} (test : X → Bool) (x : X) (xs : List X) → test x ≡ true
     → count_by test (x ∷ xs) ≡ suc (count_by test xs)
@@ -109,6 +140,17 @@ count_by-no test x xs fails =
     let same : 0 + count_by test xs ≡ count_by test xs = omega arith in
     let here : cond (test x) 1 0 ≡ 0 = rw fails refl in
     sum_by-cons (λ y. cond (test y) 1 0) x xs ∙ ap (λ n. n + count_by test xs) here ∙ same
+
+-- Where some item passes a test, at least one counts.
+pub count_by-any : {X : Type 0} (test : X → Bool) (xs : List X) → list_any test xs ≡ true
+    → 1 ≤ count_by test xs
+count_by-any test [] found = cc found
+count_by-any test (x ∷ xs) found = elim (cases_Bool (test x)) [
+  | inl passes ↦ omega (arith, count_by-yes test x xs passes)
+  | inr fails ↦
+      let rest = count_by-any test xs (ap (λ b. b || list_any test xs) (sym fails) ∙ found) in
+      omega (arith, count_by-no test x xs fails, rest)
+]
 
 -- Before an item that passes a test fewer pass than in all.
 pub count_by-before : {X : Type 0} (test : X → Bool) (xs : List X) (i : ℕ) (x : X)
@@ -128,3 +170,8 @@ count_by-before test (first ∷ xs) (suc i) x at passes =
       | inr other ↦
           rw (count_by-no test first (take i xs) other, count_by-no test first xs other) rest
     ]
+
+-- The rest of numbers that never fall never fall.
+pub IsNonDecreasing-tail : (x : ℕ) (xs : List ℕ) → IsNonDecreasing (x ∷ xs) → IsNonDecreasing xs
+IsNonDecreasing-tail x xs order i j d up within =
+    order (suc i) (suc j) d (omega arith) (omega arith)

@@ -43,7 +43,7 @@ bit_of-away masks number mask other within same apart =
     ]
 
 -- A bit of a mask that was shifted down.
-bit_at-shift : (mask s i : ℕ) → bit_at (mask / 2 ^ s) i ≡ bit_at mask (s + i)
+pub bit_at-shift : (mask s i : ℕ) → bit_at (mask / 2 ^ s) i ≡ bit_at mask (s + i)
 bit_at-shift mask s i = rw (shr-shr mask s i) refl
 
 -- Below the lowest one of what is left of a mask there is none.

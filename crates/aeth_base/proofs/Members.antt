@@ -6,6 +6,7 @@ use Rattle.std.proofs.Common.{Option, Some, None}
 use Rattle.std.proofs.Common.{arith, refl, sym, ap, subst, inl, inr}
 use Rattle.std.specs.List.{cons_option, filter_map, flat_map, list_any}
 use Rattle.std.proofs.lemmas.Bool.{both_ways, eq-eqb, eqb-true, or_cases, or_left, or_right}
+use Rattle.std.proofs.lemmas.List.{get_or-map, length-map}
 use Rattle.std.proofs.lemmas.List.Concat.{flat_map-cons}
 use Rattle.std.proofs.lemmas.List.Elements.{Contains-append_cases, Contains-append_left}
 use Rattle.std.proofs.lemmas.List.Elements.{Contains-append_right}
@@ -30,6 +31,13 @@ pub Contains-cases : {X : Type 0} (x : X) (xs : List X) (y : X) → Contains (x 
 Contains-cases x xs y (zero, within, at) = inl at
 Contains-cases x xs y (suc k, within, at) = inr (k, omega arith, at)
 
+-- What is in a list of one element is this element.
+pub sole-Contains : {X : Type 0} (x y : X) → Contains (x ∷ []) y → x ≡ y
+sole-Contains x y has = elim (Contains-cases x [] y has) [
+  | inl is ↦ is
+  | inr none ↦ Contains-nil none
+]
+
 -- A list that contains something isn't empty.
 pub Contains-some : {X : Type 0} (xs : List X) (x : X) → Contains xs x → 0 < length xs
 Contains-some xs x (k, within, at) = omega arith
@@ -50,6 +58,13 @@ pub All-slice_get : {X : Type 0} (P : X → Type 0) (xs : List X) (i : ℕ) (x :
     → slice_get xs i ≡ Some x → P x
 All-slice_get P xs i x all at =
     subst P (get_or_from_slice_get xs i x x at) (all i x (slice_get_within xs i x at))
+
+-- What holds of all images of a list's elements holds of the image of each.
+pub All-from_map : {X Y : Type 0} (f : X → Y) (P : Y → Type 0) (xs : List X) → All P (map f xs)
+    → All (λ x. P (f x)) xs
+All-from_map f P xs all place default within =
+    subst P (get_or-map f xs place default (f default) within)
+    (all place (f default) (let size = length-map xs f in omega arith))
 
 -- The image of what is in a list is in the list of images.
 pub Contains-map : {X Y : Type 0} (f : X → Y) (xs : List X) (x : X) → Contains xs x
@@ -138,6 +153,24 @@ Contains-filter_map {X} {Y} give (first ∷ xs) x y has gives = elim (Contains-c
       elim [ None ↦ rest | Some other ↦ Contains-there other (filter_map give xs) y rest ]
       in cases (give first)
 ]
+
+-- What is among what is given is given for one of the list.
+pub filter_map-Contains : {X Y : Type 0} (give : X → Option Y) (xs : List X) (y : Y)
+    → Contains (filter_map give xs) y → (x : X) × Contains xs x × (give x ≡ Some y)
+filter_map-Contains give [] y has = Contains-nil has
+filter_map-Contains {X} {Y} give (x ∷ xs) y has =
+    let cases : (o : Option Y) → give x ≡ o → Contains (cons_option o (filter_map give xs)) y
+    → (z : X) × Contains (x ∷ xs) z × (give z ≡ Some y) =
+    elim [
+      | None ↦ λ is later. let (z, inside, gives) = filter_map-Contains give xs y later in
+          (z, Contains-there x xs z inside, gives)
+      | Some first ↦ λ is there. elim (Contains-cases first (filter_map give xs) y there) [
+        | inl same ↦ (x, Contains-here x xs, is ∙ ap (λ v. Some v) same)
+        | inr later ↦ let (z, inside, gives) = filter_map-Contains give xs y later in
+            (z, Contains-there x xs z inside, gives)
+      ]
+    ]
+    in cases (give x) refl has
 
 -- What is in the lists from all elements is in the one from some element.
 pub flat_map-Contains : {X Y : Type 0} (f : X → List Y) (xs : List X) (y : Y)

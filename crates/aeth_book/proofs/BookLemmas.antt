@@ -4,6 +4,7 @@ use Rattle.std.proofs.Common.{Bool, true, false, cond, eqb, List, [], ◌∷◌,
 use Rattle.std.proofs.Common.{All, Contains, Some, get_or, refl, sym}
 use Rattle.std.proofs.Common.{ap, subst, inl, inr, arith}
 use Rattle.std.specs.List.{range_with_len}
+use Rattle.std.proofs.Math.Bool.{or-false}
 use Rattle.std.proofs.lemmas.Bool.{and_from, and_parts, both_ways, cases_lt, eqb-true, false≢true}
 use Rattle.std.proofs.lemmas.Bool.{lt-ltb, not-true, or_cases}
 use Rattle.std.proofs.lemmas.List.{get_or_append_left, get_or_default, length_push}
@@ -29,7 +30,7 @@ use Rattle.aeth_book.specs.Free.{free_starts, is_occupied, is_open, is_taken}
 use Rattle.aeth_group.specs.Tables.{Changes, IsTable, hits_uses}
 use Rattle.aeth_base.proofs.Filters.{filter-none}
 use Rattle.aeth_book.specs.Masks.{IsKept}
-use Rattle.aeth_group.proofs.OccupationLemmas.{is_at, or-false}
+use Rattle.aeth_group.proofs.OccupationLemmas.{is_at}
 use Rattle.aeth_book.proofs.UseLemmas.{taken_from_blocked}
 use Rattle.aeth_group.proofs.TableLemmas.{either, table-same}
 use Rattle.aeth_group.proofs.ListLemmas.{any_from_passes, passes_from_any}

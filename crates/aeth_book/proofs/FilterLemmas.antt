@@ -1,12 +1,11 @@
--- Laws of filters and of ranges, and the greatest of a list with one more number.
+-- Laws of filters and of ranges.
 use Rattle.std.proofs.Common.{◌≡◌, ◌∙◌, ◌<◌, ◌+◌, ◌++◌, ◌&&◌, ◌||◌, ℕ}
-use Rattle.std.proofs.Common.{Bool, true, false, cond, max, List, [], ◌∷◌, length}
-use Rattle.std.proofs.Common.{Contains, get_or, refl, ap, arith, filter}
+use Rattle.std.proofs.Common.{Bool, true, false, cond, List, [], ◌∷◌, length}
+use Rattle.std.proofs.Common.{Contains, get_or, refl, ap, filter}
 use Rattle.std.proofs.Common.{take}
 use Rattle.std.specs.List.{list_any}
 use Rattle.std.proofs.lemmas.List.{append-nil, take_more}
 use Rattle.std.proofs.lemmas.List.Elements.{filter-append}
-use Rattle.aeth_slots.specs.SlotSet.{greatest}
 use Rattle.aeth_base.proofs.Members.{Contains-here, Contains-there}
 
 -- What one filter leaves, another filters.
@@ -75,7 +74,3 @@ any-filter {X} first second (x ∷ xs) =
       | false ↦ λ is. rest
     ]
     in cases (first x) refl
-
-pub greatest-push : (xs : List ℕ) (x : ℕ) → greatest (xs ++ x ∷ []) ≡ max (greatest xs) x
-greatest-push [] x = omega arith
-greatest-push (y ∷ xs) x = let rest = greatest-push xs x in omega (arith, rest)

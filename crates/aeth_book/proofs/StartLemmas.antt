@@ -1,13 +1,13 @@
 -- Laws of free starts: what the test of a path says, place by place.
-use Rattle.std.proofs.Common.{◌≡◌, ◌+◌, ◌%◌, ◌&&◌, ◌↔◌, ℕ, zero, suc, Bool, true, false}
-use Rattle.std.proofs.Common.{List, [], ◌∷◌, Contains, IsTrue, Some, slice_get, take, refl, arith}
-use Rattle.std.proofs.Common.{rules}
+use Rattle.std.proofs.Common.{◌≡◌, ◌+◌, ◌%◌, ◌&&◌, ◌↔◌, ℕ, zero, suc, true, false}
+use Rattle.std.proofs.Common.{List, [], ◌∷◌, Contains, Some, slice_get, take, refl, arith}
 use Rattle.std.proofs.lemmas.Bool.{and_from, and_parts, both_ways, false_from_ne_true, not-true}
 use Rattle.std.proofs.lemmas.Bool.{not_from_false}
 use Rattle.std.proofs.lemmas.List.Sums.{sum_by-cons}
 use Rattle.std.proofs.lemmas.Option.{none-some, same_Some}
 use Rattle.aeth_base.specs.declared.ids.LinkId.{LinkId}
 use Rattle.aeth_base.specs.declared.ids.Unit.{Unit as GroupUnit}
+use Rattle.aeth_base.proofs.TestLemmas.{IsTrue_from_true, true_from_IsTrue}
 use Rattle.aeth_chip.specs.Paths.{delay_of, offset}
 use Rattle.aeth_slots.proofs.TestLemmas.{Contains-where}
 use Rattle.aeth_book.specs.Book.{BookData}
@@ -15,12 +15,6 @@ use Rattle.aeth_group.specs.Occupation.{occupies}
 use Rattle.aeth_book.specs.Free.{IsFreeStart, free_starts, is_open, is_rival, is_taken}
 use Rattle.aeth_group.proofs.OccupationLemmas.{occupies-Decides}
 use Rattle.aeth_group.proofs.ListLemmas.{any_from_passes, passes_from_any}
-
-true_from : (b : Bool) → IsTrue b → b ≡ true
-true_from b test = search rules
-
-from_true : (b : Bool) → b ≡ true → IsTrue b
-from_true b test = search rules
 
 -- No rival occupies the link at any place, in the slot in which a flit enters it that starts in a
 -- slot and so many cycles later enters the path.
@@ -75,7 +69,7 @@ free_starts-each book unit path start =
             (any_from_passes
             (λ g. is_rival book.groups unit g && occupies book.links g link.0 (at place))
             book.grants grant has'
-            (and_from _ _ (true_from _ rival)
+            (and_from _ _ (true_from_IsTrue _ rival)
             ((occupies-Decides book.links grant link.0 (at place)).1 holds)));
       }),
       (λ free. is.1 (
@@ -88,7 +82,7 @@ free_starts-each book unit path start =
             taken in
             let (is_rival', holds) =
             and_parts (is_rival book.groups unit rival.item) _ rival.passes in
-            free.clear place link rival.item on rival.is_in (from_true _ is_rival')
+            free.clear place link rival.item on rival.is_in (IsTrue_from_true _ is_rival')
             ((occupies-Decides book.links rival.item link.0 (at place)).0 holds)))),
       )),
     )

@@ -5,6 +5,7 @@ use Rattle.std.proofs.Common.{Bool, true, false, eqb, max, List, [], ◌∷◌, 
 use Rattle.std.proofs.Common.{Contains, Some, slice_get, get_or, refl, sym, ap, arith, filter}
 use Rattle.std.proofs.Common.{take}
 use Rattle.std.specs.List.{list_any, range_with_len}
+use Rattle.std.proofs.Math.Bool.{or-false}
 use Rattle.std.proofs.lemmas.Bool.{and_from, and_parts, eq-eqb, eqb-true}
 use Rattle.std.proofs.lemmas.List.{map-append, take_more}
 use Rattle.std.proofs.lemmas.List.Folds.{list_any-append}
@@ -23,14 +24,14 @@ use Rattle.aeth_group.specs.Members.{GroupsData, UseGroupData, group_at, has_at}
 use Rattle.aeth_group.specs.Members.{has_unit}
 use Rattle.aeth_group.proofs.Ranges.{any_from_passer, passer_from_any}
 use Rattle.aeth_group.specs.Occupation.{holds_in, occupies}
-use Rattle.aeth_group.proofs.OccupationLemmas.{or-false}
 use Rattle.aeth_group.proofs.ListLemmas.{any_from_passes, passes_from_any, same_tests}
 use Rattle.aeth_book.specs.Book.{BookData}
 use Rattle.aeth_book.specs.Free.{is_occupied, is_rival, is_taken}
 use Rattle.aeth_book.specs.Free.{occupied_slots, taken_slots, used_slots, uses_with}
 use Rattle.aeth_group.specs.Rows.{uses_of}
+use Rattle.aeth_slots.proofs.SlotSetLemmas.{greatest-push}
 use Rattle.aeth_book.proofs.FilterLemmas.{any-filter, filter-push, filter-same-more}
-use Rattle.aeth_book.proofs.FilterLemmas.{filter_twice, greatest-push}
+use Rattle.aeth_book.proofs.FilterLemmas.{filter_twice}
 
 -- Whether a slot of a link is occupied in a use case that has the unit.
 abbrev pub is_blocked : BookData → GroupUnit → ℕ → ℕ → Bool

@@ -8,10 +8,12 @@ use Rattle.std.proofs.lemmas.Bool.{cases_lt, cases_eq, eq-eqb, le-leb, le-ltb, l
 use Rattle.std.proofs.lemmas.List.{append-nil}
 use Rattle.std.proofs.lemmas.List.Elements.{All-head, All-tail, filter-append}
 use Rattle.std.proofs.lemmas.Grind.{flat_map-append}
+use Rattle.std.proofs.lemmas.Simd.{map-map}
 use Rattle.aeth_base.specs.declared.ids.Channel.{Channel}
 use Rattle.aeth_base.specs.declared.ids.Side.{Side}
 use Rattle.aeth_base.specs.declared.ids.Side.TheVariants.{Back, Fwd}
 use Rattle.aeth_base.specs.Sides.{channels_with}
+use Rattle.aeth_base.proofs.Filters.{filter-map}
 use Rattle.aeth_base.proofs.Ranges.{range_with_len-more}
 use Rattle.aeth_group.specs.Members.{group_at, has_at}
 use Rattle.aeth_server.specs.Landing.{landing_cycle}
@@ -28,7 +30,6 @@ use Rattle.aeth_report.specs.Flows.{values_of as run_values}
 use Rattle.aeth_report.specs.Log.{ChannelData}
 use Rattle.aeth_report.specs.RunLog.{channel_log, counted_to, flow_log, landing_of, log_of}
 use Rattle.aeth_report.specs.declared.session.Session.{Session}
-use Rattle.aeth_report.proofs.AlikeLemmas.{filter-map}
 use Rattle.aeth_report.specs.declared.log.Landing.{Landing}
 use Rattle.aeth_base.specs.Limits.{max_path_delay}
 use Rattle.aeth_chain.specs.Chain.{Leg}
@@ -36,7 +37,6 @@ use Rattle.aeth_chain.specs.ChainInputs.{landings_on, row_of, told}
 use Rattle.aeth_chain.specs.ChainRun.{landing_on, server_on, values_of}
 use Rattle.aeth_chain.specs.Lanes.{AreOffers}
 use Rattle.aeth_chain.specs.declared.passing.Offer.{Offer}
-use Rattle.aeth_chain.proofs.OfferLemmas.{map-map}
 
 -- A channel of a connection.
 abbrev channel : ℕ → Side → Channel

@@ -10,26 +10,18 @@ use Rattle.std.proofs.lemmas.List.FromFn.{get_or-map-range_with_len, length-map-
 use Rattle.std.proofs.lemmas.List.Kept.{IsNonDecreasingBy-filter}
 use Rattle.std.proofs.lemmas.List.Sorted.{IsNonDecreasingBy-from_default}
 use Rattle.std.proofs.lemmas.List.Sums.{length-filter, count_by-le-length}
+use Rattle.std.proofs.lemmas.Simd.{map-map}
+use Rattle.aeth_base.proofs.Filters.{filter-map}
+use Rattle.aeth_base.proofs.Lists.{IsNonDecreasing-tail}
 use Rattle.aeth_server.specs.PrivateServer.{PrivateServer, accepted}
 use Rattle.aeth_server.specs.Shape.{HasPaths}
 use Rattle.aeth_server.specs.WordCycles.{IsOpenFor, taking_cycle}
 use Rattle.aeth_server.proofs.WordCycles.{taking-rises}
 use Rattle.aeth_trace.specs.declared.receivers.PullRow.{PullRow}
-use Rattle.aeth_report.proofs.AlikeLemmas.{filter-map}
 use Rattle.aeth_chain.specs.Chain.{Leg}
 use Rattle.aeth_chain.specs.ChainRun.{cycles_of, offer_behind, passed_on, server_on}
 use Rattle.aeth_chain.specs.Lanes.{AreOffers}
 use Rattle.aeth_chain.specs.declared.passing.Offer.{Offer}
-
--- One function after another.
-pub map-map : {X Y Z : Type 0} (g : Y → Z) (f : X → Y) (xs : List X)
-    → map g (map f xs) ≡ map (λ x. g (f x)) xs
-map-map g f [] = refl
-map-map g f (x ∷ xs) = ap (λ ys. g (f x) ∷ ys) (map-map g f xs)
-
--- The rest of numbers that never fall.
-rest-order : (x : ℕ) (xs : List ℕ) → IsNonDecreasing (x ∷ xs) → IsNonDecreasing xs
-rest-order x xs order i j d up within = order (suc i) (suc j) d (omega arith) (omega arith)
 
 -- Cycles below the end of a session that goes from 0 on are accepted by it.
 accepted-all : (end : ℕ) (offers : List Offer) → All (λ offer. offer.cycle < end) offers
@@ -57,7 +49,7 @@ kept-first bound (x ∷ xs) k order within low =
     → IsKept bound (x ∷ xs) k = elim [
       | zero ↦ λ within low. record { within = rw here (omega arith); same = rw here refl }
       | suc j ↦ λ within low.
-          let rest = kept-first bound xs j (rest-order x xs order) (omega arith) low in
+          let rest = kept-first bound xs j (IsNonDecreasing-tail x xs order) (omega arith) low in
           record { within = rw here (omega (arith, rest.within)); same = rw here rest.same }
     ] in
     cases k within low

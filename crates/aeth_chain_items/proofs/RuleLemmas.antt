@@ -6,10 +6,10 @@ use Rattle.std.specs.Prelude.{Ok, Err}
 use Rattle.std.proofs.lemmas.Bool.{both_ways, cases_order, ltb-true, not-true}
 use Rattle.std.proofs.lemmas.List.{get_or-take, get_or_default, length-map, length-take}
 use Rattle.std.proofs.lemmas.Option.{get_or_from_slice_get, slice_get_within}
+use Rattle.std.proofs.lemmas.Simd.{map-map}
 use Rattle.aeth_app.specs.App.{AppData}
 use Rattle.aeth_group.proofs.ListLemmas.{any_from_passes}
 use Rattle.aeth_trace.specs.Channels.{is_channel}
-use Rattle.aeth_chain.proofs.OfferLemmas.{map-map}
 use Rattle.aeth_report.proofs.ChannelLemmas.{is_channel-itself}
 use Rattle.aeth_chain.specs.Chain.{AreDistinct}
 use Rattle.aeth_chain.specs.declared.item.ChainItem.{ChainItem}

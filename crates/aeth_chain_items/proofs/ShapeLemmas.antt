@@ -16,7 +16,7 @@ use Rattle.aeth_base.specs.declared.ids.Side.{Side}
 use Rattle.aeth_base.specs.declared.ids.Side.TheVariants.{Back, Fwd}
 use Rattle.aeth_base.specs.declared.ids.UseId.{UseId}
 use Rattle.aeth_base.specs.Sides.{channels_with}
-use Rattle.aeth_base.proofs.Lists.{map-slice_get}
+use Rattle.aeth_base.proofs.Lists.{item-at, map-slice_get}
 use Rattle.aeth_base.proofs.Members.{All-slice_get, Contains-filter, Contains-flat_map, Contains-here}
 use Rattle.aeth_base.proofs.Members.{Contains-there, slice_get-Contains}
 use Rattle.aeth_base.proofs.Ranges.{Contains-range}
@@ -43,12 +43,6 @@ use Rattle.aeth_chain_items.specs.Shapes.{AreShapesIn, shape_in, shapes_in}
 use Rattle.aeth_chain_items.proofs.WorkLemmas.{works-inner, works-last, works-some}
 
 -- ---- lists
-
--- There is something at each place of a list.
-value-at : {X : Type 0} (xs : List X) (i : ℕ) → i < length xs
-    → (x : X) × (slice_get xs i ≡ Some x)
-value-at [] i within = absurd (omega arith)
-value-at (x ∷ xs) i within = (get_or (x ∷ xs) i x, slice_get-get_or (x ∷ xs) i x within)
 
 -- The values of a list each element of which has one.
 record Mapped {X Y : Type 0} (told : X → Option Y) (xs : List X) : Type 0 where
@@ -151,7 +145,7 @@ module _ (chip : ChipData) (app : AppData) (plan : PlanData) (u : UseId) (tables
       ] in
       let own = get_or tables.rows first row in
       let beside = keep.beside in
-      let (shape, shape_is) = value-at tables.shapes first (omega (arith, low, beside)) in (
+      let (shape, shape_is) = item-at tables.shapes first (omega (arith, low, beside)) in (
         shape,
         record {
           is = ap (λ b. option_and_then (slice_get tables.shapes) (cond b (Some first) None))
@@ -214,7 +208,7 @@ module _ (chip : ChipData) (app : AppData) (plan : PlanData) (u : UseId) (tables
     own-item i shape beside =
         let within = slice_get_within (shapes_in tables items) i shape beside in
         let count = found-each.count in
-        let (item, at) = value-at items i (omega (arith, within, count)) in
+        let (item, at) = item-at items i (omega (arith, within, count)) in
         (item, found-shapes i item shape at beside)
 
     abbrev works : List ℕ

@@ -1,14 +1,12 @@
 -- The order of grants: a rising list is ordered at all places.
 use Rattle.std.proofs.Common.{◌≡◌, ◌∙◌, ◌<◌, ℕ, zero, suc, true, false, eqb, List, []}
-use Rattle.std.proofs.Common.{◌∷◌, Some, slice_get, refl, sym, ap, arith}
+use Rattle.std.proofs.Common.{◌∷◌, Some, slice_get, sym, ap, arith}
 use Rattle.std.proofs.lemmas.Bool.{cond-true, eq-eqb}
 use Rattle.std.proofs.lemmas.Option.{none-some, same_Some}
-use Rattle.aeth_base.specs.declared.ids.Side.{Side}
-use Rattle.aeth_base.specs.declared.ids.Side.TheVariants.{Fwd, Back}
 use Rattle.aeth_group.specs.declared.grant.Grant.{Grant}
 use Rattle.aeth_text.specs.Order.{Rises, RisesAfter}
 use Rattle.aeth_plan.specs.Plan.{grant_before, side_before}
-use Rattle.aeth_plan.proofs.MadePlans.{before_trans}
+use Rattle.aeth_plan.proofs.MadePlans.{before_trans, side_before-itself}
 
 by_side : (a b : Grant) → a.unit.conn.0 ≡ b.unit.conn.0 → a.unit.group.0 ≡ b.unit.group.0
     → grant_before a b ≡ side_before a.side b.side
@@ -16,15 +14,11 @@ by_side a b conn group =
     cond-true (eqb a.unit.conn.0 b.unit.conn.0) _ _ (eq-eqb _ _ conn)
     ∙ cond-true (eqb a.unit.group.0 b.unit.group.0) _ _ (eq-eqb _ _ group)
 
-side_not_before : (s : Side) → side_before s s ≡ false
-side_not_before Fwd = refl
-side_not_before Back = refl
-
 -- A grant comes before none with its connection, group and side.
 pub not_before : (a b : Grant) → a.unit.conn.0 ≡ b.unit.conn.0
     → a.unit.group.0 ≡ b.unit.group.0 → a.side ≡ b.side → grant_before a b ≡ false
 not_before a b conn group side =
-    by_side a b conn group ∙ ap (λ s. side_before a.side s) (sym side) ∙ side_not_before a.side
+    by_side a b conn group ∙ ap (λ s. side_before a.side s) (sym side) ∙ side_before-itself a.side
 
 before_all : (last : Grant) (xs : List Grant) → RisesAfter grant_before last xs → (i : ℕ)
     (x : Grant) → slice_get xs i ≡ Some x → grant_before last x ≡ true

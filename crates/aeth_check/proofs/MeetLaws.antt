@@ -15,6 +15,7 @@ use Rattle.aeth_slots.specs.SlotSet.{Slots, common, rotated, slots_where}
 use Rattle.aeth_slots.proofs.SlotSetLemmas.{Contains-common, Contains-rotated}
 use Rattle.aeth_slots.proofs.TestLemmas.{Contains-where}
 use Rattle.aeth_base.proofs.Lists.{drop-slice_get}
+use Rattle.aeth_base.proofs.Members.{Contains-some}
 use Rattle.aeth_group.proofs.ListLemmas.{any_from_passes, passes_from_any, same_tests}
 use Rattle.aeth_check.specs.Meetings.{meets}
 use Rattle.aeth_group.specs.Tables.{IsTable}
@@ -22,9 +23,6 @@ use Rattle.aeth_group.specs.Tables.{IsTable}
 some_item : (xs : List ℕ) → 0 < length xs → (x : ℕ) × Contains xs x
 some_item [] some = absurd (omega arith)
 some_item (x ∷ xs) some = (x, (0, omega arith, refl))
-
-has_item : (xs : List ℕ) (x : ℕ) → Contains xs x → 0 < length xs
-has_item xs x has = omega (arith, has.1)
 
 -- A mask and turned starts have a slot in common exactly where a start comes to a slot of the mask.
 pub common_decides : (size : ℕ) (test : ℕ → Bool) (starts : Slots) (after : ℕ) → 0 < size
@@ -50,7 +48,7 @@ common_decides size test starts after some is =
     let below : slot < size = omega arith in
     let in_mask = (Contains-where size test slot).1 (below, start.passes) in
     let in_turned = (Contains-rotated after starts slot).1 (start.item, start.is_in, refl) in
-    lt-ltb 0 _ (has_item (common mask turned).slots slot
+    lt-ltb 0 _ (Contains-some (common mask turned).slots slot
     ((Contains-common mask turned slot).1 (in_mask, in_turned))))
 
 -- The mask of a use case and link has a slot in common with turned starts where a start comes to

@@ -2,6 +2,7 @@
 use Rattle.std.proofs.Common.{◌≡◌, ◌∙◌, ◌+◌, ◌%◌, ◌&&◌, ◌||◌, ℕ, Bool, true, false, List}
 use Rattle.std.proofs.Common.{[], ◌∷◌, length, refl, sym, ap}
 use Rattle.std.specs.List.{list_any, range_with_len}
+use Rattle.std.proofs.Math.Bool.{and-false, and-or_distrib_left}
 use Rattle.aeth_base.specs.declared.ids.LinkId.{LinkId}
 use Rattle.aeth_chip.specs.Paths.{delay_of}
 use Rattle.aeth_chip.specs.declared.node.Link.{Link}
@@ -19,14 +20,6 @@ four true b c d = refl
 four false true true d = refl
 four false true false d = refl
 four false false c d = refl
-
-and-or : (a b c : Bool) → (a && (b || c)) ≡ ((a && b) || (a && c))
-and-or true b c = refl
-and-or false b c = refl
-
-none : (a : Bool) → (a && false) ≡ false
-none true = refl
-none false = refl
 
 any-same : {X : Type 0} (test other : X → Bool) (xs : List X) → ((x : X) → test x ≡ other x)
     → list_any test xs ≡ list_any other xs
@@ -48,10 +41,10 @@ any-or test other (x ∷ xs) =
 
 any-and : {X : Type 0} (fixed : Bool) (test : X → Bool) (xs : List X)
     → list_any (λ x. fixed && test x) xs ≡ (fixed && list_any test xs)
-any-and fixed test [] = sym (none fixed)
+any-and fixed test [] = sym (and-false fixed)
 any-and fixed test (x ∷ xs) =
     ap (λ b. (fixed && test x) || b) (any-and fixed test xs)
-    ∙ sym (and-or fixed (test x) (list_any test xs))
+    ∙ sym (and-or_distrib_left fixed (test x) (list_any test xs))
 
 any-swap : {X Y : Type 0} (test : X → Y → Bool) (xs : List X) (ys : List Y)
     → list_any (λ x. list_any (test x) ys) xs ≡ list_any (λ y. list_any (λ x. test x y) xs) ys

@@ -6,6 +6,7 @@ use Rattle.std.proofs.Math.Nat.{mul-le-mul_right}
 use Rattle.std.proofs.Common.{List, [], ◌∷◌, length, get_or, take, refl, sym, ap, arith}
 use Rattle.std.proofs.Common.{inl, inr}
 use Rattle.std.specs.List.{list_any, range_with_len}
+use Rattle.std.proofs.Math.Bool.{or-false}
 use Rattle.std.proofs.lemmas.Bool.{and_parts, cases_Bool, cases_eq, eq-eqb, lt-ltb, ne_eqb}
 use Rattle.std.proofs.lemmas.List.{take_more}
 use Rattle.std.proofs.lemmas.List.Folds.{list_any-append}
@@ -20,7 +21,6 @@ use Rattle.aeth_group.specs.Occupation.{enters}
 use Rattle.aeth_group.specs.Rows.{uses_of}
 use Rattle.aeth_group.specs.Tables.{Changes, hits_row, hits_uses}
 use Rattle.aeth_group.specs.declared.grant.Grant.{Grant}
-use Rattle.aeth_group.proofs.OccupationLemmas.{or-false}
 use Rattle.aeth_group.proofs.RowLemmas.{any-uses_of, group-has_unit, use_is_there}
 use Rattle.aeth_group.proofs.TableLemmas.{changes-same, changes-then}
 use Rattle.aeth_check.specs.Meetings.{meets, touches}

@@ -1,9 +1,10 @@
 -- Laws of joined lists: one behind another, the first elements of one and those that follow; of
 -- links that join a node to a node; and of open links.
-use Rattle.std.proofs.Common.{◌≡◌, ◌∙◌, ◌+◌, ◌++◌, List, [], ◌∷◌, length}
-use Rattle.std.proofs.Common.{map, Contains, refl, sym, ap, subst, inl, inr}
+use Rattle.std.proofs.Common.{◌≡◌, ◌∙◌, ◌+◌, ◌++◌, ℕ, zero, suc, List, [], ◌∷◌, Some, length}
+use Rattle.std.proofs.Common.{map, slice_get, Contains, refl, sym, ap, subst, inl, inr}
 use Rattle.std.proofs.Common.{length-append}
 use Rattle.std.proofs.lemmas.List.{length-map}
+use Rattle.std.proofs.lemmas.Option.{same_Some}
 use Rattle.aeth_base.proofs.Members.{Contains-cases, Contains-nil}
 use Rattle.aeth_base.specs.declared.ids.LinkId.{LinkId}
 use Rattle.aeth_base.specs.declared.ids.RouterId.{RouterId}
@@ -74,6 +75,20 @@ pub goes-begins : (links : List Link) (l : LinkId) (a b : Node) → IsLinkFrom l
     → BeginsAt links l a
 goes-begins links l a b goes =
     subst (IsLinkFrom links l a) (sym (goes-ends links l a b goes)) goes
+
+-- A link of joined ones begins where the one before it ends.
+pub joined-next : (links : List Link) (a : Node) (path : List LinkId) (j : ℕ) (l m : LinkId)
+    → IsJoined (BeginsAt links) (to_of links) a path → slice_get path j ≡ Some l
+    → slice_get path (suc j) ≡ Some m → BeginsAt links m (to_of links l)
+joined-next links a [] j l m joined here there = absurd (cc here)
+joined-next links a (first ∷ []) zero l m joined here there = absurd (cc there)
+joined-next links a (first ∷ second ∷ path) zero l m joined here there =
+    let one : first ≡ l = same_Some first l here in
+    let two : second ≡ m = same_Some second m there in
+    subst (λ (k : LinkId). BeginsAt links m (to_of links k)) one
+    (subst (λ (k : LinkId). BeginsAt links k (to_of links first)) two joined.1.0)
+joined-next links a (first ∷ path) (suc j) l m joined here there =
+    joined-next links (to_of links first) path j l m joined.1 here there
 
 module _ (links : List Link) where
   -- A link joins the nodes between which it leads.

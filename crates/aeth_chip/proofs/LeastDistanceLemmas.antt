@@ -32,7 +32,7 @@ use Rattle.aeth_chip.proofs.RouterLemmas.{length-distinct_routers}
 -- ---- lists of so many elements
 
 -- A list of so many elements, all in another list, is one of its lists.
-Contains-lists_of : {X : Type 0} (xs ys : List X) → ((y : X) → Contains ys y → Contains xs y)
+pub Contains-lists_of : {X : Type 0} (xs ys : List X) → ((y : X) → Contains ys y → Contains xs y)
     → Contains (lists_of (length ys) xs) ys
 Contains-lists_of xs [] each = Contains-here [] []
 Contains-lists_of xs (y ∷ ys) each =

@@ -10,12 +10,12 @@ use Rattle.std.proofs.lemmas.List.FromFn.{length-map-range_with_len, get_or-map-
 use Rattle.std.proofs.lemmas.Option.{slice_get-get_or, slice_get_past}
 use Rattle.aeth_base.proofs.Lists.{same_list, slice_get-slice_set_same, slice_get-slice_set_other}
 use Rattle.aeth_base.proofs.MarkedLemmas.{filter-alike, filter-short}
+use Rattle.aeth_base.proofs.TestLemmas.{is_some-false}
 use Rattle.aeth_base.specs.Marks.{bit_of, is_marked, marked_from, room_of}
 use Rattle.aeth_clocked.specs.declared.flit.Flit.{Flit}
 use Rattle.aeth_clocked.specs.MarkedWires.{AreMarksOf, marked_flit, marked_wires}
 use Rattle.aeth_clocked.specs.Wires.{flit_on, has_flit, used_from}
 use Rattle.aeth_clocked.proofs.ClearLemmas.{all-empty}
-use Rattle.aeth_clocked.proofs.UsedLemmas.{no-flit}
 
 -- As many links as flits.
 pub as_many_wires : (marks : List ℕ) (flits : List Flit)
@@ -125,7 +125,7 @@ pub flit_on-none : (marks : List ℕ) (flits : List Flit) (link : ℕ)
     → AreMarksOf (length flits) marks → bit_of marks link ≢ 1
     → flit_on (marked_wires marks flits) link ≡ None
 flit_on-none marks flits link are unmarked =
-    no-flit (flit_on (marked_wires marks flits) link)
+    is_some-false (flit_on (marked_wires marks flits) link)
     (has_flit-marked_wires marks flits link are ∙ ne_eqb (bit_of marks link) 1 unmarked)
 
 pub flit_on-some : (marks : List ℕ) (flits : List Flit) (link : ℕ)

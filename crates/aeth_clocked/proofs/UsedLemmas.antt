@@ -1,6 +1,6 @@
 -- Laws of the marks of links with a flit.
-use Rattle.std.proofs.Common.{ℕ, ◌<◌, ◌≤◌, ◌+◌, ◌≡◌, ◌∙◌, refl, sym, ap, inl, inr}
-use Rattle.std.proofs.Common.{Option, Some, None, IsSome, is_some, false}
+use Rattle.std.proofs.Common.{ℕ, ◌<◌, ◌≤◌, ◌+◌, ◌≡◌, ◌∙◌, sym, ap, inl, inr}
+use Rattle.std.proofs.Common.{Option, None, IsSome, is_some}
 use Rattle.std.proofs.Common.{List, [], ◌∷◌, length}
 use Rattle.std.specs.Prelude.{unwrap_or}
 use Rattle.std.proofs.lemmas.Bool.{cases_lt}
@@ -8,6 +8,7 @@ use Rattle.std.proofs.lemmas.Option.{slice_get_past}
 use Rattle.aeth_clocked.specs.declared.flit.Flit.{Flit}
 use Rattle.aeth_clocked.specs.Wires.{flit_on, has_flit, used_from}
 use Rattle.aeth_base.proofs.MarkedLemmas.{next-passing, none-passing}
+use Rattle.aeth_base.proofs.TestLemmas.{is_some-false}
 
 -- A link that has a flit is one of the links.
 pub flit-within : (wires : List (Option Flit)) (link : ℕ) → IsSome (flit_on wires link)
@@ -28,10 +29,6 @@ pub record NextUsed (wires : List (Option Flit)) (from next : ℕ) (rest : List 
   pub some : IsSome (flit_on wires next)
   pub behind : rest ≡ used_from wires (next + 1)
 
-pub no-flit : (flit : Option Flit) → is_some flit ≡ false → flit ≡ None
-no-flit None isnt = refl
-no-flit (Some flit) isnt = absurd (cc isnt)
-
 pub used-next : (wires : List (Option Flit)) (from next : ℕ) (rest : List ℕ)
     → used_from wires from ≡ next ∷ rest → NextUsed wires from next rest
 used-next wires from next rest list =
@@ -40,7 +37,7 @@ used-next wires from next rest list =
       after = found.after;
       below = found.below;
       empty = λ link after below.
-          no-flit (flit_on wires link) (found.none link after below);
+          is_some-false (flit_on wires link) (found.none link after below);
       some = found.is;
       behind = found.behind;
     }
@@ -49,5 +46,5 @@ used-next wires from next rest list =
 pub used-end : (wires : List (Option Flit)) (from : ℕ) → used_from wires from ≡ []
     → (link : ℕ) → from ≤ link → link < length wires → flit_on wires link ≡ None
 used-end wires from list link after below =
-    no-flit (flit_on wires link)
+    is_some-false (flit_on wires link)
     (none-passing (has_flit wires) from (length wires) list link after below)

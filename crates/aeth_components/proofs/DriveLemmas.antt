@@ -6,6 +6,7 @@ use Rattle.std.proofs.lemmas.Bool.{cases_Bool, cases_lt}
 use Rattle.std.proofs.lemmas.List.{length-map}
 use Rattle.std.proofs.lemmas.List.Sums.{sum_by-cons}
 use Rattle.std.proofs.lemmas.Option.{slice_get-get_or, unwrap_or-slice_get}
+use Rattle.aeth_base.proofs.Lists.{map-at}
 use Rattle.aeth_clocked.specs.Driven.{driven, is_output}
 use Rattle.aeth_clocked.specs.Wires.{flit_on}
 use Rattle.aeth_clocked.specs.declared.flit.Flit.{Flit}
@@ -17,7 +18,7 @@ use Rattle.aeth_router.specs.Part.{emit_of, outputs_of}
 use Rattle.aeth_router.specs.declared.part.Part.{Part}
 use Rattle.aeth_router.specs.declared.part.Part.TheVariants.{Interface, Router, Stage, TableRouter}
 use Rattle.aeth_components.proofs.FrameLemmas.{AreDisjoint-parts, from-map, is_output-parts}
-use Rattle.aeth_components.proofs.FrameLemmas.{outputs_of-frame, seen-at}
+use Rattle.aeth_components.proofs.FrameLemmas.{outputs_of-frame}
 use Rattle.aeth_components.proofs.OwnLemmas.{emits-mute, mute-other, output-below}
 use Rattle.aeth_components.proofs.PassedLemmas.{passed-emits, passed-none}
 use Rattle.aeth_components.proofs.SeenLemmas.{frames-seen, outputs_of-seen}
@@ -76,7 +77,7 @@ module _ (parts : List Part) (wires : List (Option Flit)) (ends : Ends) (cycle :
       → flit_on now wire ≡ emit_of (seen wires part) cycle wire
   output-emits settled now is injects i wire part at own =
       let within = output-below parts (length wires) wired i part at wire own in
-      let framed = seen-at frame_of parts i part at in
+      let framed = map-at frame_of parts i part at in
       elim (cases_lt i ends.interfaces) [
         | inl less ↦
             let first = are.first i (frame_of part) framed less in
@@ -107,7 +108,7 @@ module _ (parts : List Part) (wires : List (Option Flit)) (ends : Ends) (cycle :
       output-emits settled now is injects i wire part at own
       ∙ sym (driven-at outputs_of emit_of (all_seen wires parts) i cycle wire (seen wires part)
       (AreDisjoint-parts (all_seen wires parts) (length wires) seen-wired)
-      (seen-at (seen wires) parts i part at)
+      (map-at (seen wires) parts i part at)
       (ap (λ (outputs : ℕ → Bool). outputs wire) (outputs_of-seen wires part) ∙ own))
 
   pub wires-driven : (settled now : List (Option Flit)) → settled ≡ map carried arrivals

@@ -2,6 +2,7 @@
 use Rattle.std.proofs.Common.{ℕ, suc, ◌≡◌, ◌<◌, ◌≤◌, ◌+◌, refl, sym, ◌∙◌, ap, arith, subst}
 use Rattle.std.proofs.Common.{List, Option, Some, None, length, map, true}
 use Rattle.std.specs.Prelude.{replicate}
+use Rattle.aeth_base.proofs.Lists.{map-at}
 use Rattle.aeth_clocked.specs.Wires.{flit_on}
 use Rattle.aeth_clocked.specs.declared.flit.Flit.{Flit}
 use Rattle.aeth_router.proofs.OnwardLemmas.{CameFrom-next, CameFrom-skip, arrival_at-none}
@@ -9,7 +10,6 @@ use Rattle.aeth_router.specs.Onward.{Adds, Arrival, CameFrom, Nothing, arrival_a
 use Rattle.aeth_router.specs.Passing.{forwarded}
 use Rattle.aeth_router.specs.declared.part.Part.{Part}
 use Rattle.aeth_router.specs.declared.part.Part.TheVariants.{Interface, Router, Stage, TableRouter}
-use Rattle.aeth_components.proofs.FrameLemmas.{seen-at}
 use Rattle.aeth_components.proofs.LandedLemmas.{Lands, receiver-at}
 use Rattle.aeth_components.proofs.PassedLemmas.{receiver}
 use Rattle.aeth_components.proofs.WayLemmas.{forwarded-at, forwarded-empty}
@@ -104,4 +104,4 @@ module _ {parts : List Part} {wires : List (Option Flit)} {ends : Ends} {wire nu
       ForwardedTo-step parts wires ends onward onward wire came (λ out below.
       ap (λ (flit : Option Flit). arrived flit (arrival_at onward out))
       (sym (sym (sent-there out) ∙ forwarded-by-interface part out (flit_on wires wire)
-      (lands.are.first number (frame_of part) (seen-at frame_of parts number part at) less))))
+      (lands.are.first number (frame_of part) (map-at frame_of parts number part at) less))))

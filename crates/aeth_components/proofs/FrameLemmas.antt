@@ -1,16 +1,16 @@
 -- Laws of what never changes of components.
-use Rattle.std.proofs.Common.{ℕ, ◌≡◌, refl, sym, ◌∙◌, ap, subst, length, map, Bool, arith}
+use Rattle.std.proofs.Common.{ℕ, ◌≡◌, refl, sym, ◌∙◌, ap, length, map, Bool}
 use Rattle.std.proofs.Common.{List, [], ◌∷◌, get_or, Option, Some, None}
 use Rattle.std.specs.List.{All}
 use Rattle.std.proofs.Common.{◌<◌, zero, suc, slice_get, true}
 use Rattle.std.proofs.lemmas.List.FromFn.{length-map-range_with_len}
 use Rattle.std.proofs.lemmas.Option.{same_Some}
+use Rattle.aeth_base.proofs.Members.{All-from_map}
 use Rattle.aeth_clocked.specs.Driven.{driven, is_output}
 use Rattle.aeth_clocked.proofs.DrivenLemmas.{is_output-at}
 use Rattle.aeth_router.specs.Part.{emit_of}
 use Rattle.std.specs.Prelude.{IsSome}
 use Rattle.std.specs.Option.{option_map}
-use Rattle.std.proofs.lemmas.List.{length-map, get_or-map}
 use Rattle.std.proofs.lemmas.Option.{slice_get-map}
 use Rattle.aeth_clocked.specs.Wires.{AreLinks, flit_on}
 use Rattle.aeth_ni.proofs.InterfaceLemmas.{length-with_queue}
@@ -27,13 +27,6 @@ use Rattle.aeth_ni.specs.Component.{queue_at_cycle}
 use Rattle.aeth_ni.specs.Interface.{InterfaceState, changed, with_queue}
 use Rattle.aeth_ni.specs.Queue.{QueueState, flit_landed}
 use Rattle.aeth_ni.specs.Sending.{flit_sent}
-
--- What holds of all that a list is mapped to.
-All-from_map : {X Y : Type 0} (f : X → Y) (P : Y → Type 0) (xs : List X) → All P (map f xs)
-    → All (λ x. P (f x)) xs
-All-from_map f P xs all place default within =
-    subst P (get_or-map f xs place default (f default) within)
-    (all place (f default) (let size = length-map xs f in omega arith))
 
 -- The outputs of a component are those of its frame, and so are its inputs.
 pub outputs_of-frame : (part : Part) (link : ℕ) → outputs_of part link ≡ sends_by (frame_of part) link
@@ -92,12 +85,6 @@ pub from-map : {X Y : Type 0} (f : X → Y) (xs : List X) (i : ℕ) (y : Y)
 from-map f [] i y at = absurd cc
 from-map f (x ∷ xs) zero y at = (x, refl, sym (same_Some (f x) y at))
 from-map f (x ∷ xs) (suc i) y at = from-map f xs i y at
-
--- What is at a place, seen otherwise.
-pub seen-at : {X : Type 0} (view : Part → X) (parts : List Part) (number : ℕ) (part : Part)
-    → slice_get parts number ≡ Some part → slice_get (map view parts) number ≡ Some (view part)
-seen-at view parts number part at =
-    slice_get-map view parts number ∙ ap (option_map view) at
 
 -- A flit is none that can't be one.
 pub none-unless : (flit : Option Flit) → (IsSome flit → ⊥) → flit ≡ None

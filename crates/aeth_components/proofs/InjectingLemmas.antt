@@ -8,6 +8,7 @@ use Rattle.std.proofs.lemmas.List.{get_or-set_other, get_or-set_same, get_or_def
 use Rattle.std.proofs.lemmas.List.{length-map}
 use Rattle.std.proofs.lemmas.Option.{get_or_from_slice_get, same_Some}
 use Rattle.aeth_base.specs.Marks.{bit_of, room_of}
+use Rattle.aeth_base.proofs.Lists.{map-at}
 use Rattle.aeth_ni.specs.Component.{emitted_by}
 use Rattle.aeth_ni.specs.Interface.{InterfaceState}
 use Rattle.aeth_ni.specs.Queue.{QueueState}
@@ -26,7 +27,6 @@ use Rattle.aeth_components.specs.Switching.{SlotWrite, Writes, entry_of, slot_wr
 use Rattle.aeth_components.specs.Turns.{AreSendersMarked, sends_own}
 use Rattle.aeth_components.proofs.PartLemmas.{length-with_part}
 use Rattle.aeth_components.proofs.SlotLemmas.{entry_of-happened_other, entry_of-happened_own}
-use Rattle.aeth_components.proofs.FrameLemmas.{seen-at}
 
 -- An event is noted where the marks of the slot that it writes have changed at its interface alone.
 pub NotesWrite-set : (event : Event) (write : SlotWrite) (old : List (List ℕ)) (marks new : List ℕ)
@@ -79,7 +79,7 @@ pub table_at-parts : (parts : List Part) (number : ℕ) (part : Part)
     → slice_get parts number ≡ Some part → table_at (map entries_of parts) number ≡ entries_of part
 table_at-parts parts number part at =
     get_or_from_slice_get (map entries_of parts) number (entries_of part) []
-    (seen-at entries_of parts number part at)
+    (map-at entries_of parts number part at)
 
 -- A slot with an entry is one of the table.
 pub entry-within : (table : List (Option ℕ)) (slot queue : ℕ)

@@ -4,6 +4,7 @@ use Rattle.std.proofs.Common.{is_some, List, fold, get_or, length, map, set, Opt
 use Rattle.std.proofs.Common.{slice_get}
 use Rattle.std.proofs.lemmas.Bool.{cases_eq, eq-eqb, eqb-true}
 use Rattle.std.proofs.lemmas.Option.{get_or_from_slice_get, same_Some}
+use Rattle.aeth_base.proofs.Lists.{map-at}
 use Rattle.aeth_clocked.specs.Wires.{flit_on}
 use Rattle.aeth_clocked.specs.declared.flit.Flit.{Flit}
 use Rattle.aeth_ni.specs.Component.{absorbed, arrival_of, interface_absorb}
@@ -18,7 +19,6 @@ use Rattle.aeth_components.specs.Seen.{flits_landed, interfaces_latched, landed}
 use Rattle.aeth_components.specs.declared.ends.Ends.{Ends}
 use Rattle.aeth_components.specs.declared.lane.Lane.{Lane}
 use Rattle.aeth_components.proofs.ComeLemmas.{came-found, came_to, landing-same, landing_of}
-use Rattle.aeth_components.proofs.FrameLemmas.{seen-at}
 use Rattle.aeth_components.proofs.MapLemmas.{map-agree, map-apart}
 use Rattle.aeth_components.proofs.PassedLemmas.{end-of, input-of, receiver}
 use Rattle.aeth_components.proofs.TakenLemmas.{OneMore}
@@ -69,17 +69,17 @@ module _ {parts : List Part} {wires : List (Option Flit)} {ends : Ends} {wire nu
         let (part, at) = receiver-at in
         ap (λ (parts : List Part). get_or parts number default) is
         ∙ get_or_from_slice_get (flits_landed old parts) number part default
-        (seen-at (landing_of old) parts number part at
+        (map-at (landing_of old) parts number part at
         ∙ ap (λ (part : Part). Some part) (on_interface-other
         (λ ni. landed (flit_on old ni.entering.0) ni) part
-        (lands.are.others number (frame_of part) (seen-at frame_of parts number part at) over)))
+        (lands.are.others number (frame_of part) (map-at frame_of parts number part at) over)))
 
     same-past : (i : ℕ) (ni : InterfaceState) → slice_get parts i ≡ Some (Interface ni)
         → flit_on new ni.entering.0 ≡ flit_on old ni.entering.0
     same-past i ni at = elim (cases_eq i number) [
       | inl same ↦
           absurd (cc (lands.are.others number (frame_of (Interface ni))
-          (seen-at frame_of parts number (Interface ni) (ap (slice_get parts) (sym same) ∙ at)) over))
+          (map-at frame_of parts number (Interface ni) (ap (slice_get parts) (sym same) ∙ at)) over))
       | inr apart ↦ same-apart i ni at apart
     ]
 
@@ -119,13 +119,13 @@ module _ {parts : List Part} {wires : List (Option Flit)} {ends : Ends} {wire nu
     )
     as-interface (Router router) at =
         absurd (cc (lands.are.first number (frame_of (Router router))
-        (seen-at frame_of parts number (Router router) at) less))
+        (map-at frame_of parts number (Router router) at) less))
     as-interface (TableRouter router) at =
         absurd (cc (lands.are.first number (frame_of (TableRouter router))
-        (seen-at frame_of parts number (TableRouter router) at) less))
+        (map-at frame_of parts number (TableRouter router) at) less))
     as-interface (Stage stage) at =
         absurd (cc (lands.are.first number (frame_of (Stage stage))
-        (seen-at frame_of parts number (Stage stage) at) less))
+        (map-at frame_of parts number (Stage stage) at) less))
 
     abbrev interface : (ni : InterfaceState) × (slice_get parts number ≡ Some (Interface ni))
         × (ni.entering.0 ≡ wire)
@@ -148,7 +148,7 @@ module _ {parts : List Part} {wires : List (Option Flit)} {ends : Ends} {wire nu
         let held : get_or before number default ≡ Interface ni =
         ap (λ (parts : List Part). get_or parts number default) first
         ∙ get_or_from_slice_get (flits_landed old parts) number (Interface ni) default
-        (seen-at (landing_of old) parts number (Interface ni) at
+        (map-at (landing_of old) parts number (Interface ni) at
         ∙ ap (λ (flit : Option Flit). Some (Interface (landed flit ni))) was) in
         ap (λ (parts : List Part). set parts number part) first
         ∙ sym (map-apart (landing_of new) (landing_of old) parts number part
@@ -186,10 +186,10 @@ module _ {parts : List Part} {wires : List (Option Flit)} {ends : Ends} {wire nu
           let all : flit_on wires ni.entering.0 ≡ Some flit =
           ap (flit_on wires) interface.2 ∙ lands.has in
           ap (λ (parts : List Part). slice_get parts number) landed_now
-          ∙ seen-at (landing_of new) parts number (Interface ni) at
+          ∙ map-at (landing_of new) parts number (Interface ni) at
           ∙ ap (λ (flit : Option Flit). Some (Interface (landed flit ni))) is
           ∙ ap (λ (flit : Option Flit). Some (Interface (absorbed (arrival_of flit) ni))) (sym all)
-          ∙ sym (seen-at (on_interface (λ ni. interface_absorb ni wires)) parts number (Interface ni) at)
+          ∙ sym (map-at (on_interface (λ ni. interface_absorb ni wires)) parts number (Interface ni) at)
 
       pub counts-more
           : map (counted_among (λ i. i == number) cycle now)

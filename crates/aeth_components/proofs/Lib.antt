@@ -34,7 +34,6 @@ mod OwnLemmas
 pub mod PartLemmas
 mod PassedLemmas
 pub mod QueueLemmas
-mod ReadLemmas
 mod ReadyLemmas
 mod ReceivedLemmas
 mod ReceiverLemmas
@@ -43,7 +42,7 @@ pub mod SeenCycle
 pub mod SeenLemmas
 pub mod SeenPhases
 mod SendingLemmas
-mod SkipLemmas
+pub mod SkipLemmas
 mod SlotLemmas
 mod SwitchingLemmas
 mod TableLemmas

@@ -4,6 +4,7 @@ use Rattle.std.proofs.Common.{true, false, if◌then◌else◌, nat_lt}
 use Rattle.std.proofs.Common.{List, Option, Some, None, length, map, slice_get}
 use Rattle.std.specs.List.{All}
 use Rattle.std.proofs.lemmas.Bool.{cases_lt, le-ltb, lt-ltb}
+use Rattle.aeth_base.proofs.Lists.{map-at}
 use Rattle.aeth_base.proofs.Members.{All-slice_get}
 use Rattle.aeth_clocked.specs.Wires.{flit_on}
 use Rattle.aeth_clocked.specs.declared.flit.Flit.{Flit}
@@ -12,7 +13,6 @@ use Rattle.aeth_router.specs.Onward.{Adds, Arrival, CameFrom, arrival_at, arrive
 use Rattle.aeth_router.specs.Passing.{forwarded, has_table, passed}
 use Rattle.aeth_router.specs.declared.part.Part.{Part}
 use Rattle.aeth_components.proofs.ArrivalLemmas.{CameFrom-more, CameFrom-same}
-use Rattle.aeth_components.proofs.FrameLemmas.{seen-at}
 use Rattle.aeth_components.proofs.PassedLemmas.{passed-at, receiver}
 use Rattle.aeth_components.proofs.WayLemmas.{forwarded-at, forwarded-by-table, forwarded-empty}
 use Rattle.aeth_components.proofs.WayLemmas.{passed-alike}
@@ -164,5 +164,5 @@ module _ (parts : List Part) (wires : List (Option Flit)) (ends : Ends) (cycle :
         let (i, part, at, ends_at) = receiver parts wires ends cycle wired are wire within in
         IsAlike-part i wire part at ends_at
         (All-slice_get (λ way. way.by_table ≡ false) (map way_of parts) i (way_of part) none
-        (seen-at way_of parts i part at)) out)
+        (map-at way_of parts i part at)) out)
         (came out below)

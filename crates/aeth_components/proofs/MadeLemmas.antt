@@ -9,6 +9,7 @@ use Rattle.std.specs.Option.{option_map}
 use Rattle.std.proofs.lemmas.List.{length-append, take_all}
 use Rattle.std.proofs.lemmas.List.FromFn.{length-map-range_with_len}
 use Rattle.std.proofs.lemmas.Option.{slice_get-get_or, slice_get-map, slice_get_within, same_Some}
+use Rattle.aeth_base.proofs.Lists.{item-at}
 use Rattle.aeth_chip.specs.Chip.{ChipData, IsChip, IsNode}
 use Rattle.aeth_chip.specs.Nodes.{begins_at, receives_on, same_node, sends_on}
 use Rattle.aeth_chip.specs.Wires.{further_wires, wire_at, wires_of}
@@ -23,7 +24,7 @@ use Rattle.aeth_router.specs.Router.{is_among, last_wire}
 use Rattle.aeth_router.specs.declared.part.Part.{Part}
 use Rattle.aeth_components.proofs.FrameLemmas.{from-map}
 use Rattle.aeth_components.proofs.MadeParts.{StageAt, among-first, among-only, at-append, at-range}
-use Rattle.aeth_components.proofs.MadeParts.{item-at, length-made_stages}
+use Rattle.aeth_components.proofs.MadeParts.{length-made_stages}
 use Rattle.aeth_components.specs.Ends.{part_number}
 use Rattle.aeth_components.proofs.MadeParts.{part_number-below}
 use Rattle.aeth_chip.proofs.NodeLemmas.{same_node-refl}

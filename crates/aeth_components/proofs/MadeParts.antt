@@ -18,6 +18,7 @@ use Rattle.aeth_chip.specs.declared.node.Node.TheVariants.{Router, Ni}
 use Rattle.aeth_chip.proofs.WireLemmas.{sum_by-take_more}
 use Rattle.aeth_router.specs.Router.{is_among}
 use Rattle.aeth_router.specs.declared.part.Part.{Part}
+use Rattle.aeth_base.proofs.Lists.{item-at}
 use Rattle.aeth_base.proofs.Ranges.{range_with_len-more}
 use Rattle.std.proofs.lemmas.List.{flat_map_more}
 use Rattle.std.specs.List.{flat_map}
@@ -81,12 +82,6 @@ pub among-only : (list : List ℕ) (only link : ℕ) → list ≡ only ∷ []
 among-only list only link is same =
     let here : (only == link) ≡ true = rw is at same in
     rw is (rw here refl)
-
--- A list has an item at each place within.
-pub item-at : {X : Type 0} (xs : List X) (i : ℕ) → i < length xs → (x : X) × (slice_get xs i ≡ Some x)
-item-at [] i within = absurd (omega arith)
-item-at (x ∷ xs) zero within = (x, refl)
-item-at (x ∷ xs) (suc i) within = item-at xs i (omega arith)
 
 -- The stage of a number among those of the first links: its link, its place, and the component.
 pub record StageAt (links : List Link) (number : ℕ) (part : Part) : Type 0 where

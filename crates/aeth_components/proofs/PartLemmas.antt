@@ -46,6 +46,17 @@ length-with_part zero change (part ∷ parts) = refl
 length-with_part (suc number) change (part ∷ parts) =
     ap (λ n. suc n) (length-with_part number change parts)
 
+-- A change that changes nothing of the component at its place changes none.
+pub with_part-same : (number : ℕ) (change : Part → Part) (parts : List Part)
+    → ((part : Part) → slice_get parts number ≡ Some part → change part ≡ part)
+    → with_part number change parts ≡ parts
+with_part-same number change [] same = refl
+with_part-same zero change (part ∷ parts) same =
+    ap (λ (part : Part). part ∷ parts) (same part refl)
+with_part-same (suc number) change (part ∷ parts) same =
+    ap (λ (rest : List Part). part ∷ rest)
+    (with_part-same number change parts (λ other at. same other at))
+
 -- What a change keeps of each component it keeps of all.
 module _ {X : Type 0} (view : Part → X) where
   pub views-with_part : (number : ℕ) (change : Part → Part)

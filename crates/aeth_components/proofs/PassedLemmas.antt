@@ -4,6 +4,7 @@ use Rattle.std.proofs.Common.{List, Option, Some, None, length, map, slice_get, 
 use Rattle.std.specs.Prelude.{IsSome}
 use Rattle.std.proofs.lemmas.Bool.{cases_Bool, eqb-true}
 use Rattle.std.proofs.lemmas.Option.{same_Some}
+use Rattle.aeth_base.proofs.Lists.{map-at}
 use Rattle.aeth_base.proofs.Members.{All-slice_get}
 use Rattle.aeth_clocked.specs.Wires.{AreLinks, flit_on}
 use Rattle.aeth_clocked.specs.declared.flit.Flit.{Flit}
@@ -14,7 +15,7 @@ use Rattle.aeth_router.specs.Passing.{IsSole, passed}
 use Rattle.aeth_router.specs.declared.part.Part.{Part}
 use Rattle.aeth_router.specs.declared.part.Part.TheVariants.{Interface, Router, Stage, TableRouter}
 use Rattle.aeth_components.proofs.FrameLemmas.{AreDisjoint-parts, AreLinks-inputs, from-map}
-use Rattle.aeth_components.proofs.FrameLemmas.{inputs_of-frame, none-unless, seen-at}
+use Rattle.aeth_components.proofs.FrameLemmas.{inputs_of-frame, none-unless}
 use Rattle.aeth_components.proofs.CarriedLemmas.{carried-none, carried-sole}
 use Rattle.aeth_components.specs.Ends.{AreEnds}
 use Rattle.aeth_components.specs.Frames.{AreInputsApart, Frame, IsWired, frame_of, receives_by}
@@ -29,7 +30,7 @@ module _ (parts : List Part) (wires : List (Option Flit)) (ends : Ends) (cycle :
   pub end-of : (i wire : ℕ) (part : Part) → slice_get parts i ≡ Some part
       → inputs_of part wire ≡ true → slice_get ends.receivers.items wire ≡ Some i
   end-of i wire part at is =
-      are.receives.at wire i (frame_of part) (seen-at frame_of parts i part at) (sym (inputs_of-frame part wire) ∙ is)
+      are.receives.at wire i (frame_of part) (map-at frame_of parts i part at) (sym (inputs_of-frame part wire) ∙ is)
 
   -- And who is at the end of a wire receives there.
   pub input-of : (i wire : ℕ) (part : Part) → wire < length wires → slice_get parts i ≡ Some part
@@ -39,7 +40,7 @@ module _ (parts : List Part) (wires : List (Option Flit)) (ends : Ends) (cycle :
       let same : j ≡ i = same_Some j i (sym (are.receives.at wire j frame there receives) ∙ ends_at) in
       let framed_too : frame ≡ frame_of part =
       same_Some frame (frame_of part)
-      (sym there ∙ ap (slice_get (map frame_of parts)) same ∙ seen-at frame_of parts i part at) in
+      (sym there ∙ ap (slice_get (map frame_of parts)) same ∙ map-at frame_of parts i part at) in
       inputs_of-frame part wire
       ∙ ap (λ (frame : Frame). receives_by frame wire) (sym framed_too) ∙ receives
 
@@ -98,11 +99,11 @@ module _ (parts : List Part) (wires : List (Option Flit)) (ends : Ends) (cycle :
       → CameFrom (passed_from ends.receivers.items parts wires cycle out) (length wires) arrival
       → carried arrival ≡ emit_of (seen wires part) cycle out
   passed-emits i out (Interface ni) arrival at over is came =
-      absurd (cc (are.others i (frame_of (Interface ni)) (seen-at frame_of parts i (Interface ni) at) over))
+      absurd (cc (are.others i (frame_of (Interface ni)) (map-at frame_of parts i (Interface ni) at) over))
   passed-emits i out (Router router) arrival at over is came =
       emits i out (Router router) arrival _ at is came
       (router-sole router (All-slice_get AreInputsApart (map frame_of parts) i
-      (frame_of (Router router)) are.received.apart (seen-at frame_of parts i (Router router) at)) wires cycle out)
+      (frame_of (Router router)) are.received.apart (map-at frame_of parts i (Router router) at)) wires cycle out)
   passed-emits i out (TableRouter router) arrival at over is came =
       emits i out (TableRouter router) arrival _ at is came
       (table-sole router wires cycle out)
@@ -124,8 +125,8 @@ module _ (parts : List Part) (wires : List (Option Flit)) (ends : Ends) (cycle :
             (passed-own i wire out (Interface ni) within at is some),
       )))
   passed-none i out (Router router) arrival at less is came =
-      absurd (cc (are.first i (frame_of (Router router)) (seen-at frame_of parts i (Router router) at) less))
+      absurd (cc (are.first i (frame_of (Router router)) (map-at frame_of parts i (Router router) at) less))
   passed-none i out (TableRouter router) arrival at less is came =
-      absurd (cc (are.first i (frame_of (TableRouter router)) (seen-at frame_of parts i (TableRouter router) at) less))
+      absurd (cc (are.first i (frame_of (TableRouter router)) (map-at frame_of parts i (TableRouter router) at) less))
   passed-none i out (Stage stage) arrival at less is came =
-      absurd (cc (are.first i (frame_of (Stage stage)) (seen-at frame_of parts i (Stage stage) at) less))
+      absurd (cc (are.first i (frame_of (Stage stage)) (map-at frame_of parts i (Stage stage) at) less))

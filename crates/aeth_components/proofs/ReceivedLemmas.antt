@@ -5,7 +5,7 @@ use Rattle.std.proofs.lemmas.Bool.{cases_eq, cases_lt, eq-eqb, eqb-true}
 use Rattle.std.specs.Prelude.{slice_index}
 use Rattle.std.specs.Option.{option_map}
 use Rattle.std.proofs.lemmas.Option.{slice_get-get_or, slice_get-map}
-use Rattle.aeth_base.proofs.Lists.{map-slice_get}
+use Rattle.aeth_base.proofs.Lists.{item-at, map-slice_get}
 use Rattle.aeth_base.proofs.Members.{Contains-list_any, Contains-map, list_any-Contains}
 use Rattle.aeth_chip.specs.Chip.{ChipData, IsChip, IsNode}
 use Rattle.aeth_chip.specs.Nodes.{ends_at, receives_on, same_node}
@@ -19,6 +19,7 @@ use Rattle.aeth_chip.proofs.WireLemmas.{wires_of-split}
 use Rattle.aeth_router.specs.Router.{AreDistinctLinks, is_among, last_wire}
 use Rattle.aeth_router.specs.declared.part.Part.{Part}
 use Rattle.aeth_router.proofs.LinkLemmas.{is_among-from_passes}
+use Rattle.aeth_router.proofs.WireLemmas.{last_wire-is}
 use Rattle.aeth_components.specs.Components.{part_count}
 use Rattle.aeth_components.specs.Ends.{AreReceived, part_number, receiver_for, stage_number}
 use Rattle.aeth_components.specs.Frames.{AreInputsApart, frame_of, receives_by}
@@ -27,7 +28,7 @@ use Rattle.aeth_components.specs.declared.making.RouterKind.TheVariants.{ByHeade
 use Rattle.aeth_components.proofs.EndLemmas.{ReceivesAt, last-receiver, stage-receiver}
 use Rattle.aeth_components.proofs.MadeLemmas.{Made, IsInterface, IsRouter, IsStage}
 use Rattle.aeth_components.proofs.MadeLemmas.{length-new_parts, length-stages, made-at, part-at}
-use Rattle.aeth_components.proofs.MadeParts.{among-first, item-at, part_number-below, stage-at}
+use Rattle.aeth_components.proofs.MadeParts.{among-first, part_number-below, stage-at}
 use Rattle.aeth_components.proofs.ReceiverLemmas.{wires-apart}
 
 -- The image of one of the numbers is among their images.
@@ -36,11 +37,6 @@ is_among-map : (change : ℕ → ℕ) (numbers : List ℕ) (number : ℕ)
 is_among-map change numbers number among =
     Contains-list_any (map change numbers) (change number)
     (Contains-map change numbers number (list_any-Contains numbers number among))
-
--- The last wire of a link that is there.
-last_wire-is : (links : List Link) (number : ℕ) (link : Link) → slice_get links number ≡ Some link
-    → last_wire links number ≡ wire_at links number (link.delay - 1)
-last_wire-is links number link at = rw at refl
 
 module _ (chip : ChipData) (is_chip : IsChip chip) (rooms : List ℕ) where
   -- Each wire of a link has a receiver.

@@ -7,11 +7,12 @@ use Rattle.std.specs.List.{All, flat_map, range_with_len}
 use Rattle.std.specs.Option.{option_map_or}
 use Rattle.std.proofs.lemmas.Bool.{cases_Bool}
 use Rattle.std.proofs.lemmas.List.{get_or-map, length-map, map-append}
-use Rattle.std.proofs.lemmas.Option.{unwrap_or-slice_get}
 use Rattle.aeth_base.specs.declared.ids.LinkId.{LinkId}
+use Rattle.aeth_base.proofs.Lists.{map-at}
 use Rattle.aeth_chip.specs.Chip.{ChipData}
 use Rattle.aeth_chip.specs.Wires.{wire_at}
 use Rattle.aeth_chip.specs.declared.node.Link.{Link}
+use Rattle.aeth_clocked.proofs.ClearLemmas.{flit_on-replicate}
 use Rattle.aeth_clocked.specs.Wires.{flit_on}
 use Rattle.aeth_clocked.specs.declared.flit.Flit.{Flit}
 use Rattle.aeth_router.specs.Router.{entering_wires, new_router}
@@ -20,7 +21,6 @@ use Rattle.aeth_router.specs.TableRouter.{TableRouterState, new_table_router, ta
 use Rattle.aeth_router.specs.declared.part.Part.{Part}
 use Rattle.aeth_router.specs.declared.part.Part.TheVariants.{Interface, Router, Stage, TableRouter}
 use Rattle.aeth_router.specs.declared.router_row.RouterRow.{RouterRow}
-use Rattle.aeth_router.proofs.TableLemmas.{get_or-same}
 use Rattle.aeth_ni.specs.Component.{arrival_of, interface_absorb, last_of}
 use Rattle.aeth_ni.specs.Interface.{InterfaceState}
 use Rattle.aeth_components.specs.Changes.{on_interface}
@@ -37,7 +37,6 @@ use Rattle.aeth_components.specs.declared.lane.Lane.{Lane}
 use Rattle.aeth_components.specs.declared.making.RouterKind.{RouterKind}
 use Rattle.aeth_components.specs.declared.making.RouterKind.TheVariants.{ByHeader, ByTable}
 use Rattle.aeth_components.proofs.FrameLemmas.{from-map}
-use Rattle.aeth_components.proofs.FrameLemmas.{seen-at}
 
 module _ (wires : List (Option Flit)) where
   -- What a router holds is nothing to the rows that enter its table.
@@ -156,7 +155,7 @@ module _ (wires : List (Option Flit)) where
   HasSender-seen parts cycle sender = record {
     number = sender.number;
     part = seen wires sender.part;
-    at = seen-at (seen wires) parts sender.number sender.part sender.at;
+    at = map-at (seen wires) parts sender.number sender.part sender.at;
     sends = sends_own-seen cycle sender.part ∙ sender.sends;
   }
 
@@ -173,13 +172,10 @@ module _ (wires : List (Option Flit)) where
 
 -- Where no wire has a flit the components of a chip hold what they do at first.
 module _ (count : ℕ) where
-  flit-none : (link : ℕ) → flit_on (replicate count None) link ≡ None
-  flit-none link = unwrap_or-slice_get (replicate count None) link None ∙ get_or-same None count link
-
   held-none : (links : List ℕ)
       → map (flit_on (replicate count None)) links ≡ replicate (length links) None
   held-none [] = refl
-  held-none (link ∷ links) = rw (flit-none link, held-none links) refl
+  held-none (link ∷ links) = rw (flit_on-replicate count link, held-none links) refl
 
   router-new : (chip : ChipData) (kind : RouterKind) (number : ℕ)
       → seen (replicate count None) (made_router chip kind number) ≡ made_router chip kind number
@@ -193,12 +189,12 @@ module _ (count : ℕ) where
   interface-new : (chip : ChipData) (rooms : List ℕ) (number : ℕ)
       → seen (replicate count None) (made_interface chip rooms number)
       ≡ made_interface chip rooms number
-  interface-new chip rooms number = rw (flit-none _) refl
+  interface-new chip rooms number = rw (flit_on-replicate count _) refl
 
   stage-new : (links : List Link) (link place : ℕ)
       → seen (replicate count None) (made_stage links link place) ≡ made_stage links link place
   stage-new links link place =
-      rw (flit-none (wire_at links link place)) refl
+      rw (flit_on-replicate count (wire_at links link place)) refl
 
   made-new : (made : ℕ → Part) → ((n : ℕ) → seen (replicate count None) (made n) ≡ made n)
       → (numbers : List ℕ) → all_seen (replicate count None) (map made numbers) ≡ map made numbers

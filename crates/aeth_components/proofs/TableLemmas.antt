@@ -6,6 +6,7 @@ use Rattle.std.specs.List.{All, range_with_len, slice_index_or}
 use Rattle.std.proofs.lemmas.Bool.{cases_lt}
 use Rattle.std.proofs.lemmas.List.{get_or_past, length-map, length-replicate}
 use Rattle.aeth_base.specs.Marks.{bit_of, room_of}
+use Rattle.aeth_base.proofs.Lists.{item-at, map-at}
 use Rattle.aeth_chip.specs.Chip.{ChipData, IsChip}
 use Rattle.aeth_ni.specs.Queue.{QueueState}
 use Rattle.aeth_router.proofs.TableLemmas.{get_or-same}
@@ -25,9 +26,7 @@ use Rattle.aeth_components.proofs.FrameLemmas.{from-map}
 use Rattle.aeth_components.proofs.InjectingLemmas.{entry-within, table_at-parts}
 use Rattle.aeth_components.proofs.MadeLemmas.{Made, IsInterface, IsRouter, IsStage, length-new_parts}
 use Rattle.aeth_components.proofs.MadeLemmas.{part-at}
-use Rattle.aeth_components.proofs.MadeParts.{item-at}
 use Rattle.aeth_components.proofs.TurnLemmas.{views-pulled, views-refilled, views-turns}
-use Rattle.aeth_components.proofs.FrameLemmas.{seen-at}
 
 -- A change of a queue changes no table, so refilling and taking don't.
 entries-changed : (queue : ℕ) (change : QueueState → QueueState) (part : Part)
@@ -64,7 +63,7 @@ pub tables-replaced : (parts : List Part) (number : ℕ) (part : Part)
 tables-replaced parts number part other at =
     let found = from-map frame_of parts number (frame_of part) at in
     views-slice_set entries_of parts number part
-    (seen-at entries_of parts number found.0 found.1
+    (map-at entries_of parts number found.0 found.1
     ∙ ap (λ (table : List (Option ℕ)). Some table)
     (entries-other found.0 (ap is_interface (sym found.2) ∙ other)
     ∙ sym (entries-other part other)))

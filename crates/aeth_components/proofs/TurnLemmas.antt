@@ -1,5 +1,5 @@
 -- Laws of the turns of lanes.
-use Rattle.std.proofs.Common.{ℕ, zero, suc, ◌≡◌, ◌≤◌, ◌+◌, ◌-◌, refl, sym, ◌∙◌, ap, subst}
+use Rattle.std.proofs.Common.{ℕ, ◌≡◌, ◌≤◌, ◌+◌, ◌-◌, refl, sym, ◌∙◌, ap, subst}
 use Rattle.std.proofs.Common.{arith, inl, inr, true, false, map, drop}
 use Rattle.std.specs.Option.{option_map_or}
 use Rattle.std.proofs.lemmas.Bool.{cases_Bool}
@@ -16,10 +16,10 @@ use Rattle.aeth_components.specs.declared.lane.Lane.{Lane}
 use Rattle.std.proofs.lemmas.List.{append-nil}
 use Rattle.std.proofs.Common.{ap₂}
 use Rattle.aeth_components.proofs.FrameLemmas.{frame_of-changed}
-use Rattle.aeth_components.proofs.PartLemmas.{views-with_part}
+use Rattle.aeth_components.proofs.PartLemmas.{views-with_part, with_part-same}
 use Rattle.aeth_components.proofs.QueueLemmas.{changed-same}
 use Rattle.aeth_components.specs.Busy.{TakesNothing}
-use Rattle.aeth_components.specs.Changes.{at_end, on_interface, told_at, told_by, with_part}
+use Rattle.aeth_components.specs.Changes.{at_end, on_interface, told_at, told_by}
 use Rattle.aeth_components.specs.Frames.{frame_of}
 use Rattle.aeth_components.specs.Lanes.{IsLane, is_open}
 use Rattle.aeth_components.specs.Phases.{Moment, asked_of, drawn_out, handed_on, left_of, pulled}
@@ -91,17 +91,6 @@ refilled-closed words cycle parts lane closed = rw closed refl
 pub pulled-closed : (cycle : ℕ) (parts : List Part) (lane : Lane)
     → is_open lane cycle ≡ false → pulled cycle parts lane ≡ (parts, lane)
 pulled-closed cycle parts lane closed = rw closed refl
-
--- A change that changes nothing of the component at its place changes none.
-with_part-same : (number : ℕ) (change : Part → Part) (parts : List Part)
-    → ((part : Part) → slice_get parts number ≡ Some part → change part ≡ part)
-    → with_part number change parts ≡ parts
-with_part-same number change [] same = refl
-with_part-same zero change (part ∷ parts) same =
-    ap (λ (part : Part). part ∷ parts) (same part refl)
-with_part-same (suc number) change (part ∷ parts) same =
-    ap (λ (rest : List Part). part ∷ rest)
-    (with_part-same number change parts (λ other at. same other at))
 
 on_interface-same : (queue : ℕ) (change : QueueState → QueueState) (part : Part)
     → ((ni : InterfaceState) → part ≡ Interface ni

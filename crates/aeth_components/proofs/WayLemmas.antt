@@ -1,13 +1,13 @@
 -- What components pass on of flits in every cycle alike.
 use Rattle.std.proofs.Common.{ℕ, ◌≡◌, refl, true, false}
 use Rattle.std.proofs.Common.{List, Option, Some, None, map, slice_get}
+use Rattle.aeth_base.proofs.Lists.{map-at}
 use Rattle.aeth_clocked.specs.Wires.{flit_on}
 use Rattle.aeth_clocked.specs.declared.flit.Flit.{Flit}
 use Rattle.aeth_router.proofs.PassingLemmas.{passed-empty}
 use Rattle.aeth_router.specs.Passing.{forwarded, has_table, passed}
 use Rattle.aeth_router.specs.declared.part.Part.{Part}
 use Rattle.aeth_router.specs.declared.part.Part.TheVariants.{Interface, Router, Stage, TableRouter}
-use Rattle.aeth_components.proofs.FrameLemmas.{seen-at}
 use Rattle.aeth_components.specs.Passing.{forwarded_from, way_of}
 
 -- Of no flit nothing is passed on.
@@ -38,4 +38,4 @@ pub forwarded-at : (ends : List ℕ) (parts : List Part) (wires : List (Option F
     (i wire out : ℕ) (part : Part) → slice_get parts i ≡ Some part → slice_get ends wire ≡ Some i
     → forwarded_from ends (map way_of parts) wires out wire ≡ forwarded part out (flit_on wires wire)
 forwarded-at ends parts wires i wire out part at ends_at =
-    rw (ends_at, seen-at way_of parts i part at) refl
+    rw (ends_at, map-at way_of parts i part at) refl

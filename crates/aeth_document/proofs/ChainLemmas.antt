@@ -1,10 +1,16 @@
 -- Laws of rules that are judged one after the other.
 use Rattle.std.proofs.Common.{◌≡◌, ℕ, List, Option, Some, None, refl}
-use Rattle.std.specs.Prelude.{Result, Ok}
+use Rattle.std.specs.Prelude.{Result, Ok, Err}
 use Rattle.aeth_base.specs.Faults.{BrokenRule}
 use Rattle.aeth_base.specs.declared.shown.Broken.{Broken}
 use Rattle.aeth_document.specs.Chain.{◌>>=◌}
 use Rattle.aeth_document.specs.Walks.{judged}
+
+-- Where a chain gives a value, so does its first rule, and the rest gives it of that.
+pub bind_ok : {A B : Type 0} (first : Result A BrokenRule) (next : A → Result B BrokenRule) (y : B)
+    → (first >>= next) ≡ Ok y → (x : A) × (first ≡ Ok x) × (next x ≡ Ok y)
+bind_ok (Ok x) next y e = (x, refl, e)
+bind_ok (Err broken) next y e = absurd (cc e)
 
 -- A rule that is kept has a walk that finds nothing.
 pub judged-none : (rule : ℕ) (name : List ℕ) (found : Option Broken) (kept : Unit {0})

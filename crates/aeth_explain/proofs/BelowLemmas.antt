@@ -6,10 +6,11 @@ use Rattle.std.proofs.Common.{arith, drop, filter, inl, inr, length, length-appe
 use Rattle.std.proofs.Common.{sym, take}
 use Rattle.std.specs.List.{flat_map, list_any, range_with_len}
 use Rattle.std.specs.Prelude.{slice_get}
+use Rattle.std.proofs.Math.Bool.{and-false}
 use Rattle.std.proofs.lemmas.Bool.{and_from, and_parts, both_ways, eq-eqb, false_from_ne_true}
 use Rattle.std.proofs.lemmas.Bool.{not-false, not-true}
 use Rattle.std.proofs.lemmas.List.{take-append-drop, take-append-le}
-use Rattle.aeth_base.proofs.Filters.{filter-yes}
+use Rattle.aeth_base.proofs.Filters.{filter-all_fail, filter-yes}
 use Rattle.aeth_base.proofs.Members.{Contains-cases, Contains-filter, Contains-here, Contains-map}
 use Rattle.aeth_base.proofs.Members.{Contains-nil, Contains-slice_get, filter-Contains}
 use Rattle.aeth_base.proofs.Members.{flat_map-Contains, map-Contains}
@@ -37,7 +38,7 @@ use Rattle.aeth_explain.specs.Verdict.{is_open}
 use Rattle.aeth_explain.specs.Walks.{IsWalked, may_have}
 use Rattle.aeth_explain.proofs.CutLemmas.{begins-append, onward-are}
 use Rattle.aeth_explain.proofs.ListLemmas.{GoesOn, behind_link, dead-passed, onward-has}
-use Rattle.aeth_explain.proofs.OpenLemmas.{all-fail, below-ni, below-none, below-router}
+use Rattle.aeth_explain.proofs.OpenLemmas.{below-ni, below-none, below-router}
 use Rattle.aeth_explain.proofs.RefusalLemmas.{front-dead, path-listed}
 use Rattle.aeth_explain.proofs.TryPathLemmas.{may_take-Decides}
 use Rattle.aeth_explain.proofs.WalkLemmas.{none-has, walked-none}
@@ -66,10 +67,6 @@ begins-own (link ∷ front) rest =
 none-first : {X : Type 0} (xs : List X) (x : X) → slice_get xs 0 ≡ None → Contains xs x → ⊥
 none-first [] x none has = Contains-nil has
 none-first (y ∷ xs) x none has = cc none
-
-and-false : (b : Bool) → (b && false) ≡ false
-and-false true = refl
-and-false false = refl
 
 module _ (chip : ChipData) (groups : GroupsData) (trial : TrialData) (is : IsChip chip) where
   abbrev Walked : List (List LinkId) → List (List LinkId) → Bool → List (List LinkId) → Type 0
@@ -239,7 +236,7 @@ module _ (chip : ChipData) (groups : GroupsData) (trial : TrialData) (is : IsChi
       and_from _ _ (and_from _ _ is_dead_is (ap not fronts)) (tell-goes path rest may) in
       let kept : filter test (lists_below chip.links left node path) ≡ path ∷ [] =
       ap (filter test) below.are ∙ filter-yes test path below.others first
-      ∙ ap (λ ps. path ∷ ps) (all-fail test below.others (λ p has.
+      ∙ ap (λ ps. path ∷ ps) (filter-all_fail test below.others (λ p has.
       let (link, more, same) = below.longer p has in
       ap test same
       ∙ dead-passed chip groups trial path (link ∷ more) some (omega arith) is_dead_is)) in (

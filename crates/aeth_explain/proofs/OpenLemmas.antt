@@ -1,17 +1,18 @@
 -- The first open path of some lists: of lists one after another, and of those below a list.
 use Rattle.std.proofs.Common.{◌<◌, arith, length}
 use Rattle.std.proofs.Common.{◌≡◌, ◌∙◌, ◌+◌, ◌++◌, ◌&&◌, ℕ, zero, suc, Bool, true, false, not}
-use Rattle.std.proofs.Common.{List, [], ◌∷◌, Contains, Option, None, Some, filter, take, drop}
+use Rattle.std.proofs.Common.{List, [], ◌∷◌, Option, None, Some, filter, take, drop}
 use Rattle.std.proofs.Common.{eqb, refl, sym, ap}
 use Rattle.std.specs.List.{flat_map}
 use Rattle.std.specs.Prelude.{slice_get}
+use Rattle.std.proofs.Math.Bool.{and-false}
 use Rattle.std.proofs.lemmas.Bool.{and_from, and_parts}
 use Rattle.std.proofs.lemmas.Grind.{flat_map-append}
 use Rattle.std.proofs.lemmas.List.{append-nil, take-append-drop}
 use Rattle.std.proofs.lemmas.List.Elements.{filter-append}
-use Rattle.aeth_base.proofs.Filters.{filter-no, filter-yes}
+use Rattle.aeth_base.proofs.Filters.{filter-all_fail, filter-no, filter-yes}
 use Rattle.aeth_base.proofs.Lists.{drop-slice_get, take-slice_get}
-use Rattle.aeth_base.proofs.Members.{Contains-here, Contains-there, map-Contains}
+use Rattle.aeth_base.proofs.Members.{map-Contains}
 use Rattle.aeth_base.specs.declared.ids.LinkId.{LinkId}
 use Rattle.aeth_base.specs.declared.ids.NiId.{NiId}
 use Rattle.aeth_base.specs.declared.ids.RouterId.{RouterId}
@@ -57,14 +58,6 @@ module _ {A : Type 0} (test : A → Bool) where
   first-none xs ys at =
       ap (λ zs. slice_get zs 0) (filter-append test xs ys)
       ∙ none-then (filter test xs) (filter test ys) at
-
-  -- Where all fail none is first.
-  pub all-fail : (xs : List A) → ((x : A) → Contains xs x → test x ≡ false)
-      → filter test xs ≡ []
-  all-fail [] fails = refl
-  all-fail (x ∷ xs) fails =
-      filter-no test x xs (fails x (Contains-here x xs))
-      ∙ all-fail xs (λ y has. fails y (Contains-there x xs y has))
 
   module _ {X : Type 0} (f : X → List A) (xs : List X) where
     -- The lists of one more.
@@ -142,22 +135,18 @@ module _ (chip : ChipData) (trial : TrialData) (cuts : List (List LinkId)) where
       → ((rest : List LinkId) → test (path ++ rest) ≡ false)
       → first_open chip trial cuts (lists_below chip.links left node path) ≡ None
   none-below left node path fails =
-      ap (λ ps. slice_get ps 0) (all-fail test (lists_below chip.links left node path)
+      ap (λ ps. slice_get ps 0) (filter-all_fail test (lists_below chip.links left node path)
       (λ p has.
       let (rest, same, among) = map-Contains (λ rest. path ++ rest)
       (onward_lists chip.links left node) p has in
       ap test (sym same) ∙ fails rest))
-
-  never : (may : Bool) → (may && false) ≡ false
-  never true = refl
-  never false = refl
 
   -- Nothing that goes on from a covered list is open.
   pub covered-closed : (path : List LinkId) → is_covered cuts path ≡ true → (rest : List LinkId)
       → test (path ++ rest) ≡ false
   covered-closed path is rest =
       ap (λ b. may_take chip trial (path ++ rest) && not b) (covered-on cuts path rest is)
-      ∙ never (may_take chip trial (path ++ rest))
+      ∙ and-false (may_take chip trial (path ++ rest))
 
   -- Below an interface there is the list alone.
   pub below-ni : (left : ℕ) (ni : NiId) (path : List LinkId)

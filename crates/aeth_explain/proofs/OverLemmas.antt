@@ -1,7 +1,7 @@
 -- What comes of one more link: what is open over it.
-use Rattle.std.proofs.Common.{◌-◌, suc, Option, refl, sym, take, inl, inr}
+use Rattle.std.proofs.Common.{◌-◌, suc, Option, sym, take, inl, inr}
 use Rattle.std.specs.List.{flat_map}
-use Rattle.std.specs.Prelude.{is_some, slice_get}
+use Rattle.std.specs.Prelude.{slice_get}
 use Rattle.std.proofs.lemmas.List.{take_all}
 use Rattle.std.proofs.lemmas.Option.{none-some, slice_get_cases}
 use Rattle.aeth_explain.specs.Fronts.{IsOver}
@@ -124,15 +124,6 @@ none-past xs place none = elim (slice_get_cases xs place).1 [
   | inl found ↦ absurd (none-some found.0 (sym none ∙ found.2))
   | inr past ↦ past.0
 ]
-
--- What is there is something, or nothing.
-pub some-found : {X : Type 0} (o : Option X) → is_some o ≡ true → (x : X) × (o ≡ Some x)
-some-found None is = absurd (cc is)
-some-found (Some x) is = (x, refl)
-
-pub none-found : {X : Type 0} (o : Option X) → is_some o ≡ false → o ≡ None
-none-found None is = refl
-none-found (Some x) is = absurd (cc is)
 
 module _ (listed : Listed) (is : IsListed listed) (a : NiId) (front : Front)
     (at : IsFront listed a front) where

@@ -11,7 +11,8 @@ use Rattle.aeth_base.specs.declared.ids.LinkId.{LinkId}
 use Rattle.aeth_chip.specs.Chip.{ChipData}
 use Rattle.aeth_group.specs.Members.{GroupsData}
 use Rattle.aeth_plan.specs.Rules.{each, found, holds, place_among}
-use Rattle.aeth_plan.proofs.Chains.{bind_ok, ok_is}
+use Rattle.aeth_document.proofs.ChainLemmas.{bind_ok}
+use Rattle.aeth_plan.proofs.Chains.{ok_is}
 use Rattle.aeth_plan.proofs.Places.{all_below, holds_ok}
 use Rattle.aeth_text.specs.Order.{line_after}
 use Rattle.aeth_explain.specs.CutsFaults.{wrong_try}

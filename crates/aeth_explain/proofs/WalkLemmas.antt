@@ -9,13 +9,14 @@ use Rattle.std.proofs.lemmas.List.{append-nil, take-append-drop}
 use Rattle.std.proofs.lemmas.List.Elements.{filter-append}
 use Rattle.std.proofs.lemmas.List.Folds.{list_any-append}
 use Rattle.aeth_base.specs.declared.ids.LinkId.{LinkId}
+use Rattle.aeth_base.proofs.Filters.{filter-all_fail}
 use Rattle.aeth_chip.specs.Chip.{ChipData}
 use Rattle.aeth_group.specs.Members.{GroupsData}
 use Rattle.aeth_group.proofs.ListLemmas.{passes_from_any}
 use Rattle.aeth_paths.specs.Trials.{TrialData}
 use Rattle.aeth_explain.specs.Certificate.{is_first_cut}
 use Rattle.aeth_explain.specs.Walks.{IsWalked, may_have}
-use Rattle.aeth_explain.proofs.OpenLemmas.{all-fail, one-more}
+use Rattle.aeth_explain.proofs.OpenLemmas.{one-more}
 
 module _ (chip : ChipData) (groups : GroupsData) (trial : TrialData) where
   abbrev has : List LinkId → Bool
@@ -58,7 +59,7 @@ module _ (chip : ChipData) (groups : GroupsData) (trial : TrialData) where
       → ((p : List LinkId) → Contains lists p → cut p ≡ false) → Walked lists cuts false cuts
   walked-none lists cuts lacks fails = (
     none-has lists lacks,
-    sym (ap (λ cs. cuts ++ cs) (all-fail cut lists fails) ∙ append-nil cuts),
+    sym (ap (λ cs. cuts ++ cs) (filter-all_fail cut lists fails) ∙ append-nil cuts),
   )
 
   module _ (f : LinkId → List (List LinkId)) (links : List LinkId) where

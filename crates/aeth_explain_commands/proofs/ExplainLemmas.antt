@@ -1,10 +1,9 @@
 -- The text of certificates and their verdicts, try by try.
-use Rattle.std.proofs.Common.{◌≡◌, ◌∙◌, ◌+◌, ◌<◌, ◌≤◌, ◌++◌, ◌∷◌, [], ℕ, List, Some, ap, arith}
-use Rattle.std.proofs.Common.{append_assoc, drop, get_or, inl, inr, length, map, sym, take}
+use Rattle.std.proofs.Common.{◌≡◌, ◌∙◌, ◌+◌, ◌≤◌, ◌++◌, ◌∷◌, [], ℕ, List, Some, ap}
+use Rattle.std.proofs.Common.{append_assoc, drop, length, map, sym, take}
 use Rattle.std.specs.Prelude.{codes, option_map, slice_get, unwrap_or}
 use Rattle.std.proofs.lemmas.Grind.{flat_map-append}
 use Rattle.std.proofs.lemmas.List.{append-nil, drop_all, map-append}
-use Rattle.std.proofs.lemmas.Option.{get_or_from_slice_get, slice_get_cases}
 use Rattle.aeth_alloc.specs.Trials.{refused_of}
 use Rattle.aeth_alloc.specs.declared.outcome.Refused.{Refused}
 use Rattle.aeth_app.specs.App.{AppData}
@@ -19,20 +18,6 @@ use Rattle.aeth_playing.specs.declared.inputs.Design.{Design}
 use Rattle.aeth_text.specs.Order.{line_after}
 use Rattle.aeth_text.specs.Spelling.{ended_line, text_of_lines}
 use Rattle.aeth_explain_commands.specs.Explain.{flaw_of, verdicts_job}
-
--- Below the length of a list there is something.
-pub there : {X : Type 0} (xs : List X) (i : ℕ) → i < length xs → (x : X) × (slice_get xs i ≡ Some x)
-there xs i low = elim (slice_get_cases xs i).1 [
-  | inl found ↦ (found.0, found.2)
-  | inr past ↦ absurd (omega (arith, past.0, low))
-]
-
--- What is read at a place stands there.
-pub at-index : {X : Type 0} (xs : List X) (i : ℕ) (x : X) → i < length xs → x ≡ get_or xs i x
-    → slice_get xs i ≡ Some x
-at-index xs i x low is =
-    let (own, at) = there xs i low in
-    at ∙ ap (λ y. Some y) (sym (is ∙ get_or_from_slice_get xs i own x at))
 
 -- The line of one try more.
 pub lines-more : (tries : List TrialData) (i : ℕ) (refused : Refused)

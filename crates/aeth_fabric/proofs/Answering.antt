@@ -7,12 +7,12 @@ use Rattle.aeth_base.specs.Sides.{other_side}
 use Rattle.aeth_base.specs.declared.ids.CoreId.{CoreId}
 use Rattle.aeth_base.specs.declared.ids.Side.{Side}
 use Rattle.aeth_base.specs.declared.ids.Side.TheVariants.{Back, Fwd}
+use Rattle.aeth_base.proofs.Filters.{filter-map}
 use Rattle.aeth_server.specs.PrivateServer.{accepted}
 use Rattle.aeth_trace.specs.Words.{words_on}
 use Rattle.aeth_trace.specs.declared.words.WordRow.{WordRow}
 use Rattle.aeth_report.specs.Design.{connection_at, queue_at}
 use Rattle.aeth_report.specs.Flows.{Run, is_within}
-use Rattle.aeth_report.proofs.AlikeLemmas.{filter-map}
 use Rattle.aeth_refinement.specs.Accepted.{IsAnswered}
 use Rattle.aeth_fabric.specs.Fabric.{Placed, fabric_over, flow_in, passage_of}
 use Rattle.aeth_fabric.specs.Fabric.{placed_at, placed_of, row_in}

@@ -9,6 +9,7 @@ use Rattle.std.proofs.lemmas.Option.{slice_get-map, slice_get_past}
 use Rattle.aeth_base.specs.Limits.{max_path_delay}
 use Rattle.aeth_base.specs.declared.ids.Channel.{Channel}
 use Rattle.aeth_base.specs.declared.ids.LinkId.{LinkId}
+use Rattle.aeth_base.proofs.Division.{mod-before}
 use Rattle.aeth_chip.specs.Chip.{IsChip}
 use Rattle.aeth_chip.specs.Paths.{delay_in, delay_of, offset}
 use Rattle.aeth_chip.specs.declared.node.Link.{Link}
@@ -27,7 +28,6 @@ use Rattle.aeth_refinement.specs.Fabric.{IsPlace, IsInTables, has_slot}
 use Rattle.aeth_fabric.specs.Fabric.{Placed, entered_by, fabric_over, flow_in, placed_at, placed_of}
 use Rattle.aeth_fabric.specs.Fabric.{stays_in}
 use Rattle.aeth_fabric.specs.Paths.{wires_along}
-use Rattle.aeth_fabric.proofs.Flattened.{mod-behind}
 use Rattle.aeth_fabric.proofs.Numbers.{IsPlacedAt, one_number, placed-there}
 use Rattle.aeth_fabric.proofs.PathWires.{IsWireOf, wires-place}
 
@@ -151,7 +151,7 @@ module _ (run : Run) where
         let ahead_p : x + i ≡ (x + off_p) + of_p.inner = omega (arith, index_p) in
         let ahead_q : y + j ≡ (y + off_q) + of_p.inner = omega (arith, index_q, inner) in
         let slot : (y + off_q) % size ≡ (x + off_p) % size =
-        mod-behind size (y + off_q) (x + off_p) of_p.inner is_chip.some_slots
+        mod-before (y + off_q) (x + off_p) of_p.inner size is_chip.some_slots
         (rw (ahead_p, ahead_q) at (sym same)) in
         let enters_p = enters p i l x t ((x + off_p) % size) one of_p refl in
         let enters_q = enters q j l y t ((x + off_p) % size) two of_q slot in

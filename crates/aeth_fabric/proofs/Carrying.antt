@@ -10,6 +10,7 @@ use Rattle.std.proofs.lemmas.List.Folds.{flat_map-map}
 use Rattle.std.proofs.lemmas.List.FromFn.{get_or-map-range_with_len, length-map-range_with_len}
 use Rattle.std.proofs.lemmas.List.{map-append}
 use Rattle.std.proofs.lemmas.Option.{slice_get-get_or, slice_get_past}
+use Rattle.std.proofs.lemmas.Simd.{map-map}
 use Rattle.aeth_base.specs.Limits.{max_path_delay}
 use Rattle.aeth_base.specs.declared.ids.Channel.{Channel}
 use Rattle.aeth_base.specs.declared.ids.LinkId.{LinkId}
@@ -79,11 +80,6 @@ map-numbered k n [] = refl
 map-numbered {X} {B} k n (x ∷ xs) =
     ap (λ (ys : List B). k x ∷ ys) (map-numbered k (n + 1) xs)
 
-map-twice : {X Y Z : Type 0} (g : Y → Z) (f : X → Y) (xs : List X)
-    → map g (map f xs) ≡ map (λ x. g (f x)) xs
-map-twice g f [] = refl
-map-twice {X} {Y} {Z} g f (x ∷ xs) = ap (λ (zs : List Z). g (f x) ∷ zs) (map-twice g f xs)
-
 module _ (run : Run) where
   -- The flow of a session in the run.
   abbrev flow_there : Placed → Flow
@@ -93,10 +89,10 @@ module _ (run : Run) where
   flows-are : flows_of run ≡ map flow_there (placed_of run)
   flows-are =
       let on : (ch : Channel) → flows_on run ch ≡ map flow_there (placed_on run ch) =
-      λ ch. map-twice (flow_of run ch) (session_of run.spans) (stays_in run ch.conn.0)
+      λ ch. map-map (flow_of run ch) (session_of run.spans) (stays_in run ch.conn.0)
       ∙ sym (map-numbered (λ (s : Stay). flow_of run ch (session_of run.spans s)) 0
       (stays_in run ch.conn.0))
-      ∙ sym (map-twice flow_there (placed_with ch) (enumerate_from 0 (stays_in run ch.conn.0))) in
+      ∙ sym (map-map flow_there (placed_with ch) (enumerate_from 0 (stays_in run ch.conn.0))) in
       ap (λ (f : Channel → List Flow). flat_map f (channels_of run.design.groups.connections))
       (λ i ch. on ch i)
       ∙ sym (map-flat_map flow_there (placed_on run)

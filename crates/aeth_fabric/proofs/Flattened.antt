@@ -1,11 +1,10 @@
 -- Places of lists that are made of others.
-use Rattle.std.proofs.Common.{◌≡◌, ◌<◌, ◌+◌, ◌%◌, ◌∙◌, ℕ, zero, suc, List, [], ◌∷◌, Some}
+use Rattle.std.proofs.Common.{◌≡◌, ◌+◌, ◌∙◌, ℕ, zero, suc, List, [], ◌∷◌, Some}
 use Rattle.std.proofs.Common.{drop, length, take, slice_get, refl, ap, arith}
 use Rattle.std.specs.List.{flat_map}
 use Rattle.std.proofs.lemmas.List.{length-append}
 use Rattle.std.proofs.lemmas.List.Concat.{flat_map-cons}
 use Rattle.std.proofs.lemmas.Option.{same_Some, slice_get_within}
-use Rattle.aeth_refinement.proofs.Tables.{mod-one}
 use Rattle.aeth_reconf.proofs.WriteCounts.{before, behind}
 
 -- What an item of a list gives stands behind what those before it give.
@@ -39,15 +38,3 @@ pub drop-one : {X : Type 0} (xs : List X) (k : ℕ)
 drop-one [] k = refl
 drop-one (x ∷ []) k = refl
 drop-one (x ∷ y ∷ xs) k = refl
-
--- Numbers that are one round a table behind as many more are one round it.
-pub mod-behind : (size a b p : ℕ) → 0 < size → (a + p) % size ≡ (b + p) % size
-    → a % size ≡ b % size
-mod-behind size a b zero some same =
-    let one : a + 0 ≡ a = omega arith in
-    let two : b + 0 ≡ b = omega arith in
-    rw (one, two) at same
-mod-behind size a b (suc p) some same =
-    let one : a + suc p ≡ (a + p) + 1 = omega arith in
-    let two : b + suc p ≡ (b + p) + 1 = omega arith in
-    mod-behind size a b p some (mod-one size (a + p) (b + p) some (rw (one, two) at same))

@@ -1,11 +1,11 @@
 -- The tables of accepted inputs can be written: switches take a cycle for each write.
 use Rattle.std.proofs.Common.{◌≡◌, ◌<◌, ◌&&◌, ◌∙◌, ℕ, Bool, not, List, [], ◌∷◌, filter}
-use Rattle.std.proofs.Common.{map, length, slice_get, Some, refl, sym, ap, inl, inr, arith}
+use Rattle.std.proofs.Common.{map, length, slice_get, Some, sym, ap, arith}
 use Rattle.std.specs.Prelude.{sum_by}
 use Rattle.std.specs.List.{flat_map, range_with_len}
-use Rattle.std.proofs.lemmas.Bool.{cases_Bool}
 use Rattle.std.proofs.lemmas.List.Folds.{flat_map-map}
 use Rattle.aeth_base.specs.declared.ids.Side.TheVariants.{Back, Fwd}
+use Rattle.aeth_base.proofs.Filters.{filter-filter, filter-map}
 use Rattle.aeth_base.proofs.Members.{filter-Contains}
 use Rattle.aeth_group.specs.Members.{group_at, groups_of, has_at, is_kept}
 use Rattle.aeth_group.proofs.MemberLemmas.{length-groups_of}
@@ -15,7 +15,6 @@ use Rattle.aeth_reconf.specs.Rows.{rows_that}
 use Rattle.aeth_reconf.specs.Windows.{AreCounted, AreWritable}
 use Rattle.aeth_report.specs.Channels.{channels_with}
 use Rattle.aeth_report.specs.Sound.{IsSound}
-use Rattle.aeth_report.proofs.AlikeLemmas.{filter-map}
 use Rattle.aeth_tables.specs.Granted.{Granted, granted_in}
 use Rattle.aeth_tables.specs.Switching.{rows_in}
 use Rattle.aeth_tables.specs.Tables.{rows_on}
@@ -25,20 +24,6 @@ use Rattle.aeth_accepted.specs.Inputs.{AreAccepted, Inputs, design_of, row_at, r
 use Rattle.aeth_accepted.proofs.SoundRuns.{AreSpans}
 use Rattle.aeth_accepted.proofs.TableFlows.{row-same}
 use Rattle.aeth_fabric.proofs.Carrying.{flat_map-same, map-flat_map}
-
--- A filter behind a filter is one of both tests.
-filter-twice : {X : Type 0} (one two : X → Bool) (xs : List X)
-    → filter two (filter one xs) ≡ filter (λ x. one x && two x) xs
-filter-twice one two [] = refl
-filter-twice {X} one two (x ∷ xs) =
-    let rest = filter-twice one two xs in
-    elim (cases_Bool (one x)) [
-      | inr fails ↦ rw fails rest
-      | inl passes ↦ elim (cases_Bool (two x)) [
-        | inl both ↦ rw (passes, both) (ap (λ (ys : List X). x ∷ ys) rest)
-        | inr half ↦ rw (passes, half) rest
-      ]
-    ]
 
 module _ (inputs : Inputs) (accepted : AreAccepted inputs) where
   -- The rows of the connections of a use case that pass a test are those of their channels.
@@ -64,7 +49,7 @@ module _ (inputs : Inputs) (accepted : AreAccepted inputs) where
       let conns : map conn some ≡ filter (λ c. has_at groups w c && test c) numbers =
       sym (filter-map test conn all)
       ∙ ap (filter test) (conns_of inputs.chip inputs.app inputs.plan accepted.design w known)
-      ∙ filter-twice (has_at groups w) test numbers in
+      ∙ filter-filter (has_at groups w) test numbers in
       flat_map-same (rows_on inputs.chip inputs.app) (λ (k : Granted). with_two k.conn.0) some each
       ∙ sym (flat_map-map with_two conn some)
       ∙ ap (flat_map with_two) conns

@@ -1,6 +1,6 @@
 -- Laws of the use cases of a group.
 use Rattle.std.proofs.Common.{◌≡◌, ◌∙◌, ◌<◌, ◌≤◌, ◌+◌, ◌++◌, ◌&&◌, ◌||◌, ℕ, Bool, true, false}
-use Rattle.std.proofs.Common.{cond, eqb, List, [], ◌∷◌, Contains, Some, suc, length, slice_get}
+use Rattle.std.proofs.Common.{cond, eqb, List, [], ◌∷◌, Some, suc, length, slice_get}
 use Rattle.std.proofs.Common.{get_or, filter, drop, refl, sym, ap, inl, inr, arith}
 use Rattle.std.specs.List.{list_any, range_with_len}
 use Rattle.std.proofs.lemmas.Bool.{and_from, and_parts, cases_lt, false≢true, ne_eqb}
@@ -9,7 +9,8 @@ use Rattle.std.proofs.lemmas.List.Elements.{filter-append}
 use Rattle.std.proofs.lemmas.Map.Views.{any-filter_same}
 use Rattle.std.proofs.lemmas.Option.{same_Some, slice_get-get_or, slice_get_past}
 use Rattle.aeth_base.specs.declared.ids.Unit.{Unit as GroupUnit}
-use Rattle.aeth_base.proofs.Members.{Contains-here, Contains-there, filter-Contains}
+use Rattle.aeth_base.proofs.Filters.{filter-all_fail}
+use Rattle.aeth_base.proofs.Members.{filter-Contains}
 use Rattle.aeth_base.proofs.Ranges.{range-Contains, range_with_len-more}
 use Rattle.aeth_app.specs.App.{is_marked}
 use Rattle.aeth_group.specs.Members.{GroupsData, IsGroups, UseGroupData, group_at, has_at}
@@ -67,18 +68,11 @@ range-fails test u fails =
 
 -- ---- where there is no group
 
-filter_all_out : {X : Type 0} (test : X → Bool) (xs : List X)
-    → ((x : X) → Contains xs x → test x ≡ false) → filter test xs ≡ []
-filter_all_out test [] fails = refl
-filter_all_out test (x ∷ xs) fails =
-    rw (fails x (Contains-here x xs))
-    (filter_all_out test xs (λ y is_in. fails y (Contains-there x xs y is_in)))
-
 -- Without a group there is no use case of it.
 pub uses_of-beyond : (groups : GroupsData) (g : ℕ) → IsGroups groups → groups.count ≤ g
     → [] ≡ uses_of groups g
 uses_of-beyond groups g is_groups beyond =
-    sym (filter_all_out (λ u. eqb (group_at groups u) g)
+    sym (filter-all_fail (λ u. eqb (group_at groups u) g)
     (range_with_len 0 (length groups.uses)) (λ u is_in.
     let below = range-Contains (length groups.uses) u is_in in
     let one : UseGroupData = get_or groups.uses u (record { group = 0; has = [] }) in

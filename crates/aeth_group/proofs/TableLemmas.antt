@@ -1,8 +1,9 @@
 -- Laws of tables of slots: what a write to one mask changes, and changes one after the other.
-use Rattle.std.proofs.Common.{◌≡◌, ◌≢◌, ◌∙◌, ◌<◌, ◌+◌, ◌*◌, ◌/◌, ◌%◌, ◌&&◌, ◌||◌, ℕ, Bool}
+use Rattle.std.proofs.Common.{◌≡◌, ◌≢◌, ◌∙◌, ◌<◌, ◌+◌, ◌*◌, ◌%◌, ◌&&◌, ◌||◌, ℕ, Bool}
 use Rattle.std.proofs.Common.{true, false, not, cond, eqb, List, length, Some, slice_get}
 use Rattle.std.proofs.Common.{set, get_or, take, refl, sym, ap, inl, inr, arith, zero-add}
-use Rattle.std.proofs.lemmas.Nat.{div-mul-add}
+use Rattle.std.proofs.Math.Bool.{and-or_distrib_left}
+use Rattle.std.proofs.lemmas.Nat.{same_from_place}
 use Rattle.std.proofs.lemmas.Bool.{and_left, and_right, both_ways, cases_eq, eq-eqb, eqb-true}
 use Rattle.std.proofs.lemmas.Bool.{ne_eqb, not-true}
 use Rattle.std.proofs.lemmas.Bool.{not_from_false}
@@ -22,15 +23,6 @@ use Rattle.aeth_group.specs.Occupation.{enters}
 use Rattle.aeth_group.specs.Tables.{Changes, HasTable, IsTable, changed, hits_row}
 use Rattle.aeth_group.proofs.ListLemmas.{any_from_passes, passes_from_any, same_tests, take-at}
 use Rattle.aeth_group.proofs.OccupationLemmas.{enters-push, is_at}
-
--- A place determines its row and its column.
-pub same_place : (u l v k links : ℕ) → l < links → k < links
-    → u * links + l ≡ v * links + k → (u ≡ v) × (l ≡ k)
-same_place u l v k links low low' same =
-    let rows : u ≡ v =
-    sym (div-mul-add u links l low) ∙ ap (λ n. n / links) same ∙ div-mul-add v links k low' in
-    let columns : v * links + l ≡ v * links + k = ap (λ n. n * links + l) (sym rows) ∙ same in
-    (rows, omega arith)
 
 -- Tests that agree within a table have the same table.
 pub table-same : (size links : ℕ) (test other : ℕ → ℕ → ℕ → Bool) (masks : List Slots)
@@ -160,7 +152,7 @@ changes-write size links u k put old mask other hit low at within is = record {
   count = length-set old (u * links + k) (changed put mask other);
   table = λ test table v l low' within'. elim (cases_eq (v * links + l) (u * links + k)) [
     | inl same ↦
-        let place = same_place v l u k links low' low same in
+        let place = same_from_place v l u k links low' low same in
         let was : mask ≡ slots_where size (test u k) =
         same_Some _ _ (sym at ∙ table u k low within) in
         ap (slice_get (set old (u * links + k) (changed put mask other))) same
@@ -197,10 +189,6 @@ mask_size size links masks u k mask (test, table) low within =
     (same_Some _ _ (sym (slice_get-get_or masks (u * links + k) mask within)
     ∙ table u k low within))
 
-and-or : (a b c : Bool) → ((a && b) || (a && c)) ≡ (a && (b || c))
-and-or true b c = refl
-and-or false b c = refl
-
 -- One more link of a path has changed its mask.
 pub row_step : (size : ℕ) (starts : Slots) (links : List Link) (u : ℕ) (path : List LinkId)
     (i : ℕ) (k : LinkId) (after : ℕ) (put : Bool) (old now : List Slots) (mask other new : Slots)
@@ -226,7 +214,8 @@ row_step size starts links u path i k after put old now mask other new on_path i
     (changes-then size (length links) (hits_row starts links u (take i path)) _ put old now
     (set now place (changed put mask other)) changes write)
     (λ v l s low' within' below.
-    and-or (eqb v u) _ _
+    sym (and-or_distrib_left (eqb v u) (enters starts links 0 (take i path) l s)
+    (eqb k.0 l && is_at starts (offset links path i) s))
     ∙ ap (λ b. eqb v u && b) (sym (
     ap (λ p. enters starts links 0 p l s) (take-at path i k on_path)
     ∙ enters-push starts links 0 (take i path) k l s

@@ -1,5 +1,5 @@
 -- What of components a change of queues leaves.
-use Rattle.std.proofs.Common.{◌≡◌, ◌∙◌, ℕ, zero, suc, refl, ap, inl, inr, fold, map}
+use Rattle.std.proofs.Common.{◌≡◌, ◌∙◌, ℕ, refl, ap, inl, inr, fold, map}
 use Rattle.std.proofs.Common.{List, [], ◌∷◌, Option, Some, None, length, slice_get}
 use Rattle.std.specs.List.{range_with_len}
 use Rattle.std.proofs.lemmas.Bool.{cases_Bool}
@@ -11,24 +11,17 @@ use Rattle.aeth_components.specs.declared.event.Event.{Event}
 use Rattle.aeth_components.specs.declared.lane.ChannelEnd.{ChannelEnd}
 use Rattle.aeth_components.specs.declared.lane.Lane.{Lane}
 use Rattle.aeth_components.specs.Changes.{at_end, event_done, happened, on_interface, switched}
-use Rattle.aeth_components.specs.Changes.{with_part}
 use Rattle.aeth_components.specs.Events.{event_part}
 use Rattle.aeth_components.specs.Lanes.{is_open}
 use Rattle.aeth_components.specs.Phases.{Moment, asked_of, in_turn, left_of}
 use Rattle.aeth_components.specs.Phases.{pulled, refilled, turned, turned_at}
 use Rattle.aeth_components.specs.Queues.{drawn, filled}
+use Rattle.aeth_components.proofs.PartLemmas.{views-with_part}
 use Rattle.aeth_components.proofs.TurnLemmas.{pulled-closed, pulled-open, refilled-closed}
 use Rattle.aeth_components.proofs.TurnLemmas.{refilled-open}
 
 -- A word of each component that no change of interfaces of some kind touches.
 module _ {X : Type 0} (f : Part → X) where
-  pub kept-with_part : (number : ℕ) (change : Part → Part) → ((part : Part) → f (change part) ≡ f part)
-      → (parts : List Part) → map f (with_part number change parts) ≡ map f parts
-  kept-with_part number change same [] = refl
-  kept-with_part zero change same (part ∷ parts) = ap (λ (x : X). x ∷ map f parts) (same part)
-  kept-with_part (suc number) change same (part ∷ parts) =
-      ap (λ (xs : List X). f part ∷ xs) (kept-with_part number change same parts)
-
   -- A turn that touches none, and all turns.
   module _ (turn : List Part → Lane → List Part × Lane)
       (same : (parts : List Part) (lane : Lane) → map f (turn parts lane).0 ≡ map f parts) where
@@ -50,7 +43,7 @@ module _ {X : Type 0} (f : Part → X) where
     kept-at_end : (end : ChannelEnd) (change : QueueState → QueueState) (parts : List Part)
         → map f (at_end end change parts) ≡ map f parts
     kept-at_end end change parts =
-        kept-with_part end.ni.0 (on_interface (changed end.queue change))
+        views-with_part f end.ni.0 (on_interface (changed end.queue change))
         (λ part. still end.queue change part) parts
 
     kept-refilled : (words : List ℕ) (cycle : ℕ) (parts : List Part) (lane : Lane)
@@ -88,12 +81,6 @@ module _ {X : Type 0} (f : Part → X) where
         kept-turns (pulled cycle) (kept-pulled cycle)
         (range_with_len 0 (length moment.lanes)) moment
 
-  -- A change of all components that doesn't touch it.
-  pub kept-map : (change : Part → Part) → ((part : Part) → f (change part) ≡ f part)
-      → (parts : List Part) → map f (map change parts) ≡ map f parts
-  kept-map change same [] = refl
-  kept-map change same (part ∷ parts) = rw (same part, kept-map change same parts) refl
-
   -- Events that touch no more than interfaces.
   pub kept-switched : ((change : InterfaceState → InterfaceState) (part : Part)
       → f (on_interface change part) ≡ f part) → (events : List Event) (parts : List Part)
@@ -101,7 +88,7 @@ module _ {X : Type 0} (f : Part → X) where
   kept-switched still [] parts = refl
   kept-switched still (event ∷ events) parts =
       kept-switched still events (happened parts event)
-      ∙ kept-with_part (event_part event) (on_interface (event_done event))
+      ∙ views-with_part f (event_part event) (on_interface (event_done event))
       (still (event_done event)) parts
 
 -- The entries of a component, and the component where it is no interface.

@@ -19,12 +19,12 @@ use Rattle.aeth_ni.specs.Sending.{flit_sent}
 use Rattle.aeth_router.specs.Part.{absorb_of, after_of}
 use Rattle.aeth_router.specs.declared.part.Part.{Part}
 use Rattle.aeth_router.specs.declared.part.Part.TheVariants.{Interface, Router, Stage, TableRouter}
-use Rattle.aeth_components.proofs.FrameLemmas.{from-map}
+use Rattle.aeth_components.proofs.FrameLemmas.{from-map, views-map}
 use Rattle.aeth_components.specs.Frames.{Frame, InterfaceFrame, frame_of}
 use Rattle.aeth_components.specs.Switching.{entry_in, entry_of}
 use Rattle.aeth_components.specs.View.{queue_in, queue_of}
 use Rattle.aeth_refinement.specs.Components.{brought, brought_by, sent_from}
-use Rattle.aeth_invariant.proofs.Kept.{entries_in, kept-map}
+use Rattle.aeth_invariant.proofs.Kept.{entries_in}
 
 -- A change of a queue, seen at any.
 with_queue-at : (k q : ℕ) (change : QueueState → QueueState) (queues : List QueueState)
@@ -165,9 +165,9 @@ entries_in-absorb wires (Stage stage) = refl
 pub entries-after : (cycle : ℕ) (parts : List Part)
     → map entries_in (map (λ part. after_of part cycle) parts) ≡ map entries_in parts
 entries-after cycle parts =
-    kept-map entries_in (λ part. after_of part cycle) (entries_in-after cycle) parts
+    views-map entries_in (λ part. after_of part cycle) (entries_in-after cycle) parts
 
 pub entries-absorb : (wires : List (Option Flit)) (parts : List Part)
     → map entries_in (map (λ part. absorb_of part wires) parts) ≡ map entries_in parts
 entries-absorb wires parts =
-    kept-map entries_in (λ part. absorb_of part wires) (entries_in-absorb wires) parts
+    views-map entries_in (λ part. absorb_of part wires) (entries_in-absorb wires) parts

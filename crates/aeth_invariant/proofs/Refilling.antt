@@ -1,11 +1,11 @@
 -- Refilling, channel by channel, is that of the law.
 use Rattle.std.proofs.Common.{◌≡◌, ◌≤◌, ◌<◌, ◌∙◌, ℕ, ◌+◌, ◌-◌, min, refl, sym, ap, arith, inl, inr}
-use Rattle.std.proofs.Common.{Bool, true, false, cond, ltb, leb, ◌&&◌, List, [], ◌∷◌, ◌++◌, Option}
-use Rattle.std.proofs.Common.{Some, None, fold, get_or, length, map, take, drop, slice_get}
+use Rattle.std.proofs.Common.{Bool, true, false, cond, ltb, leb, ◌&&◌, List, ◌++◌, Option}
+use Rattle.std.proofs.Common.{Some, get_or, length, map, take, drop, slice_get}
 use Rattle.std.specs.List.{range_with_len}
 use Rattle.std.proofs.lemmas.Bool.{and_from, and_parts, both_ways, cases_Bool, cases_lt, le-leb}
 use Rattle.std.proofs.lemmas.Bool.{leb-true, lt-ltb, ltb-true}
-use Rattle.std.proofs.lemmas.List.{length-set, length-take, take_min}
+use Rattle.std.proofs.lemmas.List.{length-take, take_min}
 use Rattle.std.proofs.lemmas.Option.{same_Some, slice_get-get_or, slice_get_within}
 use Rattle.aeth_clocked.specs.declared.flit.Flit.{Flit}
 use Rattle.aeth_ni.specs.Limits.{waiting_words}
@@ -15,10 +15,11 @@ use Rattle.aeth_components.specs.Alone.{Done}
 use Rattle.aeth_components.specs.Frames.{frame_of}
 use Rattle.aeth_components.specs.Lanes.{is_open}
 use Rattle.aeth_components.specs.Laws.{RefillsAlone}
-use Rattle.aeth_components.specs.Phases.{Moment, in_turn, left_of, refilled, turned, turned_at}
+use Rattle.aeth_components.specs.Phases.{Moment, in_turn, left_of, refilled}
 use Rattle.aeth_components.specs.Queues.{filled, fits}
 use Rattle.aeth_components.specs.View.{queue_of as queue_in}
 use Rattle.aeth_components.specs.declared.lane.Lane.{Lane}
+use Rattle.aeth_components.proofs.SkipLemmas.{length-turns}
 use Rattle.aeth_server.specs.PrivateServer.{arrived}
 use Rattle.aeth_refinement.proofs.Counts.{arrived-most}
 use Rattle.aeth_refinement.proofs.Words.{drop-words_from, length-words_from, same_words}
@@ -51,22 +52,6 @@ within-values words values first h k is within =
 pub length-few : (xs : List ℕ) (room : ℕ)
     → length (take (min room (length xs)) xs) ≡ min room (length xs)
 length-few xs room = let size = length-take (min room (length xs)) xs in omega arith
-
--- Turns keep the number of channels.
-length-turned : (turn : List Part → Lane → List Part × Lane) (moment : Moment) (number : ℕ)
-    (found : Option Lane)
-    → length (turned_at turn moment number found).lanes ≡ length moment.lanes
-length-turned turn moment number None = refl
-length-turned turn moment number (Some lane) =
-    length-set moment.lanes number (turn moment.parts lane).1
-
-pub length-turns : (turn : List Part → Lane → List Part × Lane) (numbers : List ℕ)
-    (moment : Moment)
-    → length (fold (turned turn) moment numbers).lanes ≡ length moment.lanes
-length-turns turn [] moment = refl
-length-turns turn (number ∷ numbers) moment =
-    length-turns turn numbers (turned turn moment number)
-    ∙ length-turned turn moment number (slice_get moment.lanes number)
 
 -- Two sessions of one queue see it alike.
 pub same-queue : (fabric : Fabric) (parts : List Part) (d c : ℕ) → IsSameQueue fabric d c

@@ -12,7 +12,7 @@ use Rattle.aeth_router.specs.Stage.{StageState}
 use Rattle.aeth_router.specs.TableRouter.{TableRouterState}
 use Rattle.aeth_router.specs.declared.part.Part.{Part}
 use Rattle.aeth_router.specs.declared.part.Part.TheVariants.{Interface, Router, Stage, TableRouter}
-use Rattle.aeth_components.proofs.FrameLemmas.{from-map}
+use Rattle.aeth_components.proofs.FrameLemmas.{from-map, views-map}
 use Rattle.aeth_components.specs.Changes.{on_interface, switched}
 use Rattle.aeth_components.specs.Components.{ComponentsState, Cycle, driven_from, latched_of}
 use Rattle.aeth_components.specs.Components.{moment_of, ready_of, switched_from}
@@ -22,7 +22,7 @@ use Rattle.aeth_components.specs.Switching.{entry_in}
 use Rattle.aeth_components.specs.View.{queue_in}
 use Rattle.aeth_components.specs.declared.event.Event.{Event}
 use Rattle.aeth_refinement.specs.Fabric.{Fabric}
-use Rattle.aeth_invariant.proofs.Kept.{kept-map, kept-refilling, kept-switched, kept-taking}
+use Rattle.aeth_invariant.proofs.Kept.{kept-refilling, kept-switched, kept-taking}
 use Rattle.aeth_invariant.specs.Routed.{AreRoutedBy, IsRoutedBy, table_from, table_in, without_table}
 use Rattle.aeth_invariant.specs.View.{HaveLatched, net_of}
 
@@ -69,10 +69,10 @@ pub tables-latched : (words : List ℕ) (events : List Event) (cycle : ℕ) (wir
 tables-latched words events cycle wires moment =
     let ready = ready_of words events cycle moment in
     let driven = driven_from cycle ready in
-    kept-map table_in (λ part. absorb_of part wires) (table_in-absorb wires)
+    views-map table_in (λ part. absorb_of part wires) (table_in-absorb wires)
     (in_turn (pulled cycle) driven).parts
     ∙ kept-taking table_in table_in-changed cycle driven
-    ∙ kept-map table_in (λ part. after_of part cycle) (table_in-after cycle) ready.parts
+    ∙ views-map table_in (λ part. after_of part cycle) (table_in-after cycle) ready.parts
     ∙ tables-ready words events cycle moment
 
 pub tables-kept : (events : List Event) (cycle : ℕ) (old new : ComponentsState)
@@ -185,9 +185,9 @@ latched-part parts wires held i (Stage stage) at router is = absurd (cc is)
 module _ (one other : List Part) (same : map without_table one ≡ map without_table other) where
   pub frames-but_tables : map frame_of one ≡ map frame_of other
   frames-but_tables =
-      sym (kept-map frame_of without_table (λ part. sym (frame_of-without part)) one)
+      sym (views-map frame_of without_table (λ part. sym (frame_of-without part)) one)
       ∙ ap (map frame_of) same
-      ∙ kept-map frame_of without_table (λ part. sym (frame_of-without part)) other
+      ∙ views-map frame_of without_table (λ part. sym (frame_of-without part)) other
 
   at-place : (i : ℕ)
       → option_map without_table (slice_get one i) ≡ option_map without_table (slice_get other i)

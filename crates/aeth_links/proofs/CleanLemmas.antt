@@ -9,7 +9,7 @@ use Rattle.std.specs.Option.{option_map_or}
 use Rattle.aeth_base.specs.Limits.{max_path_delay}
 use Rattle.aeth_base.specs.declared.ids.LinkId.{LinkId}
 use Rattle.aeth_base.proofs.Members.{Contains-here, Contains-slice_get, Contains-there}
-use Rattle.aeth_base.proofs.Members.{slice_get-Contains}
+use Rattle.aeth_base.proofs.Members.{slice_get-Contains, sole-Contains}
 use Rattle.aeth_chip.specs.Paths.{delay_of, offset}
 use Rattle.aeth_chip.proofs.OffsetLemmas.{offset-more}
 use Rattle.aeth_server.proofs.SlotCycleLemmas.{is_slot-member}
@@ -39,7 +39,7 @@ use Rattle.aeth_audit.proofs.OneReservation.{AreSessionsOf}
 use Rattle.aeth_links.specs.Carried.{carried_rows, row_of}
 use Rattle.aeth_links.proofs.FlitLemmas.{flit-addressed, flit-goes_on}
 use Rattle.aeth_links.proofs.FlowLemmas.{IsFitting}
-use Rattle.aeth_links.proofs.RowLemmas.{below-is, row_on-is, rows_below, sole-Contains}
+use Rattle.aeth_links.proofs.RowLemmas.{below-is, row_on-is, rows_below}
 
 -- A path that has a place has the one before it.
 place-before : (path : List LinkId) (j : ℕ) (l : LinkId) → slice_get path (suc j) ≡ Some l
@@ -241,9 +241,9 @@ module _ (run : Run) (sound : IsSound run)
       let on = slice_get-Contains (carries run l t) row.flit below.0.flit in
       let one = carries-some run l t on.0 row.flit on.1 in
       let flit = flit_at one.flow one.place one.cycle in
-      let same : row.flit ≡ flit = sole-Contains flit row.flit
+      let same : row.flit ≡ flit = sym (sole-Contains flit row.flit
       (subst (λ (flits : List Flit). Contains flits row.flit)
-      (alone l t one.number one.place one.cycle one.flow one.carried) below.0.flit) in
+      (alone l t one.number one.place one.cycle one.flow one.carried) below.0.flit)) in
       subst (λ (f : Flit). broken_by run.design timeline cycles (rows_below run cycles)
       (row_of t l f) ≡ None) (sym same)
       (carried-clean l t one.number one.cycle one.flow below.1 one.place one.carried)

@@ -1,12 +1,12 @@
 -- The rows of what links carry: which they are, and which stands for a link in a cycle.
 use Rattle.std.proofs.Common.{◌≡◌, ◌≤◌, ◌<◌, ◌∙◌, ℕ, ◌&&◌, Bool, List, [], ◌∷◌, Some, filter}
-use Rattle.std.proofs.Common.{Contains, length, refl, sym, ap, subst, inl, inr, arith}
+use Rattle.std.proofs.Common.{Contains, length, refl, sym, ap, subst, arith}
 use Rattle.std.proofs.lemmas.Bool.{and_from, and_parts, eqb-true, eq-eqb, lt-ltb, ltb-true}
 use Rattle.std.specs.Prelude.{◌==◌, nat_lt}
 use Rattle.std.specs.List.{range_with_len}
-use Rattle.aeth_base.proofs.Members.{Contains-cases, Contains-filter, Contains-flat_map}
-use Rattle.aeth_base.proofs.Members.{Contains-here, Contains-map, Contains-nil, filter-Contains}
-use Rattle.aeth_base.proofs.Members.{flat_map-Contains, map-Contains}
+use Rattle.aeth_base.proofs.Members.{Contains-filter, Contains-flat_map}
+use Rattle.aeth_base.proofs.Members.{Contains-here, Contains-map, filter-Contains}
+use Rattle.aeth_base.proofs.Members.{flat_map-Contains, map-Contains, sole-Contains}
 use Rattle.aeth_base.proofs.Ranges.{Contains-range, range-Contains}
 use Rattle.aeth_clocked.specs.declared.flit.Flit.{Flit}
 use Rattle.aeth_report.specs.Carries.{carries}
@@ -16,15 +16,9 @@ use Rattle.aeth_audit.specs.Audit.{row_on}
 use Rattle.aeth_audit.specs.declared.row.LinkRow.{LinkRow}
 use Rattle.aeth_links.specs.Carried.{carried_rows, row_of, rows_in, rows_on}
 
--- A list of one item has it, and no other.
+-- A list of one item has it.
 Contains-one : {X : Type 0} (x : X) → Contains (x ∷ []) x
 Contains-one x = Contains-here x []
-
-pub sole-Contains : {X : Type 0} (x y : X) → Contains (x ∷ []) y → y ≡ x
-sole-Contains x y has = elim (Contains-cases x [] y has) [
-  | inl same ↦ sym same
-  | inr none ↦ Contains-nil none
-]
 
 module _ (run : Run) where
   -- A row of what a link carries.
@@ -94,8 +88,8 @@ module _ (run : Run) where
         let here : Contains (carries run l t) row.flit =
         subst (λ (n : ℕ). Contains (carries run n t) row.flit) link
         (subst (λ (u : ℕ). Contains (carries run row.link.0 u) row.flit) cycle own) in
-        let same : row.flit ≡ flit = sole-Contains flit row.flit
-        (subst (λ (flits : List Flit). Contains flits row.flit) alone here) in
+        let same : row.flit ≡ flit = sym (sole-Contains flit row.flit
+        (subst (λ (flits : List Flit). Contains flits row.flit) alone here)) in
         let rows : row ≡ row_of t l flit =
         λ q. record { cycle = cycle q; link = record { 0 = link q }; flit = same q } in
         found.1 ∙ ap (λ (one : LinkRow). Some one) rows

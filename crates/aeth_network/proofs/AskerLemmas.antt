@@ -1,12 +1,13 @@
 -- Channels that have words which their receivers take: these take some as they stand, or by rows.
 use Rattle.std.proofs.Common.{◌≡◌, ◌≤◌, ◌<◌, ◌⊎◌, ◌+◌, ◌-◌, ◌==◌, ◌∙◌, ℕ, List, [], ◌∷◌, Some, ap}
 use Rattle.std.proofs.Common.{arith, drop, get_or, inl, inr, length, refl, slice_get, subst, suc}
-use Rattle.std.proofs.Common.{sym, take, zero}
+use Rattle.std.proofs.Common.{sym}
 use Rattle.std.specs.Prelude.{slice_range}
 use Rattle.std.specs.List.Sorted.{IsNonDecreasingBy}
 use Rattle.std.proofs.lemmas.Bool.{cases_Bool, cases_lt, eqb-true}
 use Rattle.std.proofs.lemmas.List.{length-take}
 use Rattle.std.proofs.lemmas.Option.{slice_get-get_or, slice_get_within}
+use Rattle.aeth_base.proofs.Lists.{slice_get-take}
 use Rattle.aeth_running.proofs.LandedWords.{slice_get-drop}
 use Rattle.aeth_components.specs.declared.lane.Lane.{Lane}
 use Rattle.aeth_stimuli.specs.Stimuli.{Take}
@@ -74,14 +75,6 @@ pulled-by number first (row ∷ rows) none some = elim (cases_Bool (row.number =
       rw other refl in
       later number row rows (pulled-by number first rows none (omega (arith, same, some)))
 ]
-
--- What stands among some first items.
-slice_get-take : {X : Type 0} (n : ℕ) (xs : List X) (i : ℕ) → i < n
-    → slice_get (take n xs) i ≡ slice_get xs i
-slice_get-take zero xs i less = absurd (omega arith)
-slice_get-take (suc n) [] i less = refl
-slice_get-take (suc n) (x ∷ xs) zero less = refl
-slice_get-take (suc n) (x ∷ xs) (suc i) less = slice_get-take n xs i (omega arith)
 
 -- What stands among the rows between two places stands behind the first and before the second.
 slice-at : {X : Type 0} (xs : List X) (a b i : ℕ) (x : X) → slice_get (slice_range xs a b) i ≡ Some x

@@ -1,13 +1,12 @@
 -- Channels and their limits are as many as before, whatever changes.
-use Rattle.std.proofs.Common.{◌≡◌, ◌+◌, ◌∙◌, ℕ, List, [], ◌∷◌, ap, fold, inl, inr, length, length-set}
-use Rattle.std.proofs.Common.{nat_lt, refl}
-use Rattle.std.specs.Prelude.{slice_index}
-use Rattle.std.proofs.lemmas.Bool.{cases_Bool}
+use Rattle.std.proofs.Common.{◌≡◌, ◌∙◌, ℕ, List, [], ◌∷◌, ap, fold, length, length-set}
+use Rattle.std.proofs.Common.{refl}
 use Rattle.aeth_trace.specs.Channels.{channel_number}
 use Rattle.aeth_components.proofs.LaneLemmas.{length-with_lane}
 use Rattle.aeth_components.specs.Components.{ComponentsState}
 use Rattle.aeth_components.specs.declared.lane.Lane.{Lane}
 use Rattle.aeth_schedule.specs.declared.going.Going.{Going}
+use Rattle.aeth_running.proofs.LaneLookups.{length-offered}
 use Rattle.aeth_running.specs.Network.{accepted_with, gone_with, taking_with, until_with}
 use Rattle.aeth_stimuli.specs.Stimuli.{Offer, Take}
 
@@ -34,22 +33,6 @@ length-taking (take ∷ takes) lanes =
     length-taking takes (taking_with lanes take)
     ∙ length-with_lane take.number (λ lane. record lane { pull = take.pull }) lanes
 
-pub length-accepted : (t : ℕ) (untils : List ℕ) (offer : Offer) (lanes : List Lane)
-    → length (accepted_with t untils lanes offer) ≡ length lanes
-length-accepted t untils offer lanes =
-    elim (cases_Bool (nat_lt t (slice_index untils offer.number))) [
-      | inl accepts ↦ rw accepts (length-with_lane offer.number
-          (λ lane. record lane { accepted = lane.accepted + 1 }) lanes)
-      | inr refuses ↦ rw refuses refl
-    ]
-
-pub length-all_accepted : (t : ℕ) (untils : List ℕ) (offers : List Offer) (lanes : List Lane)
-    → length (fold (accepted_with t untils) lanes offers) ≡ length lanes
-length-all_accepted t untils [] lanes = refl
-length-all_accepted t untils (offer ∷ offers) lanes =
-    length-all_accepted t untils offers (accepted_with t untils lanes offer)
-    ∙ length-accepted t untils offer lanes
-
 -- Channels that have gone, or have accepted words, are as many as before.
 pub lanes-gone : (now old : ComponentsState) (goings : List Going)
     → now ≡ record old { lanes = fold gone_with old.lanes goings }
@@ -62,4 +45,4 @@ pub lanes-accepted : (now old : ComponentsState) (t : ℕ) (untils : List ℕ) (
     → length now.lanes ≡ length old.lanes
 lanes-accepted now old t untils offers is =
     ap (λ (all : ComponentsState). length all.lanes) is
-    ∙ length-all_accepted t untils offers old.lanes
+    ∙ length-offered t untils offers old.lanes

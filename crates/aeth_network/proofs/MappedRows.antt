@@ -1,24 +1,15 @@
 -- Rows that are made of others, and their places.
-use Rattle.std.proofs.Common.{◌≡◌, ◌+◌, ◌-◌, ◌==◌, ◌∙◌, ℕ, All, Bool, List, [], ◌∷◌, ap, arith}
-use Rattle.std.proofs.Common.{drop, filter, inl, inr, length, map, nat_lt, refl, subst, sym, take}
+use Rattle.std.proofs.Common.{◌≡◌, ◌+◌, ◌-◌, ◌==◌, ◌∙◌, ℕ, List, ap, arith}
+use Rattle.std.proofs.Common.{drop, filter, length, map, nat_lt, subst, sym, take}
 use Rattle.std.specs.Prelude.{slice_range}
 use Rattle.std.specs.List.{zip}
 use Rattle.std.specs.List.Sorted.{IsNonDecreasing, IsNonDecreasingBy}
-use Rattle.std.proofs.lemmas.Bool.{cases_Bool}
 use Rattle.std.proofs.lemmas.List.{drop-map, get_or-map, length-map, take-map}
-use Rattle.std.proofs.lemmas.List.Elements.{All-cons, All-head, All-nil, All-tail}
 use Rattle.std.proofs.lemmas.Slice.Zip.{firsts-zip, seconds-zip}
+use Rattle.aeth_base.proofs.Filters.{filter-map}
 use Rattle.aeth_components.specs.declared.event.Event.{Event}
 use Rattle.aeth_network.specs.Behind.{IsBehind, passed}
 use Rattle.aeth_network.proofs.Passed.{passed-range}
-
--- What holds of what is made of each.
-pub all-mapped : {X Y : Type 0} (f : X → Y) (P : Y → Type 0) (xs : List X) → All P (map f xs)
-    → All (λ x. P (f x)) xs
-all-mapped f P [] all = All-nil (λ x. P (f x))
-all-mapped f P (x ∷ xs) all =
-    All-cons (λ one. P (f one)) x xs (All-head P (f x) (map f xs) all)
-    (all-mapped f P xs (All-tail P (f x) (map f xs) all))
 
 -- A part of a list whose elements are changed.
 pub range-map : {X Y : Type 0} (f : X → Y) (xs : List X) (from to : ℕ)
@@ -26,21 +17,11 @@ pub range-map : {X Y : Type 0} (f : X → Y) (xs : List X) (from to : ℕ)
 range-map f xs from to =
     ap (take (to - from)) (drop-map f from xs) ∙ take-map f (to - from) (drop from xs)
 
-filter-mapped : {X Y : Type 0} (f : X → Y) (test : Y → Bool) (xs : List X)
-    → filter test (map f xs) ≡ map f (filter (λ x. test (f x)) xs)
-filter-mapped f test [] = refl
-filter-mapped {X} {Y} f test (x ∷ xs) =
-    let rest = filter-mapped f test xs in
-    elim (cases_Bool (test (f x))) [
-      | inl passes ↦ rw passes (ap (λ (ys : List Y). f x ∷ ys) rest)
-      | inr fails ↦ rw fails rest
-    ]
-
 -- Rows lie before a cycle as what is made of them does.
 pub passed-mapped : {X Y : Type 0} (f : X → Y) (key : Y → ℕ) (t : ℕ) (xs : List X)
     → passed key t (map f xs) ≡ passed (λ x. key (f x)) t xs
 passed-mapped f key t xs =
-    ap length (filter-mapped f (λ y. nat_lt (key y) t) xs)
+    ap length (filter-map (λ y. nat_lt (key y) t) f xs)
     ∙ length-map (filter (λ x. nat_lt (key (f x)) t) xs) f
 
 pub rises-mapped : {X Y : Type 0} (f : X → Y) (key : Y → ℕ) (xs : List X)
@@ -62,7 +43,7 @@ behind-mapped f key t xs from to is =
       after = is.after;
       within = omega arith;
       rows_are = range-map f xs from to ∙ ap (map f) is.rows_are
-          ∙ sym (filter-mapped f (λ y. key y == t) xs);
+          ∙ sym (filter-map (λ y. key y == t) f xs);
     }
 
 -- The events of a cycle are those between its places, where each has its cycle beside it.

@@ -19,6 +19,7 @@ use Rattle.aeth_components.specs.Entering.{with_rows}
 use Rattle.aeth_components.specs.Frames.{Frame, IsWired, frame_of}
 use Rattle.aeth_components.specs.Lanes.{IsLane}
 use Rattle.aeth_schedule.specs.declared.going.Going.{Going}
+use Rattle.aeth_running.proofs.LaneLookups.{length-offered}
 use Rattle.aeth_running.specs.Network.{NetworkState, accepted_with, gone_with, goings_in}
 use Rattle.aeth_running.specs.Network.{offers_in, ready_in}
 use Rattle.aeth_stimuli.specs.Loaded.{no_lane}
@@ -31,7 +32,7 @@ use Rattle.aeth_network.specs.Fits.{AreFit}
 use Rattle.aeth_network.proofs.CycleLemmas.{All-fit}
 use Rattle.aeth_network.proofs.FitLemmas.{AreFit-all_gone, AreFit-offered, AreFit-taking, HasWay}
 use Rattle.aeth_network.proofs.CountLemmas.{count-behind}
-use Rattle.aeth_network.proofs.LaneCounts.{length-all_accepted, length-gone, length-taking}
+use Rattle.aeth_network.proofs.LaneCounts.{length-gone, length-taking}
 use Rattle.aeth_network.proofs.Passed.{passed-behind, passed-few, passed-more, passed-range}
 
 -- What passes a test has what all that pass it have.
@@ -164,7 +165,7 @@ module _ (capacity : ℕ) (old : NetworkState) (is : IsNetwork capacity old) whe
       let gone = fold gone_with old.components.lanes (goings_in old.stimuli t) in
       length-taking (takes_in old.stimuli t)
       (fold (accepted_with t untils) gone (offers_in old.stimuli t))
-      ∙ length-all_accepted t untils (offers_in old.stimuli t) gone
+      ∙ length-offered t untils (offers_in old.stimuli t) gone
       ∙ length-gone (goings_in old.stimuli t) old.components.lanes
 
   -- Rows that enter tables change no frame, and components are as many as before.

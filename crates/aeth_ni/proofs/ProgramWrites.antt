@@ -3,7 +3,7 @@ use Rattle.std.proofs.Common.{◌≡◌, ◌⊎◌, ℕ, sym, ap, subst, inl, in
 use Rattle.std.proofs.Common.{List, [], ◌∷◌, Contains, map}
 use Rattle.std.specs.List.{flat_map}
 use Rattle.std.proofs.lemmas.List.Elements.{Contains-append_left, Contains-append_cases}
-use Rattle.aeth_base.proofs.Members.{Contains-nil, Contains-there, Contains-cases}
+use Rattle.aeth_base.proofs.Members.{Contains-there, Contains-cases, sole-Contains}
 use Rattle.aeth_base.proofs.Members.{Contains-map, map-Contains}
 use Rattle.aeth_ni.specs.declared.row.ChannelRow.{ChannelRow}
 use Rattle.aeth_ni.specs.declared.write.Write.{Write}
@@ -20,13 +20,6 @@ named (ClearRoute ni queue) = record { ni = ni; slot = 0; queue = queue }
 named (SetRoute ni queue route remote credits) = record { ni = ni; slot = 0; queue = queue }
 named (SetSlot ni slot queue) = record { ni = ni; slot = slot; queue = queue }
 
--- The one member of a list.
-only : {X : Type 0} (x y : X) → Contains (x ∷ []) y → x ≡ y
-only x y has = elim (Contains-cases x [] y has) [
-  | inl is ↦ is
-  | inr none ↦ Contains-nil none
-]
-
 -- A write of a channel that closes clears a slot of it, or its route.
 closing-cases : (row : ChannelRow) (write : Write) → Contains (closing_writes row) write
     → ((slot : ℕ) × (ClearSlot row.ni slot ≡ write) × Contains row.slots.slots slot)
@@ -36,7 +29,7 @@ closing-cases row write has =
     (ClearRoute row.ni row.queue ∷ []) write has) [
       | inl clears ↦
           inl (map-Contains (λ slot. ClearSlot row.ni slot) row.slots.slots write clears)
-      | inr last ↦ inr (only (ClearRoute row.ni row.queue) write last)
+      | inr last ↦ inr (sole-Contains (ClearRoute row.ni row.queue) write last)
     ]
 
 -- A write of a channel that opens sets its route, or a slot of it.

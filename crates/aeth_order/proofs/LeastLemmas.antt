@@ -92,10 +92,11 @@ folds-some order [] b none = none-some b (sym none)
 folds-some order (x ∷ units) b none =
     folds-some order units (cond (is_lt (order x b)) x b) none
 
-none-empty : (order : UnitKeys → UnitKeys → Ordering) (units : List UnitKeys)
+-- A list without a first is empty.
+pub first_by-none : (order : UnitKeys → UnitKeys → Ordering) (units : List UnitKeys)
     → first_by order units ≡ None → units ≡ []
-none-empty order [] none = refl
-none-empty order (x ∷ units) none = absurd (folds-some order units x none)
+first_by-none order [] none = refl
+first_by-none order (x ∷ units) none = absurd (folds-some order units x none)
 
 -- ---- The next unit
 
@@ -129,7 +130,7 @@ next-is_next units places unit is =
 pub next-none : (units : UnitsData) (places : List (Option Place))
     → (next_unit units places ≡ None) ↔ (units.waiting ≡ [])
 next-none units places = (
-  (λ none. none-empty (turn_order places) units.waiting (of-none _ none)),
+  (λ none. first_by-none (turn_order places) units.waiting (of-none _ none)),
   (λ empty. ap (λ us. option_map (λ (a : UnitKeys). a.unit) (first_by (turn_order places) us))
       empty),
 )

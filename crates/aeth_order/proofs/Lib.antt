@@ -2,7 +2,7 @@ mod FirstByLemmas
 mod TurnLemmas
 mod SortedLemmas
 mod GridLemmas
-mod NextLemmas
+pub mod NextLemmas
 mod DoneLemmas
 mod StartLemmas
-mod LeastLemmas
+pub mod LeastLemmas

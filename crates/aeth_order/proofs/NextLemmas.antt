@@ -45,6 +45,7 @@ folds-among order (x ∷ units) (Some a) m is =
       | inr later ↦ inr (Contains-there x units m later)
     ]
 
+-- The first of a list is in it.
 pub first_by-among : (order : UnitKeys → UnitKeys → Ordering) (units : List UnitKeys) (m : UnitKeys)
     → first_by order units ≡ Some m → Contains units m
 first_by-among order units m is = elim (folds-among order units None m is) [

@@ -13,7 +13,9 @@ use Rattle.std.specs.List.Sorted.{IsPermutation}
 use Rattle.std.proofs.lemmas.List.FromFn.{get_or-map-range_with_len, length-map-range_with_len}
 use Rattle.std.proofs.lemmas.Nat.{div-mul-add}
 use Rattle.std.proofs.lemmas.Option.{same_Some, slice_get-get_or, slice_get_within}
+use Rattle.std.proofs.lemmas.Simd.{map-map}
 use Rattle.aeth_base.specs.declared.ids.Unit.{Unit as GroupUnit}
+use Rattle.aeth_base.proofs.Lists.{item-at}
 use Rattle.aeth_base.proofs.Ranges.{range_with_len-more}
 use Rattle.aeth_app.specs.App.{AppData, IsApp, is_marked}
 use Rattle.aeth_app.specs.Limits.{max_uses}
@@ -41,13 +43,6 @@ made-at f n i x at =
           ∙ get_or-map-range_with_len f 0 n i i x low (omega arith),
     )
 
--- Something stands at each place within a list.
-something : {X : Type 0} (xs : List X) (i : ℕ) → i < length xs
-    → (x : X) × (slice_get xs i ≡ Some x)
-something [] i low = absurd (omega arith)
-something (x ∷ xs) zero low = (x, refl)
-something (x ∷ xs) (suc i) low = something xs i (omega arith)
-
 -- ---- each place has its own unit
 
 keys-placed : (app : AppData) (place : ℕ) → IsApp app → place < places (length app.connections)
@@ -55,7 +50,7 @@ keys-placed : (app : AppData) (place : ℕ) → IsApp app → place < places (le
 keys-placed app place is low =
     let whole = div-add-mod place max_uses in
     let conn : place / max_uses < length app.connections = omega (arith, whole, low) in
-    let (connection, at) = something app.connections (place / max_uses) conn in
+    let (connection, at) = item-at app.connections (place / max_uses) conn in
     subst (λ o. IsPlaced place (keys_by app.slots (unit_at place) o)) (sym at)
     (record { unit = whole; group = mod-lt place (omega arith) })
 
@@ -212,11 +207,6 @@ places-units groups (suc n) is =
     ∙ flat_map_more (units_with groups) [] (range_with_len 0 n) n
     ∙ ap (flat_map (units_with groups)) (sym (range_with_len-more 0 n n (omega arith)))
 
-map-twice : {X Y Z : Type 0} (f : Y → Z) (g : X → Y) (xs : List X)
-    → map (λ x. f (g x)) xs ≡ map f (map g xs)
-map-twice f g [] = refl
-map-twice f g (x ∷ xs) = ap (λ ys. f (g x) ∷ ys) (map-twice f g xs)
-
 -- The marked places are all units.
 pub grid-units : (app : AppData) (groups : GroupsData) → IsApp app → groups ≡ groups_of app
     → items_where_true (marks_of groups) (grid_of app) ≡ all_units app groups
@@ -230,5 +220,5 @@ grid-units app groups is are =
     ap (λ n. items_where_true (marks_of groups) (map keys (range_with_len 0 (places n))))
     (sym same)
     ∙ marked-map (is_unit_at groups) keys all
-    ∙ map-twice (keys_of app) unit_at (filter (is_unit_at groups) all)
+    ∙ sym (map-map (keys_of app) unit_at (filter (is_unit_at groups) all))
     ∙ ap (map (keys_of app)) (places-units groups groups.connections isg)

@@ -30,7 +30,8 @@ use Rattle.aeth_paths.specs.declared.request.Request.{Request}
 use Rattle.aeth_paths.specs.Candidates.{gap_on, is_live}
 use Rattle.aeth_paths.proofs.EndLemmas.{path-all, path-delay-some, path-last, path-some}
 use Rattle.aeth_base.proofs.Members.{Contains-slice_get}
-use Rattle.aeth_paths.proofs.LiveLemmas.{free_starts-set, sized, true_from}
+use Rattle.aeth_base.proofs.TestLemmas.{true_from_IsTrue}
+use Rattle.aeth_paths.proofs.LiveLemmas.{free_starts-set, sized}
 use Rattle.aeth_paths.proofs.NearLemmas.{gap-near, moved-comes}
 
 -- The last link of a path, behind the others.
@@ -148,4 +149,4 @@ enters-dead chip book ask b enters its told is is_book same only alone tells unt
     let suitable = enters-suitable book ask end.before enters is_book
     (subst (λ (p : List LinkId). 1 ≤ path_delay book.links p) whole some')
     (subst (λ (p : List LinkId). is_live book ask p ≡ true) whole live) in
-    both_ways told untold (true_from told (tells.1 (rw alone suitable))))
+    both_ways told untold (true_from_IsTrue told (tells.1 (rw alone suitable))))

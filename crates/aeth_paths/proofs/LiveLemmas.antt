@@ -1,7 +1,7 @@
 -- A list of links whose free starts are dead stays so, however it goes on.
 use Rattle.std.proofs.Common.{◌≡◌, ◌∙◌, ◌+◌, ◌≤◌, ◌++◌, ◌%◌, ℕ, Bool, true, false, cond, not}
 use Rattle.std.proofs.Common.{List, [], ◌∷◌, filter, Contains, sym, ap, subst, arith}
-use Rattle.std.proofs.Common.{append_assoc, length, leb, max, IsTrue, ◌↔◌, rules}
+use Rattle.std.proofs.Common.{append_assoc, length, leb, max, IsTrue, ◌↔◌}
 use Rattle.std.proofs.lemmas.Bool.{both_ways, false_from_ne_true, le-leb, leb-true}
 use Rattle.std.proofs.lemmas.List.{append-nil}
 use Rattle.std.proofs.lemmas.List.Sums.{sum_by-append, sum_by-cons}
@@ -13,6 +13,7 @@ use Rattle.aeth_group.proofs.ListLemmas.{same_tests}
 use Rattle.aeth_slots.specs.Choice.{IsSuitable, is_suitable, sublists}
 use Rattle.aeth_slots.proofs.ChoiceLemmas.{is_suitable-true, true-is_suitable, whole-suitable}
 use Rattle.aeth_base.proofs.Members.{Contains-map}
+use Rattle.aeth_base.proofs.TestLemmas.{IsTrue_from_true, true_from_IsTrue}
 use Rattle.aeth_slots.proofs.Sublists.{sublists-itself, sublists-with, sublists-without}
 use Rattle.aeth_slots.proofs.TestLemmas.{Ascends-where}
 use Rattle.aeth_book.specs.Book.{BookData, IsBook}
@@ -21,12 +22,6 @@ use Rattle.aeth_book.proofs.FreeLemmas.{free-push}
 use Rattle.aeth_paths.specs.declared.request.Request.{Request}
 use Rattle.aeth_paths.specs.Candidates.{gap_on, is_live}
 use Rattle.aeth_paths.specs.Trials.{IsSized}
-
-pub true_from : (b : Bool) → IsTrue b → b ≡ true
-true_from b test = search rules
-
-pub from_true : (b : Bool) → b ≡ true → IsTrue b
-from_true b test = search rules
 
 -- The tables of a book are sized.
 pub sized : (book : BookData) → IsBook book → IsSized book
@@ -77,8 +72,8 @@ pub suitable-told : (set : Slots) (need gap : ℕ) (told : Bool)
     → (IsTrue told ↔ IsSuitable need gap set) → told ≡ is_suitable need gap set
 suitable-told set need gap told tells =
     same_tests told (is_suitable need gap set)
-    (λ yes'. true-is_suitable need gap set (tells.0 (from_true told yes')))
-    (λ yes'. true_from told (tells.1 (is_suitable-true need gap set yes')))
+    (λ yes'. true-is_suitable need gap set (tells.0 (IsTrue_from_true told yes')))
+    (λ yes'. true_from_IsTrue told (tells.1 (is_suitable-true need gap set yes')))
 
 -- Where a gap may be as great as the table, it is enough that there are enough slots.
 pub suitable-wide : (set : Slots) (need gap : ℕ) → IsSlotSet set → set.size ≤ gap

@@ -13,6 +13,7 @@ use Rattle.std.proofs.lemmas.List.Sums.{sum_by-append, sum_by-cons}
 use Rattle.aeth_base.specs.Limits.{max_path_links}
 use Rattle.aeth_base.specs.declared.ids.LinkId.{LinkId}
 use Rattle.aeth_base.specs.declared.ids.NiId.{NiId}
+use Rattle.aeth_base.proofs.Lists.{sum_by-map}
 use Rattle.aeth_chip.specs.Joined.{end_of}
 use Rattle.aeth_chip.specs.LeastDistance.{link_ids}
 use Rattle.aeth_chip.specs.Nodes.{begins_at, numbers_from}
@@ -31,13 +32,6 @@ use Rattle.aeth_paths.proofs.StepLemmas.{steps_over}
 -- ---- sums
 
 module _ {X : Type 0} where
-  sum-map : {Y : Type 0} (g : Y → ℕ) (h : X → Y) (xs : List X)
-      → sum_by g (map h xs) ≡ sum_by (λ x. g (h x)) xs
-  sum-map g h [] = refl
-  sum-map g h (x ∷ xs) =
-      sum_by-cons g (h x) (map h xs) ∙ ap (λ n. g (h x) + n) (sum-map g h xs)
-      ∙ sym (sum_by-cons (λ y. g (h y)) x xs)
-
   sum-flat_map : {Y : Type 0} (g : Y → ℕ) (h : X → List Y) (xs : List X)
       → sum_by g (flat_map h xs) ≡ sum_by (λ x. sum_by g (h x)) xs
   sum-flat_map g h [] = refl
@@ -157,7 +151,7 @@ module _ (links : List Link) (f : Field)
       ap (λ p. cond (is_open f least node p) (length (f.leaving node)) 0) (append-nil path) in
       let behind : sum_by over some ≡ sum_by (steps_over f least left path) (f.leaving node) =
       sum-flat_map over (λ x. map (λ rest. x ∷ rest) (lists_below left ids)) ids
-      ∙ sum-same _ _ (λ x. sum-map over (λ rest. x ∷ rest) (lists_below left ids)
+      ∙ sum-same _ _ (λ x. sum_by-map over (λ rest. x ∷ rest) (lists_below left ids)
       ∙ step left node path (counted left) x) ids
       ∙ sum-filter (leaves_from links node) (steps_over f least left path) ids
       ∙ ap (sum_by (steps_over f least left path)) (sym (leaving node)) in

@@ -2,13 +2,14 @@
 use Rattle.std.proofs.Common.{◌≡◌, ◌≢◌, ◌∙◌, ℕ, List, [], ◌∷◌, map}
 use Rattle.std.proofs.Common.{sym}
 use Rattle.std.proofs.Common.{refl, ap, subst, arith}
-use Rattle.std.specs.Ordering.{ordering_reverse, ordering_then}
+use Rattle.std.specs.Ordering.{ordering_then}
 use Rattle.std.specs.declared.cmp.Ordering.{Ordering}
 use Rattle.std.specs.declared.cmp.Ordering.TheVariants.{Equal, Greater, Less}
 use Rattle.std.proofs.lemmas.Map.Lookups.{exact_bytes}
 use Rattle.std.proofs.lemmas.Option.{same_Some}
 use Rattle.aeth_base.specs.declared.ids.LinkId.{LinkId}
 use Rattle.aeth_base.specs.declared.ids.NiId.{NiId}
+use Rattle.aeth_base.proofs.TestLemmas.{equal_from_turned}
 use Rattle.aeth_chip.specs.declared.node.Link.{Link}
 use Rattle.aeth_chip.specs.declared.node.Node.{Node}
 use Rattle.aeth_chip.specs.declared.node.Node.TheVariants.{Ni, Router}
@@ -20,14 +21,6 @@ use Rattle.aeth_paths.specs.declared.request.Request.{Request}
 use Rattle.aeth_paths.specs.Candidates.{IsFirst, link_cost, path_order, slots_of}
 use Rattle.aeth_paths.proofs.EndLemmas.{path-some}
 use Rattle.aeth_paths.proofs.FirstLemmas.{path_total}
-
-equal-from : (order turned : Ordering) → order ≡ ordering_reverse turned → order ≢ Less
-    → turned ≢ Less → order ≡ Equal
-equal-from Less turned is not_before not_after = absurd (not_before refl)
-equal-from Equal turned is not_before not_after = refl
-equal-from Greater Less is not_before not_after = absurd (not_after refl)
-equal-from Greater Equal is not_before not_after = cc
-equal-from Greater Greater is not_before not_after = cc
 
 then-equal : (first second : Ordering) → ordering_then first second ≡ Equal → second ≡ Equal
 then-equal Less second is = absurd (cc is)
@@ -48,7 +41,7 @@ same-links path other same =
 pub one-path : (cost : LinkId → ℕ) (path other : List LinkId)
     → path_order cost path other ≢ Less → path_order cost other path ≢ Less → path ≡ other
 one-path cost path other not_before not_after =
-    let equal = equal-from (path_order cost path other) (path_order cost other path)
+    let equal = equal_from_turned (path_order cost path other) (path_order cost other path)
     ((path_total cost).antisymm path other) not_before not_after in
     same-links path other (exact_bytes _ _ (then-equal _ _ (then-equal _ _ equal)))
 

@@ -44,16 +44,18 @@ before_trans a b c = chain_numbers a.unit.conn.0 b.unit.conn.0 c.unit.conn.0 _ _
     (chain_numbers a.unit.group.0 b.unit.group.0 c.unit.group.0 _ _ _
     (chain_sides a.side b.side c.side))
 
-same_number : (m : ℕ) (s : Bool) → cond (m == m) s (nat_lt m m) ≡ s
+-- Of a number and itself the next test decides.
+pub same_number : (m : ℕ) (s : Bool) → cond (m == m) s (nat_lt m m) ≡ s
 same_number m s = grind (arith, nat_tests)
 
-side_before-itself : (s : Side) → side_before s s ≡ false
+-- No side comes before itself.
+pub side_before-itself : (s : Side) → side_before s s ≡ false
 side_before-itself Fwd = refl
 side_before-itself Back = refl
 
 -- No grant comes before itself.
-never : (a : Grant) → grant_before a a ≡ true → ⊥
-never a before = true≢false (sym before ∙ same_number a.unit.conn.0 _
+pub before_irrefl : (a : Grant) → grant_before a a ≡ true → ⊥
+before_irrefl a before = true≢false (sym before ∙ same_number a.unit.conn.0 _
     ∙ same_number a.unit.group.0 _ ∙ side_before-itself a.side)
 
 -- The grants of a plan stand apart.
@@ -63,13 +65,14 @@ grants_apart plan is i j d below within units sides =
     let b = get_or plan.grants j d in
     let shown : grant_before a b ≡ grant_before b b = λ k.
     grant_before (record { unit = units k; side = sides k; path = a.path; slots = a.slots }) b in
-    never b (sym shown ∙ rising_pairs grant_before before_trans plan.grants is.grants i j d below within)
+    before_irrefl b
+    (sym shown ∙ rising_pairs grant_before before_trans plan.grants is.grants i j d below within)
 
 -- Two lists of the same grants that rise are the same.
 same_grants : (grants xs ys : List Grant) → IsPermutation grants xs → IsPermutation grants ys
     → Rises grant_before xs → Rises grant_before ys → xs ≡ ys
 same_grants grants xs ys one two rising other =
-    rising_same grant_before before_trans never xs ys rising other
+    rising_same grant_before before_trans before_irrefl xs ys rising other
     (λ z has. Contains-permutation grants ys z two
     (Contains-permutation xs grants z (IsPermutation-sym grants xs one) has))
     (λ z has. Contains-permutation grants xs z one

@@ -13,10 +13,11 @@ use Rattle.std.proofs.lemmas.Slice.Eq.{bytes_eq-Decides}
 use Rattle.aeth_base.specs.Faults.{BrokenRule}
 use Rattle.aeth_slots.specs.SlotSet.{Ascends}
 use Rattle.aeth_document.specs.Chain.{◌>>=◌}
+use Rattle.aeth_document.proofs.ChainLemmas.{bind_ok}
 use Rattle.aeth_text.specs.Order.{Rises, RisesAfter, line_after}
 use Rattle.aeth_plan.specs.Plan.{name_at}
 use Rattle.aeth_plan.specs.Rules.{each, found, holds, ordered, place_among}
-use Rattle.aeth_plan.proofs.Chains.{bind_ok, err_ok, ok_is}
+use Rattle.aeth_plan.proofs.Chains.{err_ok, ok_is}
 
 -- ---- Names
 

@@ -28,7 +28,8 @@ use Rattle.aeth_plan.proofs.Places.{all_below, ascends}
 use Rattle.aeth_plan.proofs.Places.{each_only, found_ok, holds_ok}
 use Rattle.aeth_plan.proofs.Places.{is_none-None, ordered_ok, place_only}
 use Rattle.aeth_plan.proofs.TextLaws.{text_only}
-use Rattle.aeth_plan.proofs.Chains.{bind_ok, ok_is}
+use Rattle.aeth_document.proofs.ChainLemmas.{bind_ok}
+use Rattle.aeth_plan.proofs.Chains.{ok_is}
 use Rattle.aeth_app.specs.Limits.{seats_per_ni}
 use Rattle.aeth_text.specs.Order.{misplaced}
 use Rattle.aeth_text.proofs.OrderLaws.{rises}

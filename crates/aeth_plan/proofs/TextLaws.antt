@@ -20,7 +20,8 @@ use Rattle.aeth_plan.specs.Refusals.{bad_line}
 use Rattle.aeth_plan.specs.Spelling.{IsGrantText, IsSeatText, IsText, grant_line, lines_from}
 use Rattle.aeth_plan.specs.Spelling.{seat_line, text_from}
 use Rattle.aeth_plan.specs.declared.text.SeatText.{SeatText}
-use Rattle.aeth_plan.proofs.Chains.{bind_ok, err_ok, ok_is}
+use Rattle.aeth_document.proofs.ChainLemmas.{bind_ok}
+use Rattle.aeth_plan.proofs.Chains.{err_ok, ok_is}
 use Rattle.aeth_plan.proofs.LineForms.{reads_grant, reads_head, reads_seat}
 
 -- ---- No line has two forms

@@ -1,11 +1,11 @@
 -- The writes of a switch are made in the cycles of the windows.
 use Rattle.std.proofs.Common.{◌≡◌, ◌<◌, ◌∙◌, ◌+◌, ◌++◌, ℕ, suc, List, [], ◌∷◌, Some, ap, length, map}
 use Rattle.std.proofs.Common.{slice_get, arith}
-use Rattle.std.specs.Prelude.{option_map}
 use Rattle.std.specs.List.{flat_map}
 use Rattle.std.proofs.lemmas.List.{length-map}
-use Rattle.std.proofs.lemmas.Option.{slice_get-map, slice_get_within}
+use Rattle.std.proofs.lemmas.Option.{slice_get_within}
 use Rattle.aeth_base.specs.declared.ids.Channel.{Channel}
+use Rattle.aeth_base.proofs.Lists.{map-at}
 use Rattle.aeth_group.specs.Members.{GroupsData, group_at}
 use Rattle.aeth_ni.specs.Program.{closing_writes, opening_writes, write_count}
 use Rattle.aeth_ni.specs.declared.write.Write.{Write}
@@ -19,11 +19,6 @@ use Rattle.aeth_reconf.proofs.WindowLemmas.{channels_that-has}
 use Rattle.aeth_ni.proofs.ProgramLemmas.{length-closing_writes, length-opening_writes}
 use Rattle.aeth_reconf.proofs.WriteCounts.{ahead_of-within, before, behind, length-writes}
 use Rattle.aeth_reconf.proofs.WriteCounts.{write_at}
-
--- What a map makes of what stands at a place.
-map_at : {X Y : Type 0} (f : X → Y) (xs : List X) (i : ℕ) (x : X) → slice_get xs i ≡ Some x
-    → slice_get (map f xs) i ≡ Some (f x)
-map_at f xs i x at = slice_get-map f xs i ∙ ap (option_map f) at
 
 module _ (groups : GroupsData) (row_of : RowOf) (spans : SpanData) (switch : Switch)
     (channel : Channel) where
@@ -71,7 +66,7 @@ module _ (groups : GroupsData) (row_of : RowOf) (spans : SpanData) (switch : Swi
       let same = length-map row.slots.slots clear in
       closing_at closed place k (omega arith) time
       ∙ before (map clear row.slots.slots) (ClearRoute row.ni row.queue ∷ []) place (omega arith)
-      ∙ map_at clear row.slots.slots place slot at
+      ∙ map-at clear row.slots.slots place slot at
 
   -- That of its route.
   pub free_at : IsClosed groups switch channel → (k : ℕ)
@@ -126,4 +121,4 @@ module _ (groups : GroupsData) (row_of : RowOf) (spans : SpanData) (switch : Swi
       let row = row_of entered channel in
       let inside = slice_get_within row.slots.slots place slot at in
       opening_at opened (suc place) k (omega arith) (omega arith)
-      ∙ map_at (λ (s : ℕ). SetSlot row.ni s row.queue) row.slots.slots place slot at
+      ∙ map-at (λ (s : ℕ). SetSlot row.ni s row.queue) row.slots.slots place slot at

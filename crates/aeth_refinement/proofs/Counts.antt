@@ -1,8 +1,9 @@
 -- Laws of the counts of private servers, as the network needs them.
 use Rattle.std.proofs.Common.{◌≡◌, ◌≤◌, ◌<◌, ◌∙◌, ℕ, suc, ◌+◌, ◌-◌, ◌&&◌, Bool, true, false}
-use Rattle.std.proofs.Common.{cond, ltb, List, [], ◌∷◌, length, ap, arith}
-use Rattle.std.specs.Prelude.{filter, nat_lt}
+use Rattle.std.proofs.Common.{cond, ltb, length, ap, arith}
+use Rattle.std.specs.Prelude.{nat_lt}
 use Rattle.std.proofs.lemmas.Bool.{lt-ltb}
+use Rattle.aeth_base.proofs.Filters.{filter-few}
 use Rattle.aeth_server.specs.PrivateServer.{PrivateServer, accepted, arrived, credited, landed}
 use Rattle.aeth_server.specs.PrivateServer.{returned, sent, taken}
 use Rattle.aeth_server.specs.Shape.{HasPaths}
@@ -10,18 +11,9 @@ use Rattle.aeth_server.specs.SlotCycles.{is_slot}
 use Rattle.aeth_server.proofs.PrivateServerLemmas.{credited-more, credited-next, credits_ready}
 use Rattle.aeth_server.proofs.PrivateServerLemmas.{has-room, in-order, sent-next, words_ready}
 
--- What passes a test is no more than there is.
-filter-most : (test : ℕ → Bool) (xs : List ℕ) → length (filter test xs) ≤ length xs
-filter-most test [] = omega arith
-filter-most test (x ∷ xs) =
-    let rest = filter-most test xs in
-    let cases : (b : Bool) → length (cond b (x ∷ filter test xs) (filter test xs))
-    ≤ suc (length xs) = elim [ true ↦ omega arith | false ↦ omega arith ] in
-    cases (test x)
-
 -- No more words arrive than there are.
 pub arrived-most : (server : PrivateServer) (t : ℕ) → arrived server t ≤ length (accepted server)
-arrived-most server t = filter-most (λ a. nat_lt a t) (accepted server)
+arrived-most server t = filter-few (λ a. nat_lt a t) (accepted server)
 
 module _ (server : PrivateServer) (paths : HasPaths server.shape) where
   -- In a slot of its own, before its stop, a channel sends what is ready.

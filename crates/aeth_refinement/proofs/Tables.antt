@@ -1,9 +1,10 @@
 -- A router by tables sends on what a router by headers does, where it holds what a fabric carries.
-use Rattle.std.proofs.Common.{◌≡◌, ◌<◌, ◌∙◌, ℕ, zero, suc, ◌+◌, ◌-◌, ◌%◌, map, true}
+use Rattle.std.proofs.Common.{◌≡◌, ◌<◌, ◌∙◌, ℕ, zero, suc, ◌+◌, ◌%◌, map, true}
 use Rattle.std.proofs.Common.{Option, Some, None, refl, sym, ap, subst, arith}
-use Rattle.std.proofs.Math.Nat.{add-mod_right, mod-add-mod}
+use Rattle.std.proofs.Math.Nat.{mod-add-mod}
 use Rattle.std.proofs.lemmas.Option.{same_Some}
 use Rattle.std.specs.Prelude.{option_and_then, option_map}
+use Rattle.aeth_base.proofs.Division.{mod-before}
 use Rattle.aeth_clocked.specs.declared.flit.Flit.{Flit}
 use Rattle.aeth_report.proofs.SessionMeetings.{mapped_at}
 use Rattle.aeth_router.proofs.PortLemmas.{Alone-from_sole}
@@ -17,14 +18,6 @@ use Rattle.aeth_refinement.proofs.Routers.{place_before, router_all, router_only
 use Rattle.aeth_refinement.proofs.Routers.{to_router}
 use Rattle.aeth_refinement.proofs.Routes.{hops-on}
 use Rattle.aeth_refinement.proofs.Unique.{in-slot, some-injected, in_tables}
-
--- Numbers that are one round a table behind one more are one round it.
-pub mod-one : (size a b : ℕ) → 0 < size → (a + 1) % size ≡ (b + 1) % size → a % size ≡ b % size
-mod-one size a b some same =
-    let turn : (c : ℕ) → ((c + 1) % size + (size - 1)) % size ≡ c % size =
-    λ c. mod-add-mod (c + 1) size (size - 1)
-    ∙ ap (λ (n : ℕ). n % size) (omega (arith, some)) ∙ add-mod_right c size in
-    sym (turn a) ∙ ap (λ (n : ℕ). (n + (size - 1)) % size) same ∙ turn b
 
 -- Two answers that are given together.
 same_answers : {X : Type 0} (one other : Option X)
@@ -71,7 +64,8 @@ module _ (fabric : Fabric) (ok : IsAccepted fabric) (some : 0 < fabric.size) whe
       let slot : (passing.slot + i) % fabric.size ≡ t % fabric.size =
       let one : passing.slot + suc i ≡ (passing.slot + i) + 1 = omega arith in
       let two : suc t ≡ t + 1 = omega arith in
-      mod-one fabric.size (passing.slot + i) t some (rw (one, two) at passing.time) in
+      mod-before (passing.slot + i) t 1 fabric.size (omega (arith, some))
+      (rw (one, two) at passing.time) in
       let same = (ok.apart c d passing.known on.known).wire i j m passing.slot (u % fabric.size)
       (suc t) entry.in_tables
       (in_tables fabric ok n (suc t) d (suc j) u (behind fabric ok m n t d j u on next))

@@ -1,10 +1,10 @@
 -- Runs that give the same to a channel have the same log of it.
-use Rattle.std.proofs.Common.{◌≡◌, ◌∙◌, ℕ, ◌*◌, ◌&&◌, Bool, List, [], ◌∷◌, Contains, filter, map, refl}
-use Rattle.std.proofs.Common.{sym, ap, inl, inr}
+use Rattle.std.proofs.Common.{◌≡◌, ◌∙◌, ℕ, ◌*◌, ◌&&◌, List, [], ◌∷◌, Contains, filter, map, refl}
+use Rattle.std.proofs.Common.{sym, ap}
 use Rattle.std.specs.Prelude.{nat_lt, not}
 use Rattle.std.specs.List.{count_by, list_any}
-use Rattle.std.proofs.lemmas.Bool.{cases_Bool}
 use Rattle.std.proofs.lemmas.Simd.{map-map}
+use Rattle.aeth_base.proofs.Filters.{filter-map}
 use Rattle.aeth_base.proofs.Lists.{list_any-map}
 use Rattle.aeth_base.specs.Limits.{words_per_flit}
 use Rattle.aeth_base.specs.declared.ids.Channel.{Channel}
@@ -49,17 +49,6 @@ map-alike f g (x ∷ xs) same =
     let first = same x (Contains-here x xs) in
     let rest = map-alike f g xs (λ y has. same y (Contains-there x xs y has)) in
     cc
-
--- A filter of images is the images of a filter.
-pub filter-map : {X Y : Type 0} (test : Y → Bool) (f : X → Y) (xs : List X)
-    → filter test (map f xs) ≡ map f (filter (λ x. test (f x)) xs)
-filter-map test f [] = refl
-filter-map test f (x ∷ xs) =
-    let rest = filter-map test f xs in
-    elim (cases_Bool (test (f x))) [
-      | inl is ↦ rw is (ap (λ ys. f x ∷ ys) rest)
-      | inr isnt ↦ rw isnt rest
-    ]
 
 -- The logs of a channel's sessions, over their private servers alone.
 abbrev session_part : Run → Channel → Session → SessionData

@@ -7,6 +7,7 @@ use Rattle.std.specs.List.{count_by, sum_by}
 use Rattle.std.proofs.lemmas.Bool.{and_parts, cases_Bool, cases_lt, leb-true, le-ltb}
 use Rattle.std.proofs.lemmas.Bool.{lt-leb, lt-ltb, ltb-true}
 use Rattle.aeth_base.specs.declared.ids.Channel.{Channel}
+use Rattle.aeth_base.proofs.Lists.{sum_by-map}
 use Rattle.aeth_server.specs.FinishTimes.{arrivals_before}
 use Rattle.aeth_server.specs.PrivateServer.{arrived}
 use Rattle.aeth_trace.specs.Spans.{SpanData}
@@ -22,7 +23,7 @@ use Rattle.aeth_report.specs.Sessions.{IsInUse, Stay, Switch, close_by, session_
 use Rattle.aeth_report.specs.Sound.{IsSound}
 use Rattle.aeth_report.proofs.Accounts.{accepts, accounted, arrivals-accepts, flow_accepts, is_before}
 use Rattle.aeth_report.proofs.SessionMeetings.{mapped_at, sessions_alone}
-use Rattle.aeth_report.proofs.Sums.{count_by-sole, sum_by-filter, sum_by-map}
+use Rattle.aeth_report.proofs.Sums.{count_by-sole, sum_by-filter}
 
 -- ---- what one channel accepts
 

@@ -7,6 +7,7 @@ use Rattle.std.proofs.lemmas.List.{get_or-map, length-map}
 use Rattle.std.proofs.lemmas.List.Kept.{IsNonDecreasingBy-filter}
 use Rattle.std.proofs.lemmas.List.Sums.{count_by-le-length, length-filter}
 use Rattle.aeth_base.specs.declared.ids.Channel.{Channel}
+use Rattle.aeth_base.proofs.Filters.{filter-map}
 use Rattle.std.proofs.lemmas.Option.{slice_get-get_or}
 use Rattle.std.specs.Prelude.{nat_le, nat_lt, slice_index, slice_index_or}
 use Rattle.aeth_server.specs.Landing.{IsDue, WaitsAlone}
@@ -24,7 +25,6 @@ use Rattle.aeth_report.specs.Flows.{words_in}
 use Rattle.aeth_report.specs.RunLog.{counted_to, flow_log}
 use Rattle.aeth_report.specs.Sound.{IsSound}
 use Rattle.aeth_report.proofs.ClosingLemmas.{lands_by_finish}
-use Rattle.aeth_report.proofs.AlikeLemmas.{filter-map}
 use Rattle.aeth_report.proofs.LogRows.{alone_logged, due_logged, row-is}
 use Rattle.aeth_report.proofs.OneFlit.{session-paths}
 

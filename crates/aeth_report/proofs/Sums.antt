@@ -1,9 +1,9 @@
 -- Laws of sums and counts.
 use Rattle.std.proofs.Common.{◌≡◌, ◌≤◌, ◌∙◌, ℕ, suc, ◌+◌, Bool, true, false, List, [], ◌∷◌}
-use Rattle.std.proofs.Common.{Contains, Some, filter, map, slice_get, refl, inl, inr}
+use Rattle.std.proofs.Common.{Contains, Some, filter, slice_get, refl, inl, inr}
 use Rattle.std.proofs.Common.{arith}
 use Rattle.std.specs.List.{count_by, list_any, sum_by}
-use Rattle.std.proofs.lemmas.Bool.{cases_Bool, both_ways}
+use Rattle.std.proofs.lemmas.Bool.{cases_Bool}
 use Rattle.std.proofs.lemmas.List.Sums.{sum_by-cons}
 use Rattle.aeth_base.proofs.Lists.{count_by-no, count_by-yes}
 use Rattle.aeth_base.proofs.Members.{Contains-here, Contains-there}
@@ -44,28 +44,7 @@ sum_by-filter f test (x ∷ xs) none =
       | inr isnt ↦ let here = none 0 x refl isnt in rw isnt (omega arith)
     ]
 
--- A sum over images.
-pub sum_by-map : {X Y : Type 0} (f : Y → ℕ) (g : X → Y) (xs : List X)
-    → sum_by f (map g xs) ≡ sum_by (λ x. f (g x)) xs
-sum_by-map f g [] = refl
-sum_by-map f g (x ∷ xs) =
-    let first = sum_by-cons f (g x) (map g xs) in
-    let same = sum_by-cons (λ x. f (g x)) x xs in
-    let rest = sum_by-map f g xs in
-    omega arith
-
--- Where a test passes for some, the count is above 0; where for none, it is 0.
-pub count_by-any : {X : Type 0} (test : X → Bool) (xs : List X) → list_any test xs ≡ true
-    → 1 ≤ count_by test xs
-count_by-any test [] some = absurd (both_ways false refl some)
-count_by-any test (x ∷ xs) some = elim (cases_Bool (test x)) [
-  | inl is ↦ let counts = count_by-yes test x xs is in omega arith
-  | inr isnt ↦
-      let counts = count_by-no test x xs isnt in
-      let rest = count_by-any test xs (rw isnt at some) in
-      omega arith
-]
-
+-- Where a test passes for no element, the count is 0.
 pub count_by-none : {X : Type 0} (test : X → Bool) (xs : List X) → list_any test xs ≡ false
     → count_by test xs ≡ 0
 count_by-none test [] none = refl

@@ -9,6 +9,7 @@ use Rattle.std.proofs.lemmas.List.FromFn.{length-range_with_len}
 use Rattle.std.proofs.lemmas.List.Sums.{count_by-le-length, length-filter, sum-map, sum_by-cons, sum_by-le}
 use Rattle.std.proofs.lemmas.List.Sums.{sum_by-le-sum_by}
 use Rattle.aeth_base.specs.declared.ids.Channel.{Channel}
+use Rattle.aeth_base.proofs.Lists.{sum_by-map}
 use Rattle.aeth_base.proofs.Members.{filter-Contains, map-Contains}
 use Rattle.aeth_server.specs.PrivateServer.{PrivateServer, landed}
 use Rattle.aeth_server.specs.Shape.{HasPaths}
@@ -29,7 +30,7 @@ use Rattle.aeth_report.proofs.FlowPlaces.{channels_of-once}
 use Rattle.aeth_report.proofs.ChannelLemmas.{same_channel}
 use Rattle.aeth_report.proofs.OneFlit.{session-paths}
 use Rattle.aeth_report.proofs.RegularLemmas.{channel-accounted}
-use Rattle.aeth_report.proofs.Sums.{count_by-sole, sum_by-below, sum_by-map, sum_by-none, sum_by-plus}
+use Rattle.aeth_report.proofs.Sums.{count_by-sole, sum_by-below, sum_by-none, sum_by-plus}
 
 -- What holds of what is in a list holds of all.
 pub All-members : {X : Type 0} (P : X → Type 0) (xs : List X) → ((x : X) → Contains xs x → P x)

@@ -10,6 +10,7 @@ use Rattle.std.proofs.lemmas.Bool.Decides.{nat_tests}
 use Rattle.std.proofs.lemmas.List.Sums.{passes_at_first, position_or_len_is}
 use Rattle.std.proofs.lemmas.Option.{same_Some, slice_get_within, slice_get-get_or}
 use Rattle.std.proofs.lemmas.Option.{get_or_from_slice_get}
+use Rattle.aeth_base.proofs.Members.{list_any-Contains, slice_get-Contains}
 use Rattle.aeth_chip.specs.declared.node.Link.{Link}
 use Rattle.aeth_chip.specs.Nodes.{numbers_from}
 use Rattle.aeth_chip.proofs.NodeLemmas.{numbers_from-at}
@@ -100,6 +101,11 @@ pub is_among-at : (links : List ℕ) (place link : ℕ) → slice_get links plac
     → is_among links link ≡ true
 is_among-at links place link at =
     any_passes_from_place (λ among. among == link) links place link at (eq-eqb link link refl)
+
+-- And one of them stands at some place.
+pub among-place : (links : List ℕ) (link : ℕ) → is_among links link ≡ true
+    → (place : ℕ) × (slice_get links place ≡ Some link)
+among-place links link is = slice_get-Contains links link (list_any-Contains links link is)
 
 -- The numbers of all links that pass a test, as those of the links that begin or end at a node.
 module _ (test : Link → Bool) (links : List Link) (number : ℕ) where

@@ -1,5 +1,5 @@
 -- What rows make of the table of a router.
-use Rattle.std.proofs.Common.{◌≡◌, ◌<◌, ◌∙◌, ◌+◌, ◌*◌, ◌/◌, ◌%◌, ℕ, zero, suc, refl, sym, ap, subst}
+use Rattle.std.proofs.Common.{◌≡◌, ◌<◌, ◌∙◌, ◌+◌, ◌*◌, ℕ, zero, suc, refl, sym, ap, subst}
 use Rattle.std.proofs.Common.{inl, inr, arith, eqb-true, true, List, [], ◌∷◌, length, replicate}
 use Rattle.std.proofs.Common.{take, get_or, set}
 use Rattle.std.proofs.Common.{Option, Some, None}
@@ -8,7 +8,7 @@ use Rattle.std.proofs.lemmas.Bool.{cases_Bool, eq-eqb}
 use Rattle.std.proofs.lemmas.List.{get_or-set_other, get_or-set_same, length-replicate, length-set}
 use Rattle.std.proofs.lemmas.List.{take_more}
 use Rattle.std.proofs.lemmas.List.Sums.{fold_push}
-use Rattle.std.proofs.lemmas.Nat.{div-mul-add, mod-mul-add}
+use Rattle.std.proofs.lemmas.Nat.{same_from_place}
 use Rattle.aeth_base.specs.declared.ids.LinkId.{LinkId}
 use Rattle.aeth_router.specs.Rows.{AreRowsFor, IsRowFor, is_at, is_for, link_in, with_row}
 use Rattle.aeth_router.specs.Rows.{with_table, without_entries}
@@ -63,17 +63,6 @@ with_table-more rows router now new place default within so_far is =
     ∙ sym (fold_push with_row first (take place rows) row)
     ∙ ap (fold with_row first) (sym (take_more rows place default within))
 
--- Entries of two places of a table are apart where their slots or their ports are.
-place-of-one : (port slot other_port other_slot slots : ℕ) → slot < slots → other_slot < slots
-    → other_port * slots + other_slot ≡ port * slots + slot
-    → (other_port ≡ port) × (other_slot ≡ slot)
-place-of-one port slot other_port other_slot slots is_slot is_other same = (
-  sym (div-mul-add other_port slots other_slot is_other) ∙ ap (λ n. n / slots) same
-      ∙ div-mul-add port slots slot is_slot,
-  sym (mod-mul-add other_port slots other_slot is_other) ∙ ap (λ n. n % slots) same
-      ∙ mod-mul-add port slots slot is_slot,
-)
-
 -- What is in a slot of a port once the entry of another, or of the same, is set.
 module _ (entries : List (Option ℕ)) (ports slots port slot : ℕ) (is_port : port < ports)
     (is_slot : slot < slots) (size : length entries ≡ ports * slots) where
@@ -92,7 +81,7 @@ module _ (entries : List (Option ℕ)) (ports slots port slot : ℕ) (is_port : 
   entry-other other_port other_slot entry is_other apart =
       get_or-set_other entries (other_port * slots + other_slot) (port * slots + slot) entry None
       (λ same.
-      let one = place-of-one port slot other_port other_slot slots is_slot is_other (sym same) in
+      let one = same_from_place other_port other_slot port slot slots is_other is_slot (sym same) in
       apart one.0 one.1)
 
 -- What a slot of a port has once rows have entered.

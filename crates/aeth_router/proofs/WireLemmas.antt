@@ -1,6 +1,6 @@
 -- Laws of the wires between which routers stand.
 use Rattle.std.proofs.Common.{◌≡◌, ◌-◌, ℕ, refl, inl, inr, arith}
-use Rattle.std.proofs.Common.{List, [], ◌∷◌, map, true}
+use Rattle.std.proofs.Common.{List, [], ◌∷◌, Some, map, slice_get, true}
 use Rattle.std.proofs.Math.Bool.{or-true}
 use Rattle.std.proofs.lemmas.Bool.{cases_eq}
 use Rattle.std.proofs.lemmas.Bool.Decides.{nat_tests}
@@ -29,6 +29,11 @@ map-is_among change (first ∷ numbers) image is =
           let found = map-is_among change numbers image later in
           (found.0, rw found.1 (or-true _), found.2)
     ]
+
+-- The last wire of a link that is there.
+pub last_wire-is : (links : List Link) (number : ℕ) (link : Link) → slice_get links number ≡ Some link
+    → last_wire links number ≡ wire_at links number (link.delay - 1)
+last_wire-is links number link at = rw at refl
 
 module _ (links : List Link) (delays : HaveDelays links) where
   -- The wires on which a router receives are wires of the chip.

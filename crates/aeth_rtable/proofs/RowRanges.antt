@@ -1,6 +1,6 @@
 -- Each row of a use case by an accepted plan is within the table of its router, and its link enters
 -- the router.
-use Rattle.std.proofs.Common.{◌≡◌, ◌<◌, ◌+◌, ◌∙◌, ℕ, zero, suc, true, List, [], ◌∷◌, Some, Contains}
+use Rattle.std.proofs.Common.{◌≡◌, ◌<◌, ◌+◌, ◌∙◌, ℕ, suc, true, List, Some, Contains}
 use Rattle.std.proofs.Common.{get_or, length, slice_get, take, sym, ap, subst, arith}
 use Rattle.std.specs.Prelude.{count_by}
 use Rattle.std.proofs.lemmas.Bool.{eqb-true}
@@ -9,12 +9,11 @@ use Rattle.aeth_base.specs.declared.ids.LinkId.{LinkId}
 use Rattle.aeth_base.specs.declared.ids.RouterId.{RouterId}
 use Rattle.aeth_base.proofs.Members.{All-slice_get, Contains-list_any, Contains-slice_get}
 use Rattle.aeth_chip.specs.Chip.{ChipData}
-use Rattle.aeth_chip.specs.Joined.{IsJoined}
 use Rattle.aeth_chip.specs.Nodes.{ends_at, receives_on}
-use Rattle.aeth_chip.specs.Paths.{BeginsAt, to_in, to_of}
+use Rattle.aeth_chip.specs.Paths.{to_in, to_of}
 use Rattle.aeth_chip.specs.declared.node.Link.{Link}
-use Rattle.aeth_chip.specs.declared.node.Node.{Node}
 use Rattle.aeth_chip.specs.declared.node.Node.TheVariants.{Ni, Router}
+use Rattle.aeth_chip.proofs.JoinedLaws.{joined-next}
 use Rattle.aeth_chip.proofs.NodeLemmas.{numbers_from-at, same_node-refl, same_node-true}
 use Rattle.aeth_chip.proofs.NodeLemmas.{sends_on-found}
 use Rattle.aeth_app.specs.App.{AppData}
@@ -34,20 +33,6 @@ use Rattle.aeth_rtable.proofs.RowLaws.{IsRow, is_row}
 use Rattle.aeth_rtable.proofs.TableLaws.{design_tables}
 
 module _ (links : List Link) where
-  -- A link of joined ones begins where the one before it ends.
-  begins-next : (a : Node) (path : List LinkId) (place : ℕ) (from link : LinkId)
-      → IsJoined (BeginsAt links) (to_of links) a path → slice_get path place ≡ Some from
-      → slice_get path (suc place) ≡ Some link → BeginsAt links link (to_of links from)
-  begins-next a [] place from link joined before behind = absurd (cc before)
-  begins-next a (first ∷ []) zero from link joined before behind = absurd (cc behind)
-  begins-next a (first ∷ second ∷ path) zero from link joined before behind =
-      let one : first ≡ from = same_Some first from before in
-      let two : second ≡ link = same_Some second link behind in
-      subst (λ (k : LinkId). BeginsAt links link (to_of links k)) one
-      (subst (λ (k : LinkId). BeginsAt links k (to_of links first)) two joined.1.0)
-  begins-next a (first ∷ path) (suc place) from link joined before behind =
-      begins-next (to_of links first) path place from link joined.1 before behind
-
   -- A link that ends at a router is one of those that enter it.
   enters-router : (l : ℕ) (link : Link) (router : RouterId) → slice_get links l ≡ Some link
       → link.to ≡ Router router → is_among (receives_on (Router router) links) l ≡ true
@@ -76,7 +61,7 @@ module _ (chip : ChipData) (app : AppData) (plan : PlanData) (design : IsDesign 
       let enters = entry.enters in
       let path = design.accepted.paths entry.grant entry.granted in
       let step : suc enters.place ≡ enters.place + 1 = omega arith in
-      let begins = begins-next links (Ni path.from) entry.grant.path enters.place row.from enters.link
+      let begins = joined-next links (Ni path.from) entry.grant.path enters.place row.from enters.link
       path.admissible.is_path.joins.joined enters.before
       (ap (slice_get entry.grant.path) step ∙ enters.behind) in
       let found = sends_on-found links (Router row.router) row.port enters.link.0 enters.port in

@@ -29,6 +29,7 @@ use Rattle.aeth_router.specs.Rows.{link_in}
 use Rattle.aeth_accepted.specs.Inputs.{AreAccepted, Inputs, design_of, run_of}
 use Rattle.aeth_accepted.proofs.GivenGrants.{connection-known}
 use Rattle.aeth_accepted.proofs.OwnGrants.{channel_of, grant-own}
+use Rattle.aeth_accepted.proofs.SoundRuns.{grant_is}
 use Rattle.aeth_fabric.specs.Fabric.{Placed, entered_by, fabric_of, flow_in, no_placed, placed_at}
 use Rattle.aeth_fabric.specs.Fabric.{placed_of, stays_in}
 use Rattle.aeth_fabric.specs.Paths.{wires_along}
@@ -40,7 +41,7 @@ use Rattle.aeth_rtable.specs.Sending.{from_rows}
 use Rattle.aeth_rtable.proofs.InForce.{used-covered}
 use Rattle.aeth_rtable.proofs.PathEntries.{at-enters}
 use Rattle.aeth_rtable.proofs.SendingLaws.{link-row}
-use Rattle.aeth_rtable.proofs.RowsInForce.{from-starts, grant_is, links_known, row-there, sent}
+use Rattle.aeth_rtable.proofs.RowsInForce.{from-starts, links_known, row-there, sent}
 use Rattle.aeth_rtable.proofs.RowsInForce.{tables}
 
 module _ (run : Run) (placed : Placed) (t : ℕ) where
@@ -185,7 +186,7 @@ module _ (inputs : Inputs) (accepted : AreAccepted inputs) (t : ℕ) where
         let grant = entry.grant in
         let enters = entry.enters in
         let known = links_known inputs accepted t grant entry.granted in
-        let size = (grant_is inputs accepted t grant entry.granted).size in
+        let size = (grant_is inputs accepted grant entry.granted).size in
         let number : enters.link.0 ≡ l = same_Some enters.link.0 l (sym enters.port
         ∙ (λ k. slice_get (sends_on (Router (record { 0 = at.router_is k })) links) (at.port_is k))
         ∙ sends.port) in

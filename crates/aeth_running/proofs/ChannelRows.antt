@@ -11,7 +11,6 @@ use Rattle.std.proofs.lemmas.List.Elements.{filter_agree}
 use Rattle.std.proofs.lemmas.List.Folds.{fold-map}
 use Rattle.std.proofs.lemmas.List.Sums.{fold-append}
 use Rattle.aeth_base.specs.declared.ids.Channel.{Channel}
-use Rattle.aeth_report.proofs.AlikeLemmas.{filter-map}
 use Rattle.aeth_trace.proofs.OrderLemmas.{rise-filter}
 use Rattle.aeth_trace.specs.Channels.{channel_number, is_channel, rows_on}
 use Rattle.aeth_trace.specs.Limits.{usual_pull}
@@ -21,7 +20,7 @@ use Rattle.aeth_trace.specs.declared.receivers.PullRow.{PullRow}
 use Rattle.aeth_trace.specs.declared.words.WordRow.{WordRow}
 use Rattle.aeth_accepted.specs.Inputs.{Inputs}
 use Rattle.aeth_running.proofs.ChannelNumbers.{numbers-tell}
-use Rattle.aeth_base.proofs.Filters.{filter-swap}
+use Rattle.aeth_base.proofs.Filters.{filter-map, filter-swap}
 use Rattle.aeth_running.proofs.RowFilters.{filter-within, rows-by}
 use Rattle.aeth_running.specs.Network.{offers_in, takes_in}
 use Rattle.aeth_stimuli.specs.Stimuli.{Offer, Take, offer_of, stimuli_of, take_of}

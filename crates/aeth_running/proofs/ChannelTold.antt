@@ -8,6 +8,7 @@ use Rattle.std.proofs.lemmas.List.{length-append, length-drop, length-map}
 use Rattle.std.proofs.lemmas.Option.{same_Some, slice_get-map}
 use Rattle.std.proofs.lemmas.Simd.{map-map}
 use Rattle.aeth_base.specs.declared.ids.Channel.{Channel}
+use Rattle.aeth_base.proofs.Filters.{filter-map}
 use Rattle.aeth_trace.specs.Channels.{channel_number}
 use Rattle.aeth_trace.specs.Words.{words_on}
 use Rattle.aeth_report.specs.Flows.{Flow, flow_of, flows_on, sessions_in}
@@ -15,7 +16,6 @@ use Rattle.aeth_report.specs.Log.{LogData, SessionData}
 use Rattle.aeth_report.specs.RunLog.{channel_log, flow_log, outside_of}
 use Rattle.aeth_report.specs.declared.session.Session.{Session}
 use Rattle.aeth_report.specs.Sound.{IsSound}
-use Rattle.aeth_report.proofs.AlikeLemmas.{filter-map}
 use Rattle.aeth_report.proofs.SessionMeetings.{mapped_at}
 use Rattle.aeth_report.proofs.StaysAlone.{at-Contains}
 use Rattle.aeth_components.specs.declared.lane.Lane.{Lane}

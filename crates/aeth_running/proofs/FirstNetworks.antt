@@ -4,17 +4,14 @@ use Rattle.std.proofs.Common.{◌≡◌, ◌≤◌, ◌<◌, ◌∙◌, ◌*◌,
 use Rattle.std.proofs.Common.{length, replicate}
 use Rattle.std.proofs.Common.{All, filter, map, slice_get, refl, subst, sym, ap, arith}
 use Rattle.std.specs.Prelude.{nat_lt}
-use Rattle.std.specs.List.{flat_map}
 use Rattle.std.proofs.lemmas.Bool.{le-ltb}
 use Rattle.std.proofs.lemmas.List.{get_or-replicate, length-map, length-replicate}
 use Rattle.std.proofs.lemmas.List.Elements.{All-replicate}
-use Rattle.std.proofs.lemmas.List.FromFn.{length-map-range_with_len}
 use Rattle.std.proofs.lemmas.Option.{same_Some, slice_get-get_or, slice_get_within}
 use Rattle.aeth_chip.specs.Chip.{IsChip}
 use Rattle.aeth_chip.specs.Wires.{wires_of}
 use Rattle.aeth_chip.proofs.WireLemmas.{have_delays, wires_of-split}
 use Rattle.aeth_clocked.specs.declared.flit.Flit.{Flit}
-use Rattle.aeth_ni.specs.Limits.{queues_of_interface}
 use Rattle.aeth_trace.specs.Channels.{channel_number}
 use Rattle.aeth_trace.specs.Limits.{usual_pull}
 use Rattle.aeth_trace.specs.Receivers.{pulls_on}
@@ -32,8 +29,7 @@ use Rattle.aeth_components.specs.declared.making.RouterKind.TheVariants.{ByHeade
 use Rattle.aeth_refinement.specs.Accepted.{IsAccepted}
 use Rattle.aeth_accepted.specs.Inputs.{Inputs, run_of}
 use Rattle.aeth_fabric.specs.Fabric.{fabric_of, opposite_in, passage_of, placed_at, placed_of}
-use Rattle.aeth_schedule.specs.Lines.{all_lines}
-use Rattle.aeth_schedule.specs.Rooms.{room_at, rooms_of}
+use Rattle.aeth_schedule.specs.Rooms.{rooms_of}
 use Rattle.aeth_schedule.specs.Switching.{loaded_of}
 use Rattle.aeth_schedule.specs.Values.{values_of}
 use Rattle.aeth_invariant.proofs.Routed.{frames-but_tables}
@@ -42,6 +38,7 @@ use Rattle.aeth_invariant.specs.Beginning.{AreEmpty}
 use Rattle.aeth_invariant.specs.Events.{AreEvents}
 use Rattle.aeth_invariant.specs.Routed.{without_table}
 use Rattle.aeth_invariant.specs.Running.{Runs}
+use Rattle.aeth_events.proofs.FittingEvents.{rooms-counted}
 use Rattle.aeth_running.proofs.ChannelNumbers.{channel-within}
 use Rattle.aeth_running.proofs.ChannelRows.{last_pull}
 use Rattle.aeth_running.proofs.ChannelStates.{Unused}
@@ -86,17 +83,12 @@ module _ (inputs : Inputs) where
   abbrev made : ComponentsState
   made = first_components inputs.chip ByHeader (rooms_of inputs) lanes words
 
-  rooms-are : length (rooms_of inputs) ≡ queues_of_interface * length inputs.chip.nis
-  unfolding rooms_of
-  rooms-are = length-map-range_with_len (room_at (flat_map (λ lines. lines) (all_lines inputs))) 0
-      (queues_of_interface * length inputs.chip.nis)
-
   module _ (laws : BeginningLaws) (is_chip : IsChip inputs.chip) (ok : IsAccepted (fabric_of inputs))
       (is-over : IsOver (fabric_of inputs) inputs.chip)
       (have-rooms : HaveRooms (fabric_of inputs) (rooms_of inputs))
       (loaded-are : AreEvents (fabric_of inputs) 0 (loaded_of inputs)) where
     begins : AreEmpty (fabric_of inputs) made
-    begins = laws.chips_begin inputs.chip is_chip (rooms_of inputs) rooms-are
+    begins = laws.chips_begin inputs.chip is_chip (rooms_of inputs) (rooms-counted inputs)
         (length (placed_of (run_of inputs)))
         (λ c. passage_of (run_of inputs) (placed_at (run_of inputs) c))
         (opposite_in (run_of inputs)) is-over have-rooms lanes words

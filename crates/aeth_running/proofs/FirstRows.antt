@@ -8,6 +8,7 @@ use Rattle.std.proofs.lemmas.Bool.{cases_lt, le-leb, le-ltb, lt-leb, lt-ltb}
 use Rattle.std.proofs.lemmas.List.{get_or-take, length-map, take-map}
 use Rattle.std.proofs.lemmas.List.Kept.{IsNonDecreasingBy-filter}
 use Rattle.aeth_base.specs.declared.ids.Channel.{Channel}
+use Rattle.aeth_base.proofs.Filters.{filter-map}
 use Rattle.aeth_server.specs.ChannelShape.{shape_of}
 use Rattle.aeth_server.specs.FinishTimes.{due_cycle, finish_time}
 use Rattle.aeth_server.specs.PrivateServer.{accepted, arrived}
@@ -19,7 +20,6 @@ use Rattle.aeth_report.specs.Flows.{close_at, server_of, values_of, words_in}
 use Rattle.aeth_report.specs.RunLog.{due_of}
 use Rattle.aeth_report.specs.declared.log.Landing.{Landing}
 use Rattle.aeth_report.specs.declared.session.Session.{Session}
-use Rattle.aeth_report.proofs.AlikeLemmas.{filter-map}
 use Rattle.aeth_accepted.specs.Inputs.{AreAccepted, Inputs, run_of}
 use Rattle.aeth_schedule.specs.Values.{before_of}
 use Rattle.aeth_schedule.specs.declared.going.Going.{Going}

@@ -5,7 +5,6 @@ use Rattle.std.specs.Prelude.{◌==◌, nat_lt}
 use Rattle.std.proofs.lemmas.Bool.{eqb-true, lt-ltb}
 use Rattle.aeth_base.specs.declared.ids.Channel.{Channel}
 use Rattle.aeth_trace.specs.Channels.{channel_number}
-use Rattle.aeth_report.proofs.AlikeLemmas.{filter-map}
 use Rattle.aeth_report.specs.Flows.{sessions_in}
 use Rattle.aeth_report.specs.declared.session.Session.{Session}
 use Rattle.aeth_refinement.specs.Fabric.{server_at}
@@ -15,7 +14,7 @@ use Rattle.aeth_schedule.specs.Goings.{goings_of}
 use Rattle.aeth_schedule.specs.declared.going.Going.{Going}
 use Rattle.aeth_running.proofs.ChannelNumbers.{channel-same}
 use Rattle.aeth_running.proofs.FabricSessions.{session-number, session-there, session_at}
-use Rattle.aeth_base.proofs.Filters.{filter-swap}
+use Rattle.aeth_base.proofs.Filters.{filter-map, filter-swap}
 use Rattle.aeth_base.proofs.Lists.{map-nil}
 use Rattle.aeth_running.proofs.RowFilters.{NoneHas, OneHas, filter-within, map-one, one-at}
 use Rattle.aeth_stimuli.specs.Stimuli.{goings_over}

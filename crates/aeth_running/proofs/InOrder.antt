@@ -10,6 +10,7 @@ use Rattle.std.proofs.lemmas.Bool.{ne_eqb}
 use Rattle.std.proofs.lemmas.List.Elements.{filter_passes}
 use Rattle.std.proofs.lemmas.List.Kept.{IsNonDecreasingBy-filter}
 use Rattle.std.proofs.lemmas.Option.{get_or_from_slice_get, slice_get_within}
+use Rattle.aeth_trace.proofs.OrderLemmas.{first_least, later_rise}
 
 -- What a filter keeps passes the test.
 pub passes-at : {X : Type 0} (test : X → Bool) (xs : List X) (i : ℕ) (x : X)
@@ -36,17 +37,6 @@ module _ {X : Type 0} (number : X → ℕ) where
   abbrev pub below : ℕ → X → Bool
   below t x = nat_lt (number x) t
 
-  -- The first of a list in order is the least.
-  pub head-least : (x : X) (xs : List X) → IsNonDecreasingBy number (x ∷ xs)
-      → All (λ y. number x ≤ number y) xs
-  head-least x xs order k default within = order 0 (suc k) default (omega arith) (omega arith)
-
-  -- And the others are in order.
-  pub tail-ordered : (x : X) (xs : List X) → IsNonDecreasingBy number (x ∷ xs)
-      → IsNonDecreasingBy number xs
-  tail-ordered x xs order i j default up within =
-      order (suc i) (suc j) default (omega arith) (omega arith)
-
   -- Where all are at least a number, none is below it.
   pub none-below : (t : ℕ) (xs : List X) → All (λ y. t ≤ number y) xs → filter (below t) xs ≡ []
   none-below t [] all = refl
@@ -59,10 +49,10 @@ module _ {X : Type 0} (number : X → ℕ) where
       → filter (below (t + 1)) xs ≡ filter (below t) xs ++ filter (λ x. number x == t) xs
   below-next t [] order = refl
   below-next t (x ∷ xs) order =
-      let rest = below-next t xs (tail-ordered x xs order) in
+      let rest = below-next t xs (later_rise number x xs order) in
       elim (cases_order (number x) t) [
         | inl same ↦
-            let least = head-least x xs order in
+            let least = first_least number x xs order in
             let none = none-below t xs (λ k d within. let up = least k d within in omega arith) in
             let here = filter (λ y. number y == t) xs in
             rw (
@@ -106,9 +96,9 @@ module _ {X : Type 0} (number : X → ℕ) where
   below-first t [] order = refl
   below-first t (x ∷ xs) order = elim (cases_lt (number x) t) [
     | inl less ↦ rw (lt-ltb (number x) t less)
-        (ap (λ (ys : List X). x ∷ ys) (below-first t xs (tail-ordered x xs order)))
+        (ap (λ (ys : List X). x ∷ ys) (below-first t xs (later_rise number x xs order)))
     | inr more ↦
-        let least = head-least x xs order in
+        let least = first_least number x xs order in
         rw (
           le-ltb (number x) t more,
           none-below t xs (λ k d within. let up = least k d within in omega arith),
@@ -121,11 +111,11 @@ module _ {X : Type 0} (number : X → ℕ) where
   rest-behind t [] order = refl
   rest-behind t (x ∷ xs) order = elim (cases_lt (number x) t) [
     | inl less ↦ rw (lt-ltb (number x) t less, lt-leb t (number x) less)
-        (rest-behind t xs (tail-ordered x xs order))
+        (rest-behind t xs (later_rise number x xs order))
     | inr more ↦
-        let least = head-least x xs order in
+        let least = first_least number x xs order in
         let none = none-below t xs (λ k d within. let up = least k d within in omega arith) in
-        let rest = rest-behind t xs (tail-ordered x xs order) in
+        let rest = rest-behind t xs (later_rise number x xs order) in
         rw (le-ltb (number x) t more, le-leb t (number x) more, none)
         (ap (λ (ys : List X). x ∷ ys) (rest ∙ ap (λ (ys : List X). drop (length ys) xs) none))
   ]
@@ -218,7 +208,7 @@ module _ {X : Type 0} (number : X → ℕ) where
     | inl less ↦
         let behind : suc (length (filter (below t) ys)) ≤ j = rw (lt-ltb (number y) t less) at past in
         let rest : (k : ℕ) → j ≡ suc k → t ≤ number x = λ k is.
-        past-below t ys (tail-ordered y ys order) k x
+        past-below t ys (later_rise number y ys order) k x
         (sym (ap (slice_get (y ∷ ys)) is) ∙ at) (omega arith) in
         rest (j - 1) (omega arith)
   ]

@@ -113,7 +113,8 @@ module _ (t : ℕ) (untils : List ℕ) where
       accepted-other (nat_lt t (slice_index untils offer.number)) n some offer apart)
       offers lanes lane at
 
-  length-offered : (offers : List Offer) (lanes : List Lane)
+  -- There are as many channels as before.
+  pub length-offered : (offers : List Offer) (lanes : List Lane)
       → length (fold (accepted_with t untils) lanes offers) ≡ length lanes
   length-offered = length-fold (accepted_with t untils) (λ some offer.
       length-accepted (nat_lt t (slice_index untils offer.number)) some offer)

@@ -7,6 +7,7 @@ use Rattle.std.proofs.lemmas.List.{length-map}
 use Rattle.std.proofs.lemmas.Option.{slice_get-map}
 use Rattle.std.specs.Prelude.{replicate}
 use Rattle.aeth_base.proofs.Members.{All-slice_get}
+use Rattle.aeth_base.proofs.TestLemmas.{is_some-false}
 use Rattle.aeth_clocked.proofs.DrivenLemmas.{driven-at}
 use Rattle.aeth_clocked.specs.Driven.{driven}
 use Rattle.aeth_clocked.specs.Wires.{AreLinks, flit_on}
@@ -36,11 +37,6 @@ driven-none (part ∷ parts) cycle link none = elim (cases_Bool (outputs_of part
   | inl own ↦ rw own (none 0 part refl own)
   | inr other ↦ rw other (driven-none parts cycle link (λ i one at. none (suc i) one at))
 ]
-
--- A test that a flit passes or not.
-is_some-none : (flit : Option Flit) → is_some flit ≡ false → flit ≡ None
-is_some-none None not = refl
-is_some-none (Some flit) not = absurd (cc not)
 
 module _ (parts : List Part) (wires : List (Option Flit)) where
   module _ (latched : HaveLatched parts wires) (empty : (l : ℕ) → flit_on wires l ≡ None) where
@@ -105,7 +101,7 @@ module _ (parts : List Part) (wires : List (Option Flit)) where
       emits-none : (i : ℕ) (part : Part) → slice_get parts i ≡ Some part
           → sends_own cycle part ≡ false → (link : ℕ) → outputs_of part link ≡ true
           → emit_of part cycle link ≡ None
-      emits-none i (Interface ni) at mute link own = is_some-none _ mute
+      emits-none i (Interface ni) at mute link own = is_some-false _ mute
       emits-none i (Router router) at mute link own =
           ((RestsDrive-router router wires cycle).0
           (held-none latched empty i router at, λ l is. empty l)).silent link own

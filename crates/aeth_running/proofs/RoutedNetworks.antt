@@ -1,5 +1,5 @@
 -- Routers whose tables have the rows in force are routed as a fabric asks.
-use Rattle.std.proofs.Common.{◌≡◌, ◌<◌, ◌∙◌, ◌+◌, ◌*◌, ◌%◌, ℕ, suc, All, true, List, []}
+use Rattle.std.proofs.Common.{◌≡◌, ◌<◌, ◌∙◌, ◌+◌, ◌*◌, ◌%◌, ℕ, All, true, List, []}
 use Rattle.std.proofs.Common.{◌∷◌, None, Option, Some, ap, arith, filter, fold, get_or, inl, inr}
 use Rattle.std.proofs.Common.{length, map, refl, slice_get, sym}
 use Rattle.std.specs.Prelude.{◌==◌, ◌&&◌, if◌then◌else◌, nat_lt, option_and_then, option_map, position}
@@ -18,7 +18,7 @@ use Rattle.aeth_chip.specs.declared.node.Node.TheVariants.{Router}
 use Rattle.aeth_chip.proofs.NodeLemmas.{length-numbers_from, numbers_from-once, same_node-true}
 use Rattle.aeth_chip.proofs.WireLemmas.{have_delays}
 use Rattle.aeth_router.proofs.LinkLemmas.{AreDistinctLinks-numbers_from, is_among-at, passes-from_is_among}
-use Rattle.aeth_router.proofs.LinkLemmas.{position-at}
+use Rattle.aeth_router.proofs.LinkLemmas.{among-place, position-at}
 use Rattle.aeth_clocked.specs.declared.flit.Flit.{Flit}
 use Rattle.aeth_router.proofs.RowLemmas.{entry-with_table, with_table-kept}
 use Rattle.aeth_router.specs.Router.{is_among, last_wire}
@@ -39,17 +39,6 @@ use Rattle.aeth_running.proofs.RouterTables.{HaveTables, IsTableOf}
 use Rattle.aeth_running.specs.Routing.{AreRowsOn, Entering, IsRoutingFor, Routing, first_rows}
 use Rattle.aeth_running.specs.Routing.{kind_of, later_rows, rows_at}
 use Rattle.aeth_rtable.specs.Sending.{from_at, from_rows}
-
--- A link among some stands at a place.
-among-place : (links : List ℕ) (link : ℕ) → is_among links link ≡ true
-    → (place : ℕ) × (slice_get links place ≡ Some link)
-among-place [] link is = absurd (cc is)
-among-place (other ∷ links) link is = elim (cases_Bool (other == link)) [
-  | inl same ↦ (0, ap (λ (n : ℕ). Some n) (eqb-true other link same))
-  | inr apart ↦
-      let rest = among-place links link (rw apart at is) in
-      (suc rest.0, rest.1)
-]
 
 -- Rows in range have links that enter the router.
 link-enters : (router : TableRouterState) (port slot : ℕ) (rows : List RouterRow)

@@ -18,7 +18,7 @@ use Rattle.aeth_router.specs.TableRouter.{TableRouterState, new_table_router, pl
 use Rattle.aeth_router.specs.declared.part.Part.{Part}
 use Rattle.aeth_router.specs.declared.part.Part.TheVariants.{Interface, Router, Stage, TableRouter}
 use Rattle.aeth_router.specs.declared.router_row.RouterRow.{RouterRow}
-use Rattle.aeth_components.proofs.FrameLemmas.{from-map}
+use Rattle.aeth_components.proofs.FrameLemmas.{from-map, views-map}
 use Rattle.aeth_components.specs.Changes.{event_done, happened, on_interface, switched, with_part}
 use Rattle.aeth_components.specs.Components.{ComponentsState, Cycle}
 use Rattle.aeth_components.specs.Entering.{entered, with_rows}
@@ -29,7 +29,6 @@ use Rattle.aeth_components.specs.declared.event.Event.{Event}
 use Rattle.aeth_components.specs.declared.making.RouterKind.{RouterKind}
 use Rattle.aeth_components.specs.declared.making.RouterKind.TheVariants.{ByHeader, ByTable}
 use Rattle.aeth_accepted.specs.Inputs.{Inputs}
-use Rattle.aeth_invariant.proofs.Kept.{kept-map}
 use Rattle.aeth_invariant.proofs.Routed.{table-there, tables-kept, tables-switched}
 use Rattle.aeth_invariant.specs.Routed.{table_in, without_table}
 use Rattle.aeth_running.proofs.InOrder.{below-next, none-below}
@@ -269,7 +268,7 @@ pub but-entered : (enterings : List Entering) (parts : List Part)
 but-entered [] parts = refl
 but-entered (entering ∷ enterings) parts =
     but-entered enterings (with_rows entering.rows parts)
-    ∙ kept-map without_table (entered entering.rows) (without-entered entering.rows) parts
+    ∙ views-map without_table (entered entering.rows) (without-entered entering.rows) parts
 
 -- Events change components alike.
 interface-commutes : (change : InterfaceState → InterfaceState) (part : Part)
@@ -329,7 +328,7 @@ pub but-first : (routing : Routing) (chip : ChipData) (rooms : List ℕ) (events
 but-first ByHeaders chip rooms events = refl
 but-first (ByTables first later) chip rooms events =
     let made = new_parts chip ByTable rooms in
-    kept-map without_table (entered first) (without-entered first) (switched events made)
+    views-map without_table (entered first) (without-entered first) (switched events made)
     ∙ switched-commutes events made
     ∙ ap (switched events) (parts-alike chip ByTable rooms)
     ∙ sym (switched-commutes events (new_parts chip ByHeader rooms))

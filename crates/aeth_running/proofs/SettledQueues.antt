@@ -1,6 +1,6 @@
 -- Source queues behind a cycle in which no flit is sent: eight words wait, or all that have arrived were
 -- handed on.
-use Rattle.std.proofs.Common.{◌≡◌, ◌<◌, ◌∙◌, ◌+◌, ◌-◌, ℕ, zero, suc, Bool, List, [], ◌∷◌}
+use Rattle.std.proofs.Common.{◌≡◌, ◌<◌, ◌∙◌, ◌+◌, ◌-◌, ℕ, suc, Bool, List}
 use Rattle.std.proofs.Common.{◌++◌, Option, Some, None, ap, ap₂, arith, cond, inl, inr, length, min, refl}
 use Rattle.std.proofs.Common.{slice_get, sym, take}
 use Rattle.std.specs.Option.{option_map_or}
@@ -15,8 +15,9 @@ use Rattle.aeth_router.specs.declared.part.Part.TheVariants.{Interface, Router, 
 use Rattle.aeth_server.specs.PrivateServer.{arrived, sent}
 use Rattle.aeth_server.proofs.PrivateServerLemmas.{sent-more}
 use Rattle.aeth_report.specs.Carries.{returns, sends}
+use Rattle.aeth_components.proofs.PartLemmas.{with_part-same}
 use Rattle.aeth_components.proofs.QueueLemmas.{changed-same}
-use Rattle.aeth_components.specs.Changes.{at_end, on_interface, told_at, told_by, with_part}
+use Rattle.aeth_components.specs.Changes.{at_end, on_interface, told_at, told_by}
 use Rattle.aeth_components.specs.Phases.{handed_on}
 use Rattle.aeth_components.specs.Queues.{filled, fits}
 use Rattle.aeth_components.specs.View.{queue_in, queue_of as queue_in_parts}
@@ -95,16 +96,6 @@ fits-full left queue full =
     let none : waiting_words - length queue.waiting ≡ 0 = omega arith in
     ap (λ n. length (take n left)) none
 
--- A change that leaves the component of a number leaves all.
-with_part-rests : (number : ℕ) (change : Part → Part) (parts : List Part)
-    → ((part : Part) → slice_get parts number ≡ Some part → change part ≡ part)
-    → with_part number change parts ≡ parts
-with_part-rests number change [] rests = refl
-with_part-rests zero change (part ∷ parts) rests =
-    ap (λ (one : Part). one ∷ parts) (rests part refl)
-with_part-rests (suc number) change (part ∷ parts) rests =
-    ap (λ (others : List Part). part ∷ others) (with_part-rests number change parts rests)
-
 -- So a session whose queue is full hands nothing on.
 module _ (left : List ℕ) (queue : ℕ) where
   at-full : (part : Part) → length (queue_in queue (Some part)).waiting ≡ waiting_words
@@ -129,7 +120,7 @@ pub handed_on-full : (left : List ℕ) (parts : List Part) (lane : Lane)
 handed_on-full left parts lane full =
     let end = lane.sender in
     let rest : at_end end (filled left) parts ≡ parts =
-    with_part-rests end.ni.0 (on_interface (changed end.queue (filled left))) parts
+    with_part-same end.ni.0 (on_interface (changed end.queue (filled left))) parts
     (λ part at. at-full left end.queue part
     (ap (λ (found : Option Part). length (queue_in end.queue found).waiting) (sym at) ∙ full)) in
     let told : told_at end (fits left) parts ≡ 0 =

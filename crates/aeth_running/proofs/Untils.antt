@@ -15,7 +15,6 @@ use Rattle.aeth_trace.specs.declared.words.WordRow.{WordRow}
 use Rattle.aeth_report.specs.Flows.{close_at, flow_of, flows_on, sessions_in}
 use Rattle.aeth_report.specs.RunLog.{is_accepted}
 use Rattle.aeth_report.specs.declared.session.Session.{Session}
-use Rattle.aeth_report.proofs.AlikeLemmas.{filter-map}
 use Rattle.aeth_accepted.specs.Inputs.{Inputs, run_of}
 use Rattle.aeth_schedule.specs.Goings.{goings_of}
 use Rattle.aeth_schedule.specs.declared.going.Going.{Going}
@@ -24,7 +23,7 @@ use Rattle.aeth_running.specs.Network.{first_network, played, until_with, untils
 use Rattle.aeth_stimuli.specs.Sessions.{SessionGoing, as_going, going_of}
 use Rattle.aeth_stimuli.specs.Stimuli.{is_over, stimuli_of}
 use Rattle.aeth_running.proofs.Accepting.{accepts, last-accepts, last_until, written-last}
-use Rattle.aeth_base.proofs.Filters.{filter-swap}
+use Rattle.aeth_base.proofs.Filters.{filter-map, filter-swap}
 use Rattle.aeth_running.proofs.InOrder.{below, below-next, below-wider, none-below}
 use Rattle.aeth_running.proofs.Played.{untils-first, untils-next}
 use Rattle.aeth_running.proofs.Replaced.{go_of}

@@ -10,6 +10,7 @@ use Rattle.std.proofs.lemmas.List.Elements.{All-cons, All-head, All-nil, All-tai
 use Rattle.std.proofs.lemmas.List.FromFn.{get_or-map-range_with_len}
 use Rattle.aeth_base.specs.declared.ids.Channel.{Channel}
 use Rattle.aeth_base.specs.declared.ids.Side.TheVariants.{Back, Fwd}
+use Rattle.aeth_base.proofs.Filters.{filter-filter}
 use Rattle.aeth_server.specs.declared.shape.ChannelShape.{ChannelShape}
 use Rattle.aeth_group.specs.Members.{GroupsData, group_at, groups_of, has_at, is_kept}
 use Rattle.aeth_ni.specs.declared.row.ChannelRow.{ChannelRow}
@@ -62,20 +63,6 @@ rows-filter design group test (c ∷ cs) =
       | inl passes ↦ rw passes
           (ap (λ (rows : List ChannelRow). has (record { conn = record { 0 = c }; side = Fwd })
           ∷ has (record { conn = record { 0 = c }; side = Back }) ∷ rows) rest)
-      | inr fails ↦ rw fails rest
-    ]
-
--- One test behind another.
-filter-filter : (has test : ℕ → Bool) (cs : List ℕ)
-    → filter test (filter has cs) ≡ filter (λ c. has c && test c) cs
-filter-filter has test [] = refl
-filter-filter has test (c ∷ cs) =
-    let rest = filter-filter has test cs in
-    elim (cases_Bool (has c)) [
-      | inl passes ↦ elim (cases_Bool (test c)) [
-        | inl both ↦ rw (passes, both) (ap (λ (ds : List ℕ). c ∷ ds) rest)
-        | inr one ↦ rw (passes, one) rest
-      ]
       | inr fails ↦ rw fails rest
     ]
 

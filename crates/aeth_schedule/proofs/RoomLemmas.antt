@@ -10,6 +10,7 @@ use Rattle.std.proofs.lemmas.List.{get_or-set_same, length-replicate, length-set
 use Rattle.std.proofs.lemmas.List.FromFn.{get_or-map-range_with_len, length-map-range_with_len}
 use Rattle.std.proofs.lemmas.List.Elements.{All-head, All-tail, filter-append}
 use Rattle.aeth_slots.specs.SlotSet.{greatest}
+use Rattle.aeth_slots.proofs.SlotSetLemmas.{greatest-push}
 use Rattle.aeth_tables.specs.declared.buffering.Buffer.{Buffer}
 use Rattle.aeth_schedule.specs.Rooms.{landing_number, raised, raised_all}
 
@@ -21,11 +22,6 @@ need_at buffers number =
 -- Of so many queues.
 abbrev pub needs_in : List Buffer → ℕ → List ℕ
 needs_in buffers count = map (need_at buffers) (range_with_len 0 count)
-
--- The greatest of one number more.
-greatest-push : (xs : List ℕ) (x : ℕ) → greatest (xs ++ x ∷ []) ≡ max (greatest xs) x
-greatest-push [] x = omega arith
-greatest-push (y ∷ ys) x = let later = greatest-push ys x in omega arith
 
 -- The queue at which a channel lands has room for it too.
 pub need-own : (done : List Buffer) (line : Buffer) (k : ℕ) → (landing_number line == k) ≡ true

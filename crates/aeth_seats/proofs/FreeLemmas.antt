@@ -6,24 +6,14 @@ use Rattle.std.specs.List.{count_by, list_any, range_with_len}
 use Rattle.std.proofs.lemmas.Bool.{cases_Bool, cases_eq, not_from_false, not_from_true}
 use Rattle.std.proofs.lemmas.Bool.{or_left, or_right}
 use Rattle.aeth_base.specs.declared.ids.NiId.{NiId}
-use Rattle.aeth_base.proofs.Lists.{count_by-no, count_by-yes}
+use Rattle.aeth_base.proofs.Lists.{count_by-any, count_by-no, count_by-yes}
 use Rattle.aeth_app.specs.Limits.{seats_per_ni}
 use Rattle.aeth_seats.specs.Places.{Place, free_count, has_free, is_taken, lowest_free, placed}
 use Rattle.aeth_seats.specs.Places.{placed_on, seat_of, taken_seats}
 use Rattle.aeth_seats.proofs.SeatLemmas.{lowest-free, lowest-some}
 use Rattle.aeth_seats.proofs.TakenLemmas.{is_taken-more, sits_on-away, sits_on-own}
 
--- Some element passes exactly where the number of those that pass isn't 0.
-any-counts : {X : Type 0} (test : X → Bool) (xs : List X) → list_any test xs ≡ true
-    → 1 ≤ count_by test xs
-any-counts test [] found = cc found
-any-counts test (x ∷ xs) found = elim (cases_Bool (test x)) [
-  | inl passes ↦ omega (arith, count_by-yes test x xs passes)
-  | inr fails ↦
-      let rest = any-counts test xs (ap (λ b. b || list_any test xs) (sym fails) ∙ found) in
-      omega (arith, count_by-no test x xs fails, rest)
-]
-
+-- Where the number of elements that pass isn't 0, some element passes.
 counts-any : {X : Type 0} (test : X → Bool) (xs : List X) → 1 ≤ count_by test xs
     → list_any test xs ≡ true
 counts-any test [] some = absurd (omega arith)
@@ -83,7 +73,7 @@ one-less f f' seat a (suc n) from below free marked same =
 -- An interface has a free seat exactly where the number of them isn't 0.
 pub some-free : (places : List (Option Place)) (ni : ℕ) → has_free places ni ≡ true
     → 1 ≤ free_count places ni
-some-free places ni = any-counts not (taken_seats places ni)
+some-free places ni = count_by-any not (taken_seats places ni)
 
 pub free-some : (places : List (Option Place)) (ni : ℕ) → 1 ≤ free_count places ni
     → has_free places ni ≡ true

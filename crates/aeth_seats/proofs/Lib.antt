@@ -2,6 +2,6 @@ mod TakenLemmas
 mod TableLemmas
 pub mod SeatLemmas
 pub mod FreeLemmas
-mod SeatingLemmas
+pub mod SeatingLemmas
 mod FillLemmas
 pub mod FirstLemmas

@@ -16,7 +16,7 @@ use Rattle.aeth_seats.specs.Seats.{IsSeats, SeatsData, with_core}
 use Rattle.aeth_seats.proofs.TakenLemmas.{seat_of-set_other}
 use Rattle.aeth_seats.proofs.SeatLemmas.{seats-with_core}
 
--- A core that is placed changes no other core's seat, nor how many cores there are.
+-- A core that is placed changes no other core's seat.
 pub placed_on-other : (places : List (Option Place)) (core : ℕ) (ni : NiId) (found : Option ℕ)
     (other : ℕ) → other ≢ core
     → seat_of (placed_on places core ni found) other ≡ seat_of places other
@@ -24,7 +24,8 @@ placed_on-other places core ni None other apart = refl
 placed_on-other places core ni (Some seat) other apart =
     seat_of-set_other places core other (Some (ni, seat)) apart
 
-length-placed_on : (places : List (Option Place)) (core : ℕ) (ni : NiId) (found : Option ℕ)
+-- Nor does it change how many cores there are.
+pub length-placed_on : (places : List (Option Place)) (core : ℕ) (ni : NiId) (found : Option ℕ)
     → length (placed_on places core ni found) ≡ length places
 length-placed_on places core ni None = refl
 length-placed_on places core ni (Some seat) = length-set places core (Some (ni, seat))

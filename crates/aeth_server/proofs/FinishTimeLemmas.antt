@@ -4,14 +4,12 @@ use Rattle.std.proofs.Common.{length, get_or, refl, ap, inl, inr, arith}
 use Rattle.std.specs.List.Sorted.{IsNonDecreasing}
 use Rattle.std.proofs.Math.Nat.{mul-le-mul_left}
 use Rattle.std.proofs.lemmas.Bool.{cases_lt, lt-ltb, le-ltb}
+use Rattle.aeth_base.proofs.Lists.{IsNonDecreasing-tail}
 use Rattle.aeth_server.specs.FinishTimes.{arrivals_before, finish_time}
 
 -- ---- arrivals
--- the rest of numbers that never fall.
-rest-order : (x : ℕ) (xs : List ℕ) → IsNonDecreasing (x ∷ xs) → IsNonDecreasing xs
-rest-order x xs order i j d up within = order (suc i) (suc j) d (omega arith) (omega arith)
 
--- The first of them is the least.
+-- The first of numbers that never fall is the least.
 first-least : (x : ℕ) (xs : List ℕ) → IsNonDecreasing (x ∷ xs) → (i : ℕ) → i < length xs
     → x ≤ get_or xs i 0
 first-least x xs order i within = order 0 (suc i) 0 (omega arith) (omega arith)
@@ -51,7 +49,7 @@ none-yet : (x : ℕ) (xs : List ℕ) (s : ℕ) → IsNonDecreasing (x ∷ xs) �
 none-yet x [] s order early = late-arrival x [] s early
 none-yet x (y ∷ xs) s order early =
     let up = first-least x (y ∷ xs) order 0 (omega arith) in
-    let rest = none-yet y xs s (rest-order x (y ∷ xs) order) (omega (arith, up)) in
+    let rest = none-yet y xs s (IsNonDecreasing-tail x (y ∷ xs) order) (omega (arith, up)) in
     late-arrival x (y ∷ xs) s early ∙ rest
 
 -- Up to the cycle of a word no more than those before it have arrived.
@@ -60,7 +58,7 @@ pub arrived-before : (xs : List ℕ) (s i : ℕ) → IsNonDecreasing xs → i < 
 arrived-before [] s i order within early = absurd (omega arith)
 arrived-before (x ∷ xs) s zero order within early = omega (arith, none-yet x xs s order early)
 arrived-before (x ∷ xs) s (suc i) order within early =
-    let rest = arrived-before xs s i (rest-order x xs order) (omega arith) early in
+    let rest = arrived-before xs s i (IsNonDecreasing-tail x xs order) (omega arith) early in
     elim (cases_lt x s) [
       | inl come ↦ omega (arith, rest, early-arrival x xs s come)
       | inr late ↦ omega (arith, rest, late-arrival x xs s late)
@@ -77,7 +75,7 @@ arrives-later (x ∷ xs) s zero order within few = elim (cases_lt x s) [
 arrives-later (x ∷ xs) s (suc i) order within few = elim (cases_lt x s) [
   | inl early ↦
       let fewer : arrivals_before xs s ≤ i = omega (arith, early-arrival x xs s early) in
-      arrives-later xs s i (rest-order x xs order) (omega arith) fewer
+      arrives-later xs s i (IsNonDecreasing-tail x xs order) (omega arith) fewer
   | inr late ↦ omega (arith, first-least x xs order i (omega arith))
 ]
 
@@ -89,7 +87,7 @@ arrived-after (x ∷ xs) zero order within =
     omega (arith, early-arrival x xs (x + 1) (omega arith))
 arrived-after (x ∷ xs) (suc i) order within =
     let least = first-least x xs order i (omega arith) in
-    let rest = arrived-after xs i (rest-order x xs order) (omega arith) in
+    let rest = arrived-after xs i (IsNonDecreasing-tail x xs order) (omega arith) in
     omega (arith, rest, early-arrival x xs (get_or xs i 0 + 1) (omega arith))
 
 -- ---- finish times

@@ -4,9 +4,8 @@ use Rattle.std.proofs.Common.{ℕ, ◌<◌, ◌≡◌, ◌≢◌, ◌↔◌, ◌
 use Rattle.std.proofs.Common.{filter, get_or, Contains, Option, Some, None, sym, refl, ap, subst}
 use Rattle.std.proofs.Common.{inl, inr, arith, IsSome}
 use Rattle.std.specs.List.{best_of}
-use Rattle.std.specs.declared.cmp.Ordering.{Ordering}
-use Rattle.std.specs.declared.cmp.Ordering.TheVariants.{Less, Equal, Greater}
-use Rattle.std.specs.Ordering.{nat_cmp, is_lt, ordering_reverse}
+use Rattle.std.specs.declared.cmp.Ordering.TheVariants.{Less}
+use Rattle.std.specs.Ordering.{nat_cmp, is_lt}
 use Rattle.std.specs.Cmp.{IsTotalOrder}
 use Rattle.std.specs.Cmp.Lexicographic.{slice_cmp}
 use Rattle.std.proofs.lemmas.Cmp.{nat_cmp_total, nat_list_cmp_total, on_total, then_total}
@@ -20,6 +19,7 @@ use Rattle.aeth_slots.specs.SlotSet.{Slots, IsSlotSet, gap_of}
 use Rattle.aeth_slots.specs.Choice.{IsSuitable, is_suitable, sublists, subsets, choice_order}
 use Rattle.aeth_slots.specs.Choice.{first_by, chosen, IsChosen}
 use Rattle.aeth_base.proofs.Members.{Contains-nil, Contains-map, Contains-filter, filter-Contains}
+use Rattle.aeth_base.proofs.TestLemmas.{equal_from_turned}
 use Rattle.std.proofs.lemmas.List.{get_or_default}
 use Rattle.aeth_slots.proofs.Sublists.{sublists-itself}
 use Rattle.aeth_slots.proofs.Rounds.{subset-size, subset-round, round-length, round-suitable}
@@ -101,19 +101,11 @@ earlier_before set other same before =
       before,
     ) refl
 
-equal_from : (order turned : Ordering) → order ≡ ordering_reverse turned → order ≢ Less
-    → turned ≢ Less → order ≡ Equal
-equal_from Less turned is not_before not_after = absurd (not_before refl)
-equal_from Equal turned is not_before not_after = refl
-equal_from Greater Less is not_before not_after = absurd (not_after refl)
-equal_from Greater Equal is not_before not_after = cc
-equal_from Greater Greater is not_before not_after = cc
-
 -- Two lists of which neither comes before the other are equal.
 same_lists : (xs ys : List ℕ) → slice_cmp nat_cmp xs ys ≢ Less → slice_cmp nat_cmp ys xs ≢ Less
     → xs ≡ ys
 same_lists xs ys not_before not_after =
-    exact_bytes xs ys (equal_from (slice_cmp nat_cmp xs ys) (slice_cmp nat_cmp ys xs)
+    exact_bytes xs ys (equal_from_turned (slice_cmp nat_cmp xs ys) (slice_cmp nat_cmp ys xs)
     (nat_list_cmp_total.antisymm xs ys) not_before not_after)
 
 -- ---- what is chosen

@@ -9,7 +9,7 @@ use Rattle.std.proofs.lemmas.Bool.{eqb-true, eqb-false}
 use Rattle.aeth_slots.specs.Bits.{ones_from}
 use Rattle.aeth_slots.specs.BitLemmas.{places-suc, places-none, places-all}
 use Rattle.aeth_slots.specs.SlotSet.{Slots}
-use Rattle.aeth_slots.proofs.Masks.{IsView}
+use Rattle.aeth_slots.proofs.Masks.{IsView, zero_bit}
 
 bit-ones : (b : ℕ) → b < 2 → ones b ≡ b
 unfolding ones
@@ -19,11 +19,6 @@ bit-ones (suc (suc b)) bit = absurd (omega arith)
 
 ones-push : (high b : ℕ) → b < 2 → ones (high * 2 + b) ≡ ones high + b
 ones-push high b bit = ones_cat 1 high b bit ∙ ap (λ k. ones high + k) (bit-ones b bit)
-
-zero_bit : (b : ℕ) → b < 2 → (b ≡ 1 → ⊥) → b ≡ 0
-zero_bit zero bit other = refl
-zero_bit (suc zero) bit other = absurd (other refl)
-zero_bit (suc (suc b)) bit other = absurd (omega arith)
 
 -- The list of the ones over some places is as long as these places have ones.
 pub length-ones_from : (mask at n : ℕ) → length (ones_from mask at n) ≡ ones (mask / 2 ^ at % 2 ^ n)

@@ -1,24 +1,21 @@
 -- Laws of look-ups in masks: the next slot after a place, and the first slot.
 use Rattle.std.proofs.Common.{ℕ, ◌+◌, ◌-◌, ◌*◌, ◌/◌, ◌%◌, ◌^◌, ◌<◌, ◌≤◌, ◌≡◌, ◌≢◌, ◌∙◌, [], ◌∷◌}
-use Rattle.std.proofs.Common.{Contains, sym, refl, ap, subst, inl, inr, arith, bit_and}
+use Rattle.std.proofs.Common.{Contains, sym, ap, subst, inl, inr, arith, bit_and}
 use Rattle.std.specs.Int.{bit_at, bit_not, trailing_zeros, Width}
 use mir.Val.{bits}
 use Rattle.std.proofs.Math.Pow.{pow_mono}
 use Rattle.std.proofs.Math.Nat.{lt_of_lt_of_le, lt_of_le_of_lt}
-use Rattle.std.proofs.lemmas.Nat.{shr-shr, shr_le}
+use Rattle.std.proofs.lemmas.Nat.{shr_le}
 use Rattle.std.proofs.lemmas.Nat.Bits.{bit_at-zero, bit_at_above, bit_at_clear_same}
 use Rattle.std.proofs.lemmas.Nat.Bits.{bit_at_clear_other, bit_at-trailing_zeros}
 use Rattle.std.proofs.lemmas.Bool.{cases_eq, cases_lt}
 use Rattle.aeth_slots.specs.Bits.{ones_from}
 use Rattle.aeth_slots.specs.SlotSet.{Slots, IsNextSlot}
+use Rattle.aeth_base.proofs.MarkLemmas.{bit_at-shift}
 use Rattle.aeth_base.proofs.Members.{Contains-there, Contains-cases}
 use Rattle.aeth_slots.proofs.Ascending.{Ascends-from, same_members}
 use Rattle.aeth_slots.proofs.Masks.{Ascends-mask, Contains-ones, IsView, member-view, ones-Contains}
 use Rattle.aeth_slots.proofs.Masks.{view-ascends, view-empty, view-member}
-
--- A bit of a mask that was shifted down.
-pub bit_at-shift : (mask s i : ℕ) → bit_at (mask / 2 ^ s) i ≡ bit_at mask (s + i)
-bit_at-shift mask s i = rw (shr-shr mask s i) refl
 
 -- Past the size no slot follows.
 pub none_past : (size mask from : ℕ) (set : Slots) → IsView size mask set → size ≤ from → (s : ℕ)

@@ -16,6 +16,7 @@ use Rattle.aeth_slots.specs.SlotSet.{Slots, all_slots, has_slot, joined, without
 use Rattle.aeth_base.proofs.Members.{Contains-filter, filter-Contains}
 use Rattle.aeth_slots.proofs.Ascending.{Ascends-bounds, Ascends-filter}
 use Rattle.aeth_slots.proofs.Masks.{IsView, view-is, view-member, member-view, view-ascends}
+use Rattle.aeth_slots.proofs.Masks.{zero_bit}
 use Rattle.aeth_base.proofs.Ranges.{Contains-range}
 use Rattle.aeth_slots.proofs.TestLemmas.{Ascends-slots, has_slot-Decides}
 use Rattle.aeth_slots.proofs.TestLemmas.{Ascends-where, Contains-where}
@@ -103,11 +104,6 @@ view-joined size mask other set set' view view' =
       )
     ])
 
-not_one : (b : ℕ) → b < 2 → (b ≡ 1 → ⊥) → b ≡ 0
-not_one zero small none = refl
-not_one (suc zero) small none = absurd (none refl)
-not_one (suc (suc b)) small none = absurd (omega arith)
-
 -- The mask of the bits of the first mask that the other hasn't stands for the slots of the first set
 -- that the other hasn't.
 pub view-without : (w : Width) (size mask other : ℕ) (set set' : Slots) → size ≤ bits w
@@ -135,4 +131,4 @@ view-without w size mask other set set' most small view view' =
     (not-true _ found.1)
     ((has_slot-Decides set' s).1 (member-view size other set' view' s is.0 one)) in
     let small' = bit_at-lt other s in
-    omega (arith, bits_of s is.0, is.1, not_one (bit_at other s) small' none))
+    omega (arith, bits_of s is.0, is.1, zero_bit (bit_at other s) small' none))

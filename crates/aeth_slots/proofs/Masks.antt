@@ -1,7 +1,7 @@
 -- Laws of masks: the list of a mask's ones, and the sets that masks stand for.
 use Rattle.std.proofs.Common.{ℕ, min, ◌+◌, ◌*◌, ◌/◌, ◌%◌, ◌^◌, ◌<◌, ◌≤◌, ◌≡◌, ◌↔◌, ◌∙◌, zero, suc}
 use Rattle.std.proofs.Common.{Bool, true, false, cond, eqb, List, [], ◌∷◌, Contains, sym, refl, ap}
-use Rattle.std.proofs.Common.{subst, inl, inr, arith, rules, IsTrue, bit_and, bit_or, zero-add}
+use Rattle.std.proofs.Common.{subst, inl, inr, arith, IsTrue, bit_and, bit_or, zero-add}
 use Rattle.std.specs.Int.{bit_at, Width, w128}
 use mir.Val.{bits}
 use Rattle.std.proofs.lemmas.Nat.{one_shl, or_lt, pow_below}
@@ -14,6 +14,7 @@ use Rattle.aeth_slots.specs.Bits.{IsMask, ones_from, mask_of}
 use Rattle.aeth_slots.specs.BitLemmas.{mask_of-ones}
 use Rattle.aeth_slots.specs.SlotSet.{Slots, IsSlotSet, Ascends, same_set, with_slot, common}
 use Rattle.aeth_base.proofs.Members.{Contains-nil, Contains-there, Contains-cases}
+use Rattle.aeth_base.proofs.TestLemmas.{IsTrue_from_true, true_from_IsTrue}
 use Rattle.aeth_slots.proofs.Ascending.{Ascends-bounds, Ascends-wider, Ascends-with_slot}
 use Rattle.aeth_slots.proofs.Ascending.{Ascends-filter, with_slot-new, with_slot-old}
 use Rattle.aeth_slots.proofs.Ascending.{with_slot-cases, same_members}
@@ -22,6 +23,12 @@ use Rattle.aeth_slots.proofs.SlotSetLemmas.{Contains-common, same_set-Decides}
 -- How many bits a mask has: with the type of masks, all that is said of their width.
 abbrev pub mask_width : Width
 mask_width = w128
+
+-- A bit that isn't one is zero.
+pub zero_bit : (b : ℕ) → b < 2 → (b ≡ 1 → ⊥) → b ≡ 0
+zero_bit zero bit other = refl
+zero_bit (suc zero) bit other = absurd (other refl)
+zero_bit (suc (suc b)) bit other = absurd (omega arith)
 
 -- A one of a mask is in the list of its ones.
 pub Contains-ones : (mask at n s : ℕ) → at ≤ s → s < at + n → bit_at mask s ≡ 1
@@ -121,12 +128,6 @@ pub view-set : (size mask : ℕ) (set : Slots) → IsView size mask set → 1 �
 view-set size mask set view some most =
     subst IsSlotSet view
     (record { some_size = some; within = most; ascends = Ascends-mask mask size })
-
-true_from_IsTrue : (b : Bool) → IsTrue b → b ≡ true
-true_from_IsTrue b test = search rules
-
-IsTrue_from_true : (b : Bool) → b ≡ true → IsTrue b
-IsTrue_from_true b test = search rules
 
 -- The test of a bit says whether the slot is in the set.
 pub view-has : (size mask s : ℕ) (set : Slots) → IsView size mask set → s < set.size

@@ -1,11 +1,12 @@
--- Laws of slot sets: the slots of a set that was rotated or met, and equal sets.
-use Rattle.std.proofs.Common.{ℕ, ◌+◌, ◌%◌, ◌≡◌, ◌↔◌, eqb, map, Contains, sym}
-use Rattle.std.proofs.Common.{ap, subst}
+-- Laws of slot sets: the slots of a set that was rotated or met, equal sets, and the greatest of a
+-- list with one more number.
+use Rattle.std.proofs.Common.{ℕ, ◌+◌, ◌%◌, ◌≡◌, ◌↔◌, ◌++◌, eqb, map, max, List, [], ◌∷◌, Contains, sym}
+use Rattle.std.proofs.Common.{ap, subst, arith}
 use Rattle.std.specs.List.{list_any}
 use Rattle.std.proofs.lemmas.Bool.{eqb-true, eq-eqb, and_from, and_parts}
 use Rattle.std.proofs.lemmas.Slice.Eq.{bytes_eq-Decides}
 use Rattle.std.specs.Bool.{Decides}
-use Rattle.aeth_slots.specs.SlotSet.{Slots, same_set, rotated, common}
+use Rattle.aeth_slots.specs.SlotSet.{Slots, same_set, rotated, common, greatest}
 use Rattle.aeth_base.proofs.Members.{Contains-map, Contains-list_any, list_any-Contains}
 use Rattle.aeth_base.proofs.Members.{map-Contains, Contains-filter, filter-Contains}
 use Rattle.aeth_slots.proofs.Ascending.{Contains-ascending, ascending-Contains}
@@ -45,3 +46,8 @@ same_set-Decides set other = (
       (eq-eqb set.size other.size (ap (λ (s : Slots). s.size) same))
       ((bytes_eq-Decides set.slots other.slots).1 (ap (λ (s : Slots). s.slots) same))),
 )
+
+-- The greatest of one number more.
+pub greatest-push : (xs : List ℕ) (x : ℕ) → greatest (xs ++ x ∷ []) ≡ max (greatest xs) x
+greatest-push [] x = omega arith
+greatest-push (y ∷ xs) x = let rest = greatest-push xs x in omega (arith, rest)

@@ -2,16 +2,14 @@
 use Rattle.std.proofs.Common.{◌≡◌, ◌≤◌, ◌<◌, ◌+◌, ◌-◌, ◌++◌, ◌∙◌, ℕ, zero, suc, List, [], ap, arith}
 use Rattle.std.proofs.Common.{inl, inr}
 use Rattle.std.proofs.Common.{length, refl, subst, sym}
-use Rattle.std.specs.Prelude.{flat_map}
-use Rattle.std.specs.List.{range_with_len}
 use Rattle.std.proofs.lemmas.Bool.{cases_eq, cases_order}
-use Rattle.std.proofs.lemmas.List.{append-nil, append_assoc, flat_map_more, length-append, length-map}
+use Rattle.std.proofs.lemmas.List.{append-nil, append_assoc, length-append, length-map}
 use Rattle.aeth_base.specs.declared.ids.Channel.{Channel}
 use Rattle.aeth_base.specs.declared.ids.Side.{Side}
 use Rattle.aeth_base.specs.declared.ids.Side.TheVariants.{Back, Fwd}
-use Rattle.aeth_base.proofs.Ranges.{range_with_len-more}
 use Rattle.aeth_trace.specs.Words.{words_on}
 use Rattle.aeth_trace.specs.declared.words.WordRow.{WordRow}
+use Rattle.aeth_schedule.proofs.Places.{values-more}
 use Rattle.aeth_schedule.specs.Values.{start_of, values_of, values_on, values_with}
 
 -- The channel of a connection on a side.
@@ -19,14 +17,6 @@ abbrev channel_on : ℕ → Side → Channel
 channel_on c side = record { conn = record { 0 = c }; side = side }
 
 module _ (words : List WordRow) where
-  -- One connection more.
-  values-more : (n : ℕ) → values_of words (n + 1) ≡ values_of words n ++ values_with words n
-  values-more n =
-      let more = range_with_len-more 0 n n (omega arith) in
-      let next : n + 1 ≡ suc n = omega arith in
-      let split = flat_map_more (values_with words) [] (range_with_len 0 n) n in
-      ap (values_of words) next ∙ (ap (flat_map (values_with words)) more ∙ sym split)
-
   -- How many words the channel of a connection on a side has.
   abbrev count_on : ℕ → Side → ℕ
   count_on c side = length (words_on words (channel_on c side))
@@ -38,7 +28,7 @@ module _ (words : List WordRow) where
   values-count : (n : ℕ) → length (values_of words (n + 1))
       ≡ length (values_of words n) + (count_on n Fwd + count_on n Back)
   values-count n =
-      let all = ap (λ (list : List ℕ). length list) (values-more n) in
+      let all = ap (λ (list : List ℕ). length list) (values-more words n) in
       let both = length-append (values_of words n) (values_with words n) in
       let pair = length-append (values_on words (channel_on n Fwd))
       (values_on words (channel_on n Back)) in
@@ -119,7 +109,7 @@ module _ (words : List WordRow) where
       record {
         front = stands.front;
         rest = stands.rest ++ more;
-        is = values-more n
+        is = values-more words n
             ∙ ap (λ (list : List ℕ). list ++ more) stands.is
             ∙ append_assoc stands.front (own ++ stands.rest) more
             ∙ ap (λ (list : List ℕ). stands.front ++ list) (append_assoc own stands.rest more);
@@ -131,7 +121,7 @@ module _ (words : List WordRow) where
   stands-last c Fwd = record {
     front = values_of words c;
     rest = values_on words (channel_on c Back);
-    is = values-more c;
+    is = values-more words c;
     start = omega arith;
   }
   stands-last c Back =
@@ -143,7 +133,7 @@ module _ (words : List WordRow) where
       record {
         front = ahead ++ fwd;
         rest = [];
-        is = values-more c
+        is = values-more words c
             ∙ sym (append_assoc ahead fwd back)
             ∙ ap (λ (list : List ℕ). (ahead ++ fwd) ++ list) (sym (append-nil back));
         start = omega (arith, len, count);

@@ -16,7 +16,6 @@ use Rattle.aeth_report.specs.declared.session.Session.{Session}
 use Rattle.aeth_report.specs.Flows.{close_at, sessions_in}
 use Rattle.aeth_report.specs.Sessions.{Stay, Switch, go_of, opens, session_of, stay_with}
 use Rattle.aeth_report.specs.Sessions.{stays_behind, stays_of}
-use Rattle.aeth_report.proofs.AlikeLemmas.{filter-map}
 use Rattle.aeth_report.proofs.Stays.{opened, switch_of}
 use Rattle.aeth_reconf.specs.Rows.{channels_that}
 use Rattle.aeth_accepted.specs.Inputs.{AreAccepted, Inputs, run_of}
@@ -29,7 +28,7 @@ use Rattle.aeth_schedule.specs.declared.lines.Line.{Line}
 use Rattle.aeth_stimuli.specs.Stimuli.{goings_over}
 use Rattle.aeth_stimuli.specs.Sessions.{SessionGoing, as_going, going_of}
 use Rattle.aeth_stimuli.specs.Stimuli.{is_over}
-use Rattle.aeth_base.proofs.Filters.{filter-swap}
+use Rattle.aeth_base.proofs.Filters.{filter-map, filter-swap}
 use Rattle.aeth_stimuli.proofs.ChannelLists.{is_it, one-of, one_where, one_where-map}
 use Rattle.aeth_stimuli.proofs.UseLines.{ShapedLine, changed-shaped, line_of, lines-shaped, shaped}
 use Rattle.std.specs.Prelude.{◌-◌, ◌+◌, min}

@@ -6,6 +6,7 @@ use Rattle.std.specs.Prelude.{flat_map}
 use Rattle.std.specs.List.{range_with_len}
 use Rattle.aeth_base.specs.declared.ids.Channel.{Channel}
 use Rattle.aeth_base.specs.declared.ids.Side.TheVariants.{Back, Fwd}
+use Rattle.aeth_base.proofs.Filters.{filter-map}
 use Rattle.aeth_server.specs.ChannelShape.{shape_of}
 use Rattle.aeth_server.specs.Shape.{Shape}
 use Rattle.aeth_server.specs.declared.shape.ChannelShape.{ChannelShape}
@@ -14,7 +15,6 @@ use Rattle.aeth_ni.specs.declared.row.ChannelRow.{ChannelRow}
 use Rattle.aeth_report.specs.Channels.{channels_with, opposite}
 use Rattle.aeth_report.specs.Design.{shape_at}
 use Rattle.aeth_report.specs.Sessions.{opens}
-use Rattle.aeth_report.proofs.AlikeLemmas.{filter-map}
 use Rattle.aeth_reconf.specs.Rows.{channels_that}
 use Rattle.aeth_tables.specs.Tables.{tables_of}
 use Rattle.aeth_components.specs.declared.lane.ChannelEnd.{ChannelEnd}

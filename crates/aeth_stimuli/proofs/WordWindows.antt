@@ -10,6 +10,7 @@ use Rattle.std.proofs.lemmas.Bool.Decides.{nat_tests}
 use Rattle.std.proofs.lemmas.List.Elements.{All-head, All-tail, filter_agree}
 use Rattle.std.proofs.lemmas.List.Sums.{count_by-le-length, length-filter}
 use Rattle.aeth_base.specs.declared.ids.Channel.{Channel}
+use Rattle.aeth_trace.proofs.OrderLemmas.{later_rise}
 use Rattle.aeth_trace.specs.Words.{words_on}
 use Rattle.aeth_trace.specs.declared.words.WordRow.{WordRow}
 use Rattle.aeth_schedule.specs.Values.{before_of}
@@ -41,14 +42,11 @@ module _ {X : Type 0} (n : X → ℕ) where
       (and_right (nat_le go (n x)) (nat_lt (n x) until) (le-ltb (n x) until here))
       ∙ rest
 
-  -- The first of an order isn't above any, and the later ones are in order too.
+  -- The first of an order isn't above any.
   first-least : (x : X) (xs : List X) (low : ℕ) → IsNonDecreasingBy n (x ∷ xs) → low ≤ n x
       → All (λ y. low ≤ n y) (x ∷ xs)
   first-least x xs low rises le k d within =
       let above = rises 0 k d (omega arith) within in omega (arith, above, le)
-
-  later-rise : (x : X) (xs : List X) → IsNonDecreasingBy n (x ∷ xs) → IsNonDecreasingBy n xs
-  later-rise x xs rises i j d le within = rises (suc i) (suc j) d (omega arith) (omega arith)
 
   -- Where all are from a number on, those before another are the first ones.
   between-first : (go until : ℕ) (xs : List X) → IsNonDecreasingBy n xs → All (λ x. go ≤ n x) xs
@@ -56,7 +54,7 @@ module _ {X : Type 0} (n : X → ℕ) where
   between-first go until [] rises from = refl
   between-first go until (x ∷ xs) rises from =
       let here : go ≤ n x = All-head (λ y. go ≤ n y) x xs from in
-      let rest = between-first go until xs (later-rise x xs rises)
+      let rest = between-first go until xs (later_rise n x xs rises)
       (All-tail (λ y. go ≤ n y) x xs from) in
       elim (cases_lt (n x) until) [
         | inl early ↦
@@ -84,7 +82,7 @@ module _ {X : Type 0} (n : X → ℕ) where
   between-window go until [] rises = refl
   between-window go until (x ∷ xs) rises = elim (cases_lt (n x) go) [
     | inl early ↦
-        let rest = between-window go until xs (later-rise x xs rises) in
+        let rest = between-window go until xs (later_rise n x xs rises) in
         let one = early-out x xs go until early in
         let two = filter-yes (λ (y : X). nat_lt (n y) go) x xs (lt-ltb (n x) go early) in
         one ∙ rest

@@ -6,7 +6,7 @@ use Rattle.std.proofs.lemmas.Bool.{and_parts, cases_Bool, eqb-true}
 use Rattle.std.proofs.lemmas.Option.{slice_get_within}
 use Rattle.aeth_base.proofs.Members.{Contains-filter, Contains-filter_map, Contains-flat_map}
 use Rattle.aeth_base.proofs.Members.{Contains-nil, filter-Contains, flat_map-Contains}
-use Rattle.aeth_base.proofs.Members.{slice_get-Contains}
+use Rattle.aeth_base.proofs.Members.{filter_map-Contains, slice_get-Contains}
 use Rattle.aeth_base.proofs.Ranges.{Contains-range, range-Contains}
 use Rattle.aeth_chip.specs.Chip.{ChipData}
 use Rattle.aeth_app.specs.App.{AppData, is_marked}
@@ -21,7 +21,6 @@ use Rattle.aeth_tables.specs.Granted.{granted_in, granted_of}
 use Rattle.aeth_tables.specs.Reserved.{IsDesign}
 use Rattle.aeth_tables.specs.declared.buffering.Buffer.{Buffer}
 use Rattle.aeth_tables.specs.declared.granted.GrantedConnection.{GrantedConnection}
-use Rattle.aeth_tables.proofs.PlaceLaws.{given_by}
 use Rattle.aeth_tables.proofs.UseLaws.{group_below, member_of_use}
 
 module _ (chip : ChipData) (app : AppData) (plan : PlanData) (design : IsDesign chip app plan) where
@@ -35,8 +34,8 @@ module _ (chip : ChipData) (app : AppData) (plan : PlanData) (design : IsDesign 
       let groups = groups_of app in
       let group = group_at groups u in
       let all = range_with_len 0 groups.connections in
-      let (conn, inside, gives) = given_by (granted_of app plan group) (filter (has_at groups u) all)
-      granted has in
+      let (conn, inside, gives) = filter_map-Contains (granted_of app plan group)
+      (filter (has_at groups u) all) granted has in
       let (known, had) = filter-Contains (has_at groups u) all conn inside in
       let is_groups = is_groups-groups_of app design.app_is.connections design.app_is.uses in
       let below = group_below groups is_groups u (omega (arith, length-groups_of app)) in

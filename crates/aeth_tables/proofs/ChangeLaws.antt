@@ -1,9 +1,10 @@
 -- What a connection adds to a switch is little, and what all add.
-use Rattle.std.proofs.Common.{◌≡◌, ◌∙◌, ◌≤◌, ◌+◌, ◌++◌, ◌&&◌, ◌==◌, ℕ, Bool, true, false, List, []}
+use Rattle.std.proofs.Common.{◌≡◌, ◌∙◌, ◌≤◌, ◌+◌, ◌++◌, ◌&&◌, ◌==◌, ℕ, Bool, false, List, []}
 use Rattle.std.proofs.Common.{◌*◌, ◌∷◌, All, length, max, refl, ap, arith}
 use Rattle.aeth_base.specs.Limits.{max_slots}
 use Rattle.aeth_slots.specs.SlotSet.{IsSlotSet, Slots}
 use Rattle.aeth_slots.proofs.Ascending.{Ascends-length}
+use Rattle.std.proofs.Math.Bool.{and-false}
 use Rattle.std.proofs.lemmas.List.Elements.{All-head, All-tail}
 use Rattle.std.proofs.lemmas.List.Sums.{sum_by-cons}
 use Rattle.aeth_group.specs.Members.{GroupsData, group_at, has_at, is_kept}
@@ -49,10 +50,6 @@ pub few_writes : (changes : List Change) → AreFew changes
     → writes_in changes ≤ most_writes * max_connections
 few_writes changes few = omega (arith, writes-few changes few.each, few.count)
 
-and_never : (a : Bool) → (a && false) ≡ false
-and_never true = refl
-and_never false = refl
-
 -- A switch between two groups makes all changes.
 pub made-apart : (groups : GroupsData) (u v : ℕ) → (group_at groups u == group_at groups v) ≡ false
     → (changes : List Change) → made groups u v changes ≡ changes
@@ -61,5 +58,5 @@ made-apart groups u v apart (change ∷ changes) =
     let c = change.conn.0 in
     let kept : is_kept groups u v c ≡ false =
     ap (λ (b : Bool). (has_at groups u c && has_at groups v c) && b) apart
-    ∙ and_never (has_at groups u c && has_at groups v c) in
+    ∙ and-false (has_at groups u c && has_at groups v c) in
     rw (kept, made-apart groups u v apart changes) refl

@@ -1,13 +1,13 @@
 -- Where the rows and shapes of a use case stand: two of each for each of its connections, which ascend.
 use Rattle.std.proofs.Common.{◌≡◌, ◌+◌, ◌*◌, ◌++◌, ◌∙◌, ℕ, zero, suc, List, []}
-use Rattle.std.proofs.Common.{◌∷◌, Option, Some, None, All, Contains, slice_get, length, map}
-use Rattle.std.proofs.Common.{refl, sym, ap, inl, inr, arith, subst}
+use Rattle.std.proofs.Common.{◌∷◌, Option, Some, All, Contains, slice_get, length, map}
+use Rattle.std.proofs.Common.{refl, sym, ap, arith, subst}
 use Rattle.std.specs.Prelude.{flat_map}
-use Rattle.std.specs.List.{cons_option, filter_map}
+use Rattle.std.specs.List.{filter_map}
 use Rattle.std.proofs.lemmas.List.Concat.{flat_map-cons}
 use Rattle.std.proofs.lemmas.List.{map-append}
 use Rattle.std.proofs.lemmas.Option.{none-some, same_Some}
-use Rattle.aeth_base.proofs.Members.{Contains-cases, Contains-here, Contains-nil, Contains-there}
+use Rattle.aeth_base.proofs.Members.{Contains-here, Contains-there}
 use Rattle.aeth_base.specs.declared.ids.Side.{Side}
 use Rattle.aeth_base.specs.declared.ids.Side.TheVariants.{Back, Fwd}
 use Rattle.aeth_slots.specs.SlotSet.{Ascends}
@@ -48,24 +48,6 @@ keys_of_given give key (x ∷ xs) each =
     let (y, gives, is) = each x (Contains-here x xs) in
     let rest = keys_of_given give key xs (λ z has. each z (Contains-there x xs z has)) in
     rw gives (rw (is, rest) refl)
-
--- What is given is given by one of the numbers.
-pub given_by : {X Y : Type 0} (give : X → Option Y) (xs : List X) (y : Y)
-    → Contains (filter_map give xs) y → (x : X) × Contains xs x × (give x ≡ Some y)
-given_by give [] y has = Contains-nil has
-given_by {X} {Y} give (x ∷ xs) y has =
-    let cases : (o : Option Y) → give x ≡ o → Contains (cons_option o (filter_map give xs)) y
-    → (z : X) × Contains (x ∷ xs) z × (give z ≡ Some y) =
-    elim [
-      | None ↦ λ is later. let (z, inside, gives) = given_by give xs y later in
-          (z, Contains-there x xs z inside, gives)
-      | Some first ↦ λ is there. elim (Contains-cases first (filter_map give xs) y there) [
-        | inl same ↦ (x, Contains-here x xs, is ∙ ap (λ v. Some v) same)
-        | inr later ↦ let (z, inside, gives) = given_by give xs y later in
-            (z, Contains-there x xs z inside, gives)
-      ]
-    ]
-    in cases (give x) refl has
 
 -- ---- What connections give for each side
 

@@ -11,14 +11,13 @@ use Rattle.std.specs.Prelude.{find, nat_lt, ◌==◌}
 use Rattle.std.specs.List.Sorted.{IsPartitionPoint, IsPartitionedBy}
 use Rattle.aeth_base.specs.declared.ids.CoreId.{CoreId}
 use Rattle.aeth_base.specs.declared.ids.Side.{Side}
-use Rattle.aeth_base.specs.declared.ids.Side.TheVariants.{Back, Fwd}
 use Rattle.aeth_base.specs.declared.ids.Unit.{Unit as GroupUnit}
 use Rattle.aeth_base.proofs.SideLemmas.{same_side-is}
 use Rattle.aeth_group.specs.declared.grant.Grant.{Grant}
 use Rattle.aeth_group.specs.declared.grant.SeatLine.{SeatLine}
 use Rattle.aeth_text.specs.Order.{Rises, RisesAfter}
-use Rattle.aeth_plan.specs.Plan.{grant_before, seat_before, side_before}
-use Rattle.aeth_plan.proofs.MadePlans.{before_trans}
+use Rattle.aeth_plan.specs.Plan.{grant_before, seat_before}
+use Rattle.aeth_plan.proofs.MadePlans.{before_trans, same_number, side_before-itself}
 use Rattle.aeth_check.specs.Channels.{is_before, is_for}
 use Rattle.aeth_tables.specs.Granted.{grant_of, line_of}
 use Rattle.aeth_tables.proofs.FindLaws.{find-at, find-none}
@@ -164,13 +163,6 @@ abbrev sought : GroupUnit → Side → Grant → Grant
 sought unit side grant =
     record { unit = unit; side = side; path = grant.path; slots = grant.slots }
 
-same-number : (m : ℕ) (s : Bool) → cond (m == m) s (nat_lt m m) ≡ s
-same-number m s = grind (arith, nat_tests)
-
-side-itself : (s : Side) → side_before s s ≡ false
-side-itself Fwd = refl
-side-itself Back = refl
-
 module _ (unit : GroupUnit) (side : Side) where
   level-grants : (a x : Grant) → is_for unit side x ≡ true → grant_before a x ≡ is_before unit side a
   level-grants a x found =
@@ -183,8 +175,8 @@ module _ (unit : GroupUnit) (side : Side) where
       ) refl
 
   off-grants : (x : Grant) → is_for unit side x ≡ true → is_before unit side x ≡ false
-  off-grants x found = sym (level-grants x x found) ∙ same-number x.unit.conn.0 _
-      ∙ same-number x.unit.group.0 _ ∙ side-itself x.side
+  off-grants x found = sym (level-grants x x found) ∙ same_number x.unit.conn.0 _
+      ∙ same_number x.unit.group.0 _ ∙ side_before-itself x.side
 
   module _ (grants : List Grant) (rises : Rises grant_before grants) where
     -- A grant for the side is the one.

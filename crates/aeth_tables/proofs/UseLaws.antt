@@ -5,7 +5,7 @@ use Rattle.std.proofs.Common.{map, subst, arith, ◌&&◌}
 use Rattle.std.specs.List.{range_with_len}
 use Rattle.std.proofs.lemmas.Bool.{eq-eqb, false≢true}
 use Rattle.std.proofs.lemmas.Option.{slice_get-get_or}
-use Rattle.aeth_base.proofs.Members.{filter-Contains}
+use Rattle.aeth_base.proofs.Members.{filter-Contains, filter_map-Contains}
 use Rattle.aeth_base.proofs.Ranges.{All-range}
 use Rattle.aeth_base.specs.declared.ids.CoreId.{CoreId}
 use Rattle.aeth_base.specs.declared.ids.Side.{Side}
@@ -29,7 +29,7 @@ use Rattle.aeth_tables.specs.declared.granted.GrantedConnection.{GrantedConnecti
 use Rattle.aeth_check.specs.Channels.{is_for}
 use Rattle.aeth_tables.proofs.FindLaws.{found_is, found_some}
 use Rattle.aeth_tables.proofs.ListLaws.{all_has, has_place}
-use Rattle.aeth_tables.proofs.PlaceLaws.{given_by, keys_of_given}
+use Rattle.aeth_tables.proofs.PlaceLaws.{keys_of_given}
 use Rattle.aeth_tables.proofs.ReservedLaws.{IsMade, for_from, grant_serves, line_from_ni, line_seats}
 use Rattle.aeth_tables.proofs.ReservedLaws.{made_of, made_there, of_from}
 
@@ -166,7 +166,8 @@ module _ (chip : ChipData) (app : AppData) (plan : PlanData) (design : IsDesign 
       let groups = groups_of app in
       let group = group_at groups u in
       let numbers = filter (has_at groups u) (range_with_len 0 groups.connections) in
-      let (conn, inside, gives) = given_by (granted_of app plan group) numbers granted has in
+      let (conn, inside, gives) =
+      filter_map-Contains (granted_of app plan group) numbers granted has in
       let found = filter-Contains (has_at groups u) (range_with_len 0 groups.connections) conn
       inside in
       (conn, found.1, made_of app plan group conn granted gives)

@@ -1,12 +1,11 @@
 -- What holds of the rows of a file that keeps the rules.
-use Rattle.std.proofs.Common.{◌≡◌, ◌≤◌, ℕ, List, Ok, length, map, refl, subst, arith}
-use Rattle.std.specs.Prelude.{Err, Result}
+use Rattle.std.proofs.Common.{◌≡◌, ◌<◌, ◌≤◌, ℕ, List, [], ◌∷◌, Ok, length, map, refl, subst, sym}
+use Rattle.std.proofs.Common.{arith}
 use Rattle.std.proofs.lemmas.Bool.Decides.{nat_tests}
 use Rattle.std.proofs.lemmas.List.Elements.{All-weaker}
 use Rattle.aeth_app.specs.App.{AppData}
-use Rattle.aeth_base.specs.Faults.{BrokenRule}
 use Rattle.aeth_base.specs.Limits.{max_cycles}
-use Rattle.aeth_document.specs.Chain.{◌>>=◌}
+use Rattle.aeth_document.proofs.ChainLemmas.{bind_ok}
 use Rattle.aeth_trace.specs.Limits.{max_pull, max_rows, max_switch_rows}
 use Rattle.aeth_trace.specs.Receivers.{AreReceiversOf, heads_receivers, pull_in, receivers_of}
 use Rattle.aeth_trace.specs.Records.{records_of}
@@ -96,24 +95,18 @@ are_switches app spans records rows known order parted small begun told names cy
 
 -- ---- from a file's bytes
 
--- A rule before others, or a value that they use, comes to a value where all do.
-pub kept : {A B : Type 0} (first : Result A BrokenRule) (next : A → Result B BrokenRule) (value : B)
-    → (first >>= next) ≡ Ok value → (one : A) × (first ≡ Ok one) × (next one ≡ Ok value)
-kept (Ok one) next value is = (one, refl, is)
-kept (Err broken) next value is = absurd (cc is)
-
 -- The words that a file's bytes tell are those of one that was read with the application.
 pub words_of-kept : (app : AppData) (bytes : List ℕ) (rows : List WordRow)
     → words_of app bytes ≡ Ok rows → AreWordsOf app rows
 unfolding words_of
 words_of-kept app bytes rows is =
-    let (told, table, names) = kept (table_of heads_words (word_in (connection_names app))
+    let (told, table, names) = bind_ok (table_of heads_words (word_in (connection_names app))
     (records_of bytes)) _ rows is in
-    let (known, are_known_now, cycles) = kept (are_known 1 (length app.connections) 1
+    let (known, are_known_now, cycles) = bind_ok (are_known 1 (length app.connections) 1
     (map (λ row. row.channel.conn.0) told)) _ rows names in
-    let (order, in_order_now, count) = kept (are_in_order 0 1 (map (λ row. row.cycle) told)) _ rows
-    cycles in
-    let (small, few_now, same) = kept (are_few max_rows (length told)) _ rows count in
+    let (order, in_order_now, count) = bind_ok (are_in_order 0 1 (map (λ row. row.cycle) told)) _
+    rows cycles in
+    let (small, few_now, same) = bind_ok (are_few max_rows (length told)) _ rows count in
     let are : told ≡ rows = cc same in
     subst (AreWordsOf app) are
     (are_words app (records_of bytes) told known order small table are_known_now in_order_now
@@ -124,13 +117,13 @@ pub receivers_of-kept : (app : AppData) (bytes : List ℕ) (rows : List PullRow)
     → receivers_of app bytes ≡ Ok rows → AreReceiversOf app rows
 unfolding receivers_of
 receivers_of-kept app bytes rows is =
-    let (told, table, names) = kept (table_of heads_receivers (pull_in (connection_names app))
+    let (told, table, names) = bind_ok (table_of heads_receivers (pull_in (connection_names app))
     (records_of bytes)) _ rows is in
-    let (known, are_known_now, cycles) = kept (are_known 1 (length app.connections) 1
+    let (known, are_known_now, cycles) = bind_ok (are_known 1 (length app.connections) 1
     (map (λ row. row.channel.conn.0) told)) _ rows names in
-    let (order, in_order_now, count) = kept (are_in_order 0 1 (map (λ row. row.cycle) told)) _ rows
-    cycles in
-    let (small, few_now, same) = kept (are_few max_rows (length told)) _ rows count in
+    let (order, in_order_now, count) = bind_ok (are_in_order 0 1 (map (λ row. row.cycle) told)) _
+    rows cycles in
+    let (small, few_now, same) = bind_ok (are_few max_rows (length told)) _ rows count in
     let are : told ≡ rows = cc same in
     subst (AreReceiversOf app) are
     (are_receivers app (records_of bytes) told known order small table are_known_now in_order_now
@@ -141,16 +134,43 @@ pub switches_of-kept : (app : AppData) (spans : SpanData) (bytes : List ℕ) (ro
     → switches_of app spans bytes ≡ Ok rows → AreSwitchesOf app spans rows
 unfolding switches_of
 switches_of-kept app spans bytes rows is =
-    let (told, table, names) = kept (table_of heads_switches (switch_in (use_names app))
+    let (told, table, names) = bind_ok (table_of heads_switches (switch_in (use_names app))
     (records_of bytes)) _ rows is in
-    let (known, are_known_now, cycles) = kept (are_known 2 (length app.uses) 1
+    let (known, are_known_now, cycles) = bind_ok (are_known 2 (length app.uses) 1
     (map (λ row. row.to.0) told)) _ rows names in
-    let (order, in_order_now, parted) = kept (are_in_order 0 1 (map (λ row. row.cycle) told)) _ rows
-    cycles in
-    let (apart, apart_now, count) = kept (are_apart spans told) _ rows parted in
-    let (small, few_now, begun) = kept (are_few max_switch_rows (length told)) _ rows count in
-    let (first, first_now, same) = kept (is_first_at_zero told) _ rows begun in
+    let (order, in_order_now, parted) = bind_ok (are_in_order 0 1 (map (λ row. row.cycle) told)) _
+    rows cycles in
+    let (apart, apart_now, count) = bind_ok (are_apart spans told) _ rows parted in
+    let (small, few_now, begun) = bind_ok (are_few max_switch_rows (length told)) _ rows count in
+    let (first, first_now, same) = bind_ok (is_first_at_zero told) _ rows begun in
     let are : told ≡ rows = cc same in
     subst (AreSwitchesOf app spans) are
     (are_switches app spans (records_of bytes) told known order apart small first table
     are_known_now in_order_now apart_now few_now first_now)
+
+-- Without a second row none is too early.
+apart-alone : (spans : SpanData) (rows : List SwitchRow) → length rows < 2
+    → are_apart spans rows ≡ Ok tt
+apart-alone spans [] short = refl
+apart-alone spans (first ∷ []) short = refl
+apart-alone spans (first ∷ row ∷ rows) short = absurd (omega arith)
+
+-- Where no switch follows the first, a file tells the same whatever the spans.
+pub switches_of-alone : (app : AppData) (spans other : SpanData) (bytes : List ℕ)
+    (rows : List SwitchRow) → switches_of app spans bytes ≡ Ok rows → length rows < 2
+    → switches_of app other bytes ≡ Ok rows
+unfolding switches_of
+switches_of-alone app spans other bytes rows is short =
+    let (told, table, names) = bind_ok (table_of heads_switches (switch_in (use_names app))
+    (records_of bytes)) _ rows is in
+    let (known, are_known_now, cycles) = bind_ok (are_known 2 (length app.uses) 1
+    (map (λ row. row.to.0) told)) _ rows names in
+    let (order, in_order_now, parted) = bind_ok (are_in_order 0 1 (map (λ row. row.cycle) told)) _
+    rows cycles in
+    let (apart, apart_now, count) = bind_ok (are_apart spans told) _ rows parted in
+    let (small, few_now, begun) = bind_ok (are_few max_switch_rows (length told)) _ rows count in
+    let (first, first_now, same) = bind_ok (is_first_at_zero told) _ rows begun in
+    let are : told ≡ rows = cc same in
+    let alone =
+    apart-alone other told (subst (λ (list : List SwitchRow). length list < 2) (sym are) short) in
+    rw (table, are_known_now, in_order_now, alone, few_now, first_now, are) refl

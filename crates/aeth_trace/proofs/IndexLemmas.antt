@@ -15,6 +15,7 @@ use Rattle.aeth_base.specs.declared.ids.Channel.{Channel}
 use Rattle.aeth_base.specs.declared.ids.Side.{Side}
 use Rattle.aeth_base.specs.declared.ids.Side.TheVariants.{Back, Fwd}
 use Rattle.aeth_base.specs.Sides.{same_side}
+use Rattle.aeth_base.proofs.Lists.{item-at}
 use Rattle.aeth_trace.specs.Channels.{channel_number, is_channel, list_at, rows_on}
 use Rattle.aeth_trace.specs.Channels.{side_number}
 
@@ -23,15 +24,6 @@ pub numbers_length : {R : Type 0} (rows kept : List R) (numbers : List ℕ)
     → map (slice_get rows) numbers ≡ map Some kept → length numbers ≡ length kept
 numbers_length rows kept numbers same =
     sym (length-map numbers (slice_get rows)) ∙ ap length same ∙ length-map kept Some
-
--- Within a list there is an element.
-kept_at : {R : Type 0} (kept : List R) (place : ℕ) → place < length kept
-    → (row : R) × (slice_get kept place ≡ Some row)
-kept_at [] place within = absurd (omega arith)
-kept_at (row ∷ kept) place within = (
-  get_or (row ∷ kept) place row,
-  slice_get-get_or (row ∷ kept) place row within,
-)
 
 some_same : {R : Type 0} (one other : Option R) → (row : R) × (one ≡ Some row)
     → option_map (λ (row : R). Some row) one ≡ Some other → other ≡ one
@@ -52,14 +44,14 @@ numbered {R} rows kept numbers place same within =
     let all : option_map Some (slice_get kept place)
     ≡ Some (slice_get rows (get_or numbers place 0)) =
     sym right ∙ ap (λ rs. slice_get rs place) (sym same) ∙ left in
-    some_same (slice_get kept place) (slice_get rows (get_or numbers place 0)) (kept_at kept place within) all
+    some_same (slice_get kept place) (slice_get rows (get_or numbers place 0)) (item-at kept place within) all
 
 -- The number at a place is that of a row.
 pub numbered_within : {R : Type 0} (rows kept : List R) (numbers : List ℕ) (place : ℕ)
     → map (slice_get rows) numbers ≡ map Some kept → place < length kept
     → get_or numbers place 0 < length rows
 numbered_within rows kept numbers place same within =
-    let (row, at) = kept_at kept place within in
+    let (row, at) = item-at kept place within in
     slice_get_within rows (get_or numbers place 0) row
     (numbered rows kept numbers place same within ∙ at)
 

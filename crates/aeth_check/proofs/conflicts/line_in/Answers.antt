@@ -1,7 +1,7 @@
 use Rattle.std.proofs.Common.{◌∙◌, ◌+◌, ◌∷◌, [], Bool, drop, sym, ap}
+use Rattle.std.proofs.Math.Bool.{or-false}
 use Rattle.std.proofs.lemmas.List.{drop_more}
 use Rattle.aeth_group.specs.declared.grant.Grant.{Grant}
-use Rattle.aeth_group.proofs.OccupationLemmas.{or-false}
 use Rattle.aeth_check.specs.Meetings.{conflicts}
 use Rattle.aeth_check.proofs.ConflictLaws.{conflicts-sym}
 use Rattle.aeth_check.proofs.MeetingLaws.{line_here, line_on}

@@ -1,6 +1,6 @@
-use Rattle.std.proofs.Common.{ℕ, ◌≡◌, ◌≢◌, ◌==◌, ◌∙◌, sym, true, Some, slice_get, length}
+use Rattle.std.proofs.Common.{ℕ, ◌≡◌, ◌≢◌, ◌==◌, ◌∙◌, refl, sym, true, Some, slice_get, length}
 use Rattle.std.proofs.lemmas.Bool.{eq-eqb}
-use Rattle.aeth_components.proofs.ReadLemmas.{read-there}
+use Rattle.std.proofs.lemmas.Option.{slice_get_read}
 use Rattle.aeth_components.specs.declared.lane.Lane.{Lane}
 use Rattle.aeth_components.specs.Channels.{OfLane}
 use Rattle.aeth_components.specs.Counting.{brings}
@@ -18,7 +18,8 @@ others c k lane apart =
     let part = c.index-parts-number.result in
     brings-other parts (length c.args.landings.now) c.args.lanes.now c.args.number part
     c.channel_of.result c.requires.lanes
-    (read-there parts c.args.number part c.requires.number c.index-parts-number.is)
+    (slice_get_read parts (length parts) c.args.number part refl c.requires.number
+    c.index-parts-number.is)
     c.channel_of.ensures.own k lane
     (λ is. let same : Some c.in-Some.channel ≡ Some k = sym c.in-Some.is ∙ is in apart (cc same))
 
@@ -50,7 +51,8 @@ none c k lane =
     let part = c.index-parts-number.result in
     brings-other parts (length c.args.landings.now) c.args.lanes.now c.args.number part
     c.channel_of.result c.requires.lanes
-    (read-there parts c.args.number part c.requires.number c.index-parts-number.is)
+    (slice_get_read parts (length parts) c.args.number part refl c.requires.number
+    c.index-parts-number.is)
     c.channel_of.ensures.own k lane (λ is. cc is)
 
 pub returns-in_default-clause-lanes : goal.returns-in_default-clause-lanes

@@ -1,14 +1,13 @@
 use Rattle.std.proofs.Common.{◌≡◌, ◌<◌, ◌+◌, ◌∙◌, arith, get_or, length, slice_get}
-use Rattle.std.proofs.Common.{Some, sym}
+use Rattle.std.proofs.Common.{Some, refl, sym}
 use Rattle.std.proofs.lemmas.List.{length-map}
-use Rattle.std.proofs.lemmas.Option.{slice_get-get_or}
+use Rattle.std.proofs.lemmas.Option.{slice_get-get_or, slice_get_read}
 use Rattle.aeth_clocked.proofs.UsedLemmas.{NextUsed, used-end, used-next}
 use Rattle.aeth_components.proofs.LookUpLemmas.{HasCome, IsAlike-part, looked-up-first, looked-up-kept}
 use Rattle.aeth_components.proofs.LookUpLemmas.{looked-up-last, looked-up-passed, looked-up-until}
 use Rattle.aeth_components.proofs.LookUpLemmas.{looked_up_from}
 use Rattle.aeth_components.proofs.FlitLemmas.{flits_on-more, flits_on-take}
 use Rattle.aeth_components.proofs.OwnLemmas.{output-below}
-use Rattle.aeth_components.proofs.ReadLemmas.{read-there}
 use Rattle.aeth_components.proofs.driving.look_up.Given as given
 use Rattle.aeth_components.proofs.driving.look_up.Goals as goal
 use Rattle.aeth_components.proofs.driving.look_up.Goals.{In-Some}
@@ -91,7 +90,8 @@ pass-requires g c =
     let part = c.index-parts-receivers in
     λ link own. rw c.loop-wire.invariant.size
     (output-below c.args.parts.now (length c.args.wires.now) c.requires.wired number part.result
-    (read-there c.args.parts.now number part.result (within g some) part.is) link own)
+    (slice_get_read c.args.parts.now (length c.args.parts.now) number part.result refl (within g some)
+    part.is) link own)
 
 -- What one wire more has is passed on.
 pub loop-wire-preserved-then-has_table : goal.loop-wire-preserved-then-has_table
@@ -114,7 +114,8 @@ loop-wire-preserved-then-has_table g c =
       size = c.pass.ensures.size ∙ done.size;
       came = looked-up-passed parts wires c.args.ends.now c.args.cycle c.requires.wired c.requires.ends
           c.loop-wire.onward c.pass.new.onward wire number part (upto g some) done.size below
-          (read-there parts number part (within g some) c.index-parts-receivers.is) (end g some)
+          (slice_get_read parts (length parts) number part refl (within g some)
+          c.index-parts-receivers.is) (end g some)
           (sym c.has_table.ensures ∙ c.if-has_table.true)
           (rw c.flit.ensures c.pass.ensures);
       steps = omega (arith, more, fewer, c.tick.ensures, done.steps);
@@ -143,7 +144,8 @@ loop-wire-preserved g c =
           (upto g some)
           (IsAlike-part parts wires c.args.ends.now c.args.cycle c.requires.wired c.requires.ends
           number wire part
-          (read-there parts number part (within g some) c.index-parts-receivers.is) (end g some)
+          (slice_get_read parts (length parts) number part refl (within g some)
+          c.index-parts-receivers.is) (end g some)
           (sym c.has_table.ensures ∙ c.if-has_table.false));
       steps = omega (arith, fewer, done.steps);
     }

@@ -1,6 +1,5 @@
 use Rattle.std.proofs.Common.{◌+◌, ◌∙◌, List, ℕ, ap, arith, length, subst, sym}
-use Rattle.aeth_base.proofs.Lists.{written_back}
-use Rattle.aeth_components.proofs.MadeParts.{item-at}
+use Rattle.aeth_base.proofs.Lists.{item-at, written_back}
 use Rattle.aeth_components.proofs.ReceiverLemmas.{ReceiversTo, ReceiversTo-all, ReceiversTo-more}
 use Rattle.aeth_components.proofs.ends.receivers_of.Goals as goal
 

@@ -2,9 +2,8 @@ use Rattle.std.proofs.Common.{◌≡◌, ◌+◌, ◌∙◌, ℕ, List, ap, arit
 use Rattle.std.proofs.Common.{get_or, sym}
 use Rattle.std.proofs.lemmas.List.{length-append}
 use Rattle.std.proofs.lemmas.Option.{slice_get-get_or, slice_get_within}
-use Rattle.aeth_base.proofs.Lists.{slice_get-push}
+use Rattle.aeth_base.proofs.Lists.{item-at, slice_get-push}
 use Rattle.aeth_chip.proofs.WireLemmas.{have_delays, wires_of-split}
-use Rattle.aeth_components.proofs.MadeParts.{item-at}
 use Rattle.aeth_components.proofs.ends.senders_of.Goals as goal
 
 -- The sender of one wire more.

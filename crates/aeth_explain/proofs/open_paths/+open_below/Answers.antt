@@ -1,6 +1,7 @@
 use Rattle.std.proofs.Common.{◌≡◌, ◌∙◌, ◌-◌, arith, sym}
 use Rattle.std.specs.Prelude.{slice_get}
 use Rattle.aeth_base.proofs.Members.{Contains-slice_get}
+use Rattle.aeth_base.proofs.TestLemmas.{is_some-false, is_some-true}
 use Rattle.aeth_chip.specs.Nodes.{sends_on}
 use Rattle.aeth_chip.specs.declared.node.Node.TheVariants.{Router}
 use Rattle.aeth_paths.specs.Task.{links_from}
@@ -9,8 +10,8 @@ use Rattle.aeth_paths.proofs.StepLemmas.{few-leave}
 use Rattle.aeth_explain.specs.Fronts.{open_over}
 use Rattle.aeth_explain.specs.Verdict.{is_open}
 use Rattle.aeth_explain.proofs.OpenLemmas.{first-found, first-next}
-use Rattle.aeth_explain.proofs.OverLemmas.{below, none-found, none-left, none-over-all}
-use Rattle.aeth_explain.proofs.OverLemmas.{none-past, over-is, over-links, some-found}
+use Rattle.aeth_explain.proofs.OverLemmas.{below, none-left, none-over-all}
+use Rattle.aeth_explain.proofs.OverLemmas.{none-past, over-is, over-links}
 use Rattle.aeth_explain.proofs.open_paths.+open_below.Goals as goal
 use Rattle.aeth_explain.proofs.open_paths.+open_below.Goals.{in-Away, in-Onward, in-Open}
 use Rattle.aeth_explain.proofs.open_paths.+open_below.Goals.{After-exit, After-is_some}
@@ -71,7 +72,7 @@ returns-then-is_some t c =
     let a = c.args.sender.now.ni in
     let front = c.args.front.now in
     let links = links_from listed.chip.now.links (Router front.router) in
-    let (path, some) = some-found c.match-over_link.found
+    let (path, some) = is_some-true c.match-over_link.found
     (sym c.is_some.ensures ∙ c.if-is_some.true) in
     let at = sym (at-port t (goal.at.returns-then-is_some t c).After-exit) ∙ c.in-Some.is in
     let here = sym (found-is t (goal.at.returns-then-is_some t c).After-is_some) ∙ some in
@@ -88,7 +89,7 @@ loop-port-preserved t c =
     let a = c.args.sender.now.ni in
     let front = c.args.front.now in
     let links = links_from listed.chip.now.links (Router front.router) in
-    let none = none-found c.match-over_link.found (sym c.is_some.ensures ∙ c.if-is_some.false) in
+    let none = is_some-false c.match-over_link.found (sym c.is_some.ensures ∙ c.if-is_some.false) in
     let at = sym (at-port t (goal.at.loop-port-preserved t c).After-exit) ∙ c.in-Some.is in
     let here = sym (found-is t (goal.at.loop-port-preserved t c).After-is_some) ∙ none in
     first-next (is_open listed.chip.now listed.trial.now listed.cuts.now)

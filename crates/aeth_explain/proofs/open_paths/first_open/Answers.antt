@@ -2,11 +2,11 @@ use Rattle.std.proofs.Common.{◌∙◌, ap, arith, eqb, sym}
 use Rattle.std.specs.List.{list_any}
 use Rattle.std.proofs.lemmas.Option.{slice_get_within}
 use Rattle.aeth_base.specs.declared.ids.NiId.{NiId}
+use Rattle.aeth_base.proofs.TestLemmas.{is_some-false, is_some-true}
 use Rattle.aeth_chip.specs.declared.node.Node.TheVariants.{Ni}
 use Rattle.aeth_paths.proofs.JoinLemmas.{begins-leaving}
 use Rattle.aeth_explain.proofs.FirstLemmas.{begins-told, from-among, leaves-other, leaves-router}
 use Rattle.aeth_explain.proofs.FirstLemmas.{leaves-yes, so-far-all, so-far-no, so-far-none, so-far-some}
-use Rattle.aeth_explain.proofs.OverLemmas.{none-found, some-found}
 use Rattle.aeth_explain.proofs.open_paths.first_open.Goals as goal
 use Rattle.aeth_explain.proofs.open_paths.first_open.Goals.{in-Ni+else-is_among, in_default}
 use Rattle.aeth_explain.proofs.open_paths.first_open.Goals.{in-Ni+then-is_among+in_ok-found+else-is_some}
@@ -37,7 +37,7 @@ returns-then-is_some c =
     ∙ ap (list_any (λ (n : NiId). eqb n.0 c.in-Ni.ni.0)) c.from.ensures.from) ∙ c.if-is_among.true) in
     let begins = begins-told links (record { 0 = n }) c.link.result (Ni c.in-Ni.ni)
     c.link.ensures.link c.in-Ni.is in
-    let (path, some) = some-found c.in_ok-found.found (sym c.is_some.ensures ∙ c.if-is_some.true) in
+    let (path, some) = is_some-true c.in_ok-found.found (sym c.is_some.ensures ∙ c.if-is_some.true) in
     some ∙ sym (so-far-some listed.chip.now listed.trial.now listed.cuts.now n path
     (slice_get_within links n c.link.result c.link.ensures.link)
     (leaves-yes links listed.trial.now.from (record { 0 = n }) c.in-Ni.ni among begins)
@@ -61,7 +61,7 @@ loop-number-preserved c =
           (leaves-yes links from (record { 0 = n }) w.in-Ni.ni among
           (begins-told links (record { 0 = n }) c.link.result (Ni w.in-Ni.ni) at w.in-Ni.is))
           c.loop-number.invariant (sym w.in_ok-found.ensures
-          ∙ none-found w.in_ok-found.found (sym w.is_some.ensures ∙ w.if-is_some.false))
+          ∙ is_some-false w.in_ok-found.found (sym w.is_some.ensures ∙ w.if-is_some.false))
       | in-Ni+else-is_among w ↦
           so-far-no listed.chip.now listed.trial.now listed.cuts.now n
           (leaves-other links from (record { 0 = n }) c.link.result w.in-Ni.ni at w.in-Ni.is

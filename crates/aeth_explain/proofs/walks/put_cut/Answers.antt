@@ -1,12 +1,12 @@
 use Rattle.std.proofs.Common.{◌∙◌, ◌++◌, List, None, false, subst, sym}
 use Rattle.aeth_base.proofs.Members.{map-Contains}
+use Rattle.aeth_base.proofs.TestLemmas.{is_some-false, is_some-true}
 use Rattle.aeth_base.specs.declared.ids.LinkId.{LinkId}
 use Rattle.aeth_chip.specs.declared.node.Node.TheVariants.{Ni, Router}
 use Rattle.aeth_explain.specs.Fronts.{lists_below}
 use Rattle.aeth_explain.specs.TryPaths.{MayTake, onward_lists}
 use Rattle.aeth_explain.specs.Walks.{IsWalked}
 use Rattle.aeth_explain.proofs.BelowLemmas.{walked-closed, walked-cut}
-use Rattle.aeth_explain.proofs.OverLemmas.{none-found, some-found}
 use Rattle.aeth_explain.proofs.StepLemmas.{open-may, tried-open}
 use Rattle.aeth_explain.proofs.TryPathLemmas.{may_take-Decides}
 use Rattle.aeth_explain.proofs.walks.put_cut.Goals as goal
@@ -21,7 +21,7 @@ returns-in_ok-push c =
     let is_chip = c.requires.tried.is_listed.is_chip in
     let lists : List (List LinkId) =
     lists_below chip.links c.args.left (Router front.router) front.path in
-    let (path, some) = some-found c.open_below.result (sym c.is_some.ensures ∙ c.if-is_some.true) in
+    let (path, some) = is_some-true c.open_below.result (sym c.is_some.ensures ∙ c.if-is_some.true) in
     let (among, may) = open-may c.args.judge.now listed c.requires.tried lists path
     (sym c.open_below.ensures ∙ some) in
     let (rest, same, on) = map-Contains (λ rest. front.path ++ rest)
@@ -41,7 +41,7 @@ returns-else-is_some c =
     let front = c.args.front.now in
     let lists : List (List LinkId) =
     lists_below chip.links c.args.left (Router front.router) front.path in
-    let none = none-found c.open_below.result (sym c.is_some.ensures ∙ c.if-is_some.false) in
+    let none = is_some-false c.open_below.result (sym c.is_some.ensures ∙ c.if-is_some.false) in
     walked-closed chip c.args.judge.now.groups listed.trial.now
     c.requires.tried.is_listed.is_chip (Ni c.args.sender.now.ni) (Router front.router) front.path
     c.args.left c.requires.front.some c.requires.front.end c.requires.room

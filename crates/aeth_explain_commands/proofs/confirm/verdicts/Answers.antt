@@ -1,9 +1,11 @@
-use Rattle.std.proofs.Common.{◌∙◌, ◌+◌, ◌<◌, ℕ, Option, ap, arith, drop, length, sym}
+use Rattle.std.proofs.Common.{◌∙◌, ◌+◌, ◌<◌, ℕ, Option, ap, arith, drop, length, refl, sym}
 use Rattle.std.specs.Prelude.{unwrap_or}
+use Rattle.std.proofs.lemmas.Option.{slice_get_read}
+use Rattle.aeth_base.proofs.Lists.{item-at}
 use Rattle.aeth_answers.specs.Job.{Job}
 use Rattle.aeth_text.specs.Order.{line_after}
 use Rattle.aeth_explain_commands.specs.Explain.{verdicts_job}
-use Rattle.aeth_explain_commands.proofs.ExplainLemmas.{at-index, there, verdicts-step}
+use Rattle.aeth_explain_commands.proofs.ExplainLemmas.{verdicts-step}
 use Rattle.aeth_explain_commands.proofs.confirm.verdicts.Goals as goal
 
 -- The lists of this try are no certificate.
@@ -16,8 +18,9 @@ returns-in-Some c =
     let line = c.loop-i.line in
     let own = c.index-blocks-i.result in
     let low : i < length tries = omega (arith, c.loop-i-test.true, c.requires.count) in
-    let (trial, at) = there tries i low in
-    let its = at-index blocks i own (omega (arith, c.loop-i-test.true)) c.index-blocks-i.is in
+    let (trial, at) = item-at tries i low in
+    let its = slice_get_read blocks (length blocks) i own refl (omega (arith, c.loop-i-test.true))
+    c.index-blocks-i.is in
     let some = sym (rw at at c.in_ok-answer.ensures) ∙ c.in-Some.is in
     sym (verdicts-step design line i tries blocks trial own at its
     ∙ ap (λ (o : Option Job). unwrap_or o (verdicts_job design (line_after line (1 + length own))
@@ -33,8 +36,9 @@ loop-i-preserved c =
     let line = c.loop-i.line in
     let own = c.index-blocks-i.result in
     let low : i < length tries = omega (arith, c.loop-i-test.true, c.requires.count) in
-    let (trial, at) = there tries i low in
-    let its = at-index blocks i own (omega (arith, c.loop-i-test.true)) c.index-blocks-i.is in
+    let (trial, at) = item-at tries i low in
+    let its = slice_get_read blocks (length blocks) i own refl (omega (arith, c.loop-i-test.true))
+    c.index-blocks-i.is in
     let none = sym (rw at at c.in_ok-answer.ensures) ∙ c.in_default.is in
     ap (λ (n : ℕ). verdicts_job design n (drop (i + 1) tries) (drop (i + 1) blocks))
     (c.line_after-line.ensures ∙ ap (λ (m : ℕ). line_after line (1 + m)) c.len.ensures.len)

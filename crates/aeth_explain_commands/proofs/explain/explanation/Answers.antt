@@ -1,11 +1,12 @@
 use Rattle.std.proofs.Common.{◌∙◌, ◌++◌, List, ap, arith, map}
 use Rattle.std.specs.Prelude.{codes}
+use Rattle.aeth_base.proofs.Lists.{item-at}
 use Rattle.aeth_explain.specs.Certificate.{cuts_of}
 use Rattle.aeth_explain.specs.CutsText.{cuts_text, line_of}
 use Rattle.aeth_group.specs.Members.{groups_of}
 use Rattle.aeth_paths.specs.Trials.{TrialData}
 use Rattle.aeth_text.specs.Spelling.{ended_line}
-use Rattle.aeth_explain_commands.proofs.ExplainLemmas.{text-more, text-whole, there}
+use Rattle.aeth_explain_commands.proofs.ExplainLemmas.{text-more, text-whole}
 use Rattle.aeth_explain_commands.proofs.explain.explanation.Goals as goal
 
 -- One block more.
@@ -14,7 +15,7 @@ loop-i-preserved c =
     let tries = c.args.refusals.now.tries in
     let app = c.args.design.now.app in
     let cuts = cuts_of c.args.design.now.chip (groups_of app) in
-    let (trial, at) = there tries c.loop-i.i
+    let (trial, at) = item-at tries c.loop-i.i
     (omega (arith, c.loop-i-test.true, c.len-i-end.ensures)) in
     text-more app cuts tries c.loop-i.i trial c.loop-i.text.items c.push_certificate.new.text.items at
     (rw at at c.in_ok-push_certificate.ensures)

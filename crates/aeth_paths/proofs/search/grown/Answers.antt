@@ -1,8 +1,8 @@
 use Rattle.std.proofs.Common.{◌∙◌, List, ap}
 use Rattle.std.specs.Prelude.{slice_get}
 use Rattle.std.proofs.lemmas.Bool.{OnTrue_at}
+use Rattle.aeth_base.proofs.TestLemmas.{true_from_IsTrue}
 use Rattle.aeth_chip.specs.declared.node.Link.{Link}
-use Rattle.aeth_paths.proofs.LiveLemmas.{true_from}
 use Rattle.aeth_paths.proofs.PrefixLemmas.{prefix-push}
 use Rattle.aeth_paths.proofs.search.grown.Goals as goal
 
@@ -14,6 +14,6 @@ returns-clause-prefix g c =
     ∙ c.link-to.ensures.link)
     c.push.new.self c.with_node.result c.used.result c.of.result c.narrow-free.result
     c.link-to.ensures.delay.1
-    (OnTrue_at (true_from c.push.result (c.push.ensures.room.1 c.requires.short))
+    (OnTrue_at (true_from_IsTrue c.push.result (c.push.ensures.room.1 c.requires.short))
     c.push.ensures.pushed) c.with_node.ensures c.narrow-free.ensures.starts
     c.used.ensures.used c.of.ensures.cost c.of.ensures.most

@@ -1,12 +1,13 @@
 use Rattle.std.proofs.Common.{◌∙◌, ◌+◌, List, Some, sym, subst, arith}
 use Rattle.std.proofs.lemmas.Bool.{not-false, not-true}
+use Rattle.aeth_base.proofs.TestLemmas.{true_from_IsTrue}
 use Rattle.aeth_chip.specs.LeastOnward.{least_from}
 use Rattle.aeth_chip.specs.declared.node.Link.{Link}
 use Rattle.aeth_paths.specs.Walk.{IsLeastFrom, field_of, path_in}
 use Rattle.aeth_paths.proofs.GiveUpLemmas.{dead-none, far-none, nowhere-none}
 use Rattle.aeth_paths.proofs.HopelessLemmas.{least-told, open-from, task-near, task-never}
 use Rattle.aeth_paths.proofs.HopelessLemmas.{task-outdone}
-use Rattle.aeth_paths.proofs.LiveLemmas.{dead-stays, sized, true_from}
+use Rattle.aeth_paths.proofs.LiveLemmas.{dead-stays, sized}
 use Rattle.aeth_paths.proofs.search.is_hopeless.Goals as goal
 
 -- No path leads to the goal.
@@ -42,7 +43,7 @@ returns-clause-none c given =
     dead-none (field_of task c.args.goal.now) (path_in c.args.best.now) c.args.prefix.now.end
     c.args.prefix.now.path
     (λ rest. dead-stays task.book.now task.ask c.args.prefix.now.path rest
-    (sized task.book.now c.requires.task.is_book) (sym c.is_live.ensures ∙ not-true _ (true_from _ given)))
+    (sized task.book.now c.requires.task.is_book) (sym c.is_live.ensures ∙ not-true _ (true_from_IsTrue _ given)))
 
 -- Else it is open.
 pub returns-clause-open : goal.returns-clause-open

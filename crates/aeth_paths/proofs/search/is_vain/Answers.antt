@@ -1,11 +1,11 @@
 use Rattle.std.proofs.Common.{◌≡◌, ◌+◌, ◌++◌, ◌∷◌, [], List, length, ap, subst, arith}
 use Rattle.std.proofs.lemmas.Bool.{not-true}
 use Rattle.aeth_base.specs.declared.ids.LinkId.{LinkId}
+use Rattle.aeth_base.proofs.TestLemmas.{true_from_IsTrue}
 use Rattle.aeth_chip.specs.declared.node.Node.{Node}
 use Rattle.aeth_paths.specs.Walk.{GainsNothing, field_of, path_in}
 use Rattle.aeth_paths.proofs.GiveUpLemmas.{far-none, nowhere-none}
 use Rattle.aeth_paths.proofs.HopelessLemmas.{task-near, task-never, task-outdone}
-use Rattle.aeth_paths.proofs.LiveLemmas.{true_from}
 use Rattle.aeth_paths.proofs.VainLemmas.{IsLonger, link-there, longer-is}
 use Rattle.aeth_paths.proofs.search.is_vain.Goals as goal
 use Rattle.aeth_paths.proofs.search.is_vain.Goals.{After-link, After-push}
@@ -25,7 +25,7 @@ longer c =
 
 over : (c : goal.After-push) → c.push.new.self ≡ c.args.prefix.now.path ++ c.args.link ∷ []
 over c =
-    rw (true_from c.push.result (c.push.ensures.room.1 c.requires.short)) at c.push.ensures.pushed
+    rw (true_from_IsTrue c.push.result (c.push.ensures.room.1 c.requires.short)) at c.push.ensures.pushed
 
 -- No path leads to the goal.
 pub returns-in_default : goal.returns-in_default
@@ -63,4 +63,4 @@ returns-in-Some-best c given =
     (c.args.prefix.now.cost + 1 + c.in-Some.more) (c.len.result + c.in-Some.more) c.requires.task
     at.stands c.in-Some.ensures c.requires.best c.in-Some-best.is (omega (arith, at.dearer))
     (omega (arith, c.len.ensures.len, size))
-    (rw same at (c.may_precede.ensures (not-true _ (true_from _ given)))))
+    (rw same at (c.may_precede.ensures (not-true _ (true_from_IsTrue _ given)))))

@@ -1,8 +1,8 @@
 use Rattle.std.proofs.Common.{◌∙◌, ◌++◌, ◌∷◌, [], sym, ap}
+use Rattle.aeth_base.proofs.TestLemmas.{IsTrue_from_true}
 use Rattle.aeth_paths.specs.Search.{Field, by_turn, completions, first_from}
 use Rattle.aeth_paths.specs.Walk.{field_of, path_in, priced}
 use Rattle.aeth_paths.specs.declared.search.Turn.{Turn}
-use Rattle.aeth_paths.proofs.LiveLemmas.{from_true}
 use Rattle.aeth_paths.proofs.StepLemmas.{link-below}
 use Rattle.aeth_paths.proofs.search.turn_for.Goals as goal
 
@@ -29,7 +29,7 @@ returns-then-is_vain c left =
     let path = c.args.prefix.now.path in
     let link = c.args.link in
     c.requires.best
-    ∙ ap (priced f.cost) (sym (c.is_vain.ensures (from_true _ c.if-is_vain.true) left))
+    ∙ ap (priced f.cost) (sym (c.is_vain.ensures (IsTrue_from_true _ c.if-is_vain.true) left))
     ∙ ap (λ (t : Turn). priced f.cost (first_from f (path_in c.args.best.now)
     (by_turn t ((path ++ link ∷ []) ∷ []) (completions f left (f.to link) (path ++ link ∷ [])))))
     c.in-Goes.ensures

@@ -1,16 +1,13 @@
-use Rattle.std.proofs.Common.{◌≡◌, ◌∙◌, ◌++◌, ◌∷◌, [], Bool, true, false, take, refl, sym, ap, arith}
+use Rattle.std.proofs.Common.{◌∙◌, ◌++◌, ◌∷◌, [], Bool, take, sym, ap, arith}
 use Rattle.std.specs.Prelude.{◌||◌}
 use Rattle.std.specs.List.{list_any}
+use Rattle.std.proofs.Math.Bool.{or-false}
 use Rattle.std.proofs.lemmas.List.{take_more}
 use Rattle.std.proofs.lemmas.List.Folds.{list_any-append}
 use Rattle.aeth_slots.specs.SlotSet.{Slots, has_slot}
 use Rattle.aeth_slots.proofs.TestLemmas.{has_slot-where}
 use Rattle.aeth_tables.specs.declared.promised.PromisedRow.{PromisedRow}
 use Rattle.aeth_tables.proofs.entries.taken_by.Goals as goal
-
-or_none : (b : Bool) → (b || false) ≡ b
-or_none true = refl
-or_none false = refl
 
 -- The slots of one more row are taken too.
 pub loop-one-preserved : goal.loop-one-preserved
@@ -31,5 +28,5 @@ loop-one-preserved c =
           (omega (arith, below, so_far.size))
           ∙ ap (λ (b : Bool). b || has_slot one.row.slots slot) (so_far.taken slot below)
           ∙ sym (ap (list_any test) next ∙ list_any-append test (take i rows) (one ∷ [])
-          ∙ ap (λ (b : Bool). list_any test (take i rows) || b) (or_none (test one)));
+          ∙ ap (λ (b : Bool). list_any test (take i rows) || b) (or-false (test one)));
     }

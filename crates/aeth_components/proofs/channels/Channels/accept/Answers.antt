@@ -1,12 +1,12 @@
-use Rattle.std.proofs.Common.{◌∙◌, ◌<◌, List, ap, arith, length, set}
+use Rattle.std.proofs.Common.{◌∙◌, ◌<◌, List, ap, arith, length, refl, set}
 use Rattle.std.proofs.lemmas.List.{get_or-set_same}
+use Rattle.std.proofs.lemmas.Option.{slice_get_read}
 use Rattle.aeth_components.specs.Channels.{ChannelsState}
 use Rattle.aeth_components.specs.declared.lane.Lane.{Lane}
 use Rattle.aeth_components.proofs.channels.Channels.accept.Goals as goal
 use Rattle.aeth_components.proofs.channels.Channels.accept.Goals.{After-note}
 use Rattle.aeth_components.proofs.LaneLemmas.{set-with_lane}
 use Rattle.aeth_components.proofs.MarkLemmas.{AreMarked-marked, AreMarked-set}
-use Rattle.aeth_components.proofs.ReadLemmas.{read-there}
 
 -- There is such a channel.
 within : (c : goal.After-note) → c.args.number < length c.self.inside.lanes.items
@@ -27,7 +27,8 @@ invariant_of-self c =
       idle = AreMarked-marked all.busy c.mark.new.self lanes number new c.mark.ensures.room
           c.mark.ensures.here c.mark.ensures.away c.self.invariant.idle;
       takes = AreMarked-set all.taking lanes number lane new
-          (read-there lanes number lane (within c) c.index_mut.ensures.value) (λ takes. takes)
+          (slice_get_read lanes (length lanes) number lane refl (within c) c.index_mut.ensures.value)
+          (λ takes. takes)
           c.self.invariant.takes;
       places = rw (c.index.ensures ∙ get_or-set_same lanes number new _ (within c)) at
           (c.note.ensures lanes c.self.invariant.places (within c));

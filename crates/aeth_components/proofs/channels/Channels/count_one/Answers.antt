@@ -1,12 +1,11 @@
-use Rattle.std.proofs.Common.{◌≡◌, ◌∙◌, ap, arith, length, set, slice_get, Some, sym}
+use Rattle.std.proofs.Common.{◌≡◌, ◌∙◌, ap, arith, length, refl, set, slice_get, Some, sym}
 use Rattle.aeth_components.proofs.HomeLemmas.{IsIdle-counted}
 use Rattle.aeth_components.proofs.HomeLemmas.{AreHomes-kept, StaysAtHome-counted}
-use Rattle.std.proofs.lemmas.Option.{same_Some}
+use Rattle.std.proofs.lemmas.Option.{same_Some, slice_get_read}
 use Rattle.aeth_components.proofs.channels.Channels.count_one.Goals as goal
 use Rattle.aeth_components.proofs.channels.Channels.count_one.Goals.{After-count_one}
 use Rattle.aeth_components.proofs.LaneLemmas.{set-with_lane}
 use Rattle.aeth_components.proofs.MarkLemmas.{AreMarked-marked, AreMarked-set}
-use Rattle.aeth_components.proofs.ReadLemmas.{read-there}
 use Rattle.aeth_components.specs.Channels.{ChannelsState, OfLane}
 use Rattle.aeth_components.specs.Counting.{counted, noted}
 use Rattle.aeth_components.specs.Lanes.{with_lane}
@@ -16,8 +15,8 @@ at : (c : goal.After-count_one)
     → slice_get c.self.inside.lanes.items c.args.number ≡ Some c.index_mut.result.now
 at c =
     let size = ap (λ (all : ChannelsState). length all.lanes) c.self.view_is in
-    read-there c.self.inside.lanes.items c.args.number c.index_mut.result.now
-    (omega (arith, size, c.requires.number)) c.index_mut.ensures.value
+    slice_get_read c.self.inside.lanes.items (length c.self.inside.lanes.items) c.args.number
+    c.index_mut.result.now refl (omega (arith, size, c.requires.number)) c.index_mut.ensures.value
 
 -- An idle channel is as it was, and one of which words have landed is marked.
 pub invariant_of-self : goal.invariant_of-self

@@ -1,5 +1,6 @@
-use Rattle.std.proofs.Common.{◌≡◌, ◌∙◌, List, ap, arith, length, slice_get, Some}
+use Rattle.std.proofs.Common.{◌≡◌, ◌∙◌, List, ap, arith, length, refl, slice_get, Some}
 use Rattle.std.proofs.lemmas.List.{get_or-set_same}
+use Rattle.std.proofs.lemmas.Option.{slice_get_read}
 use Rattle.aeth_components.proofs.HomeLemmas.{AreHomes-kept, StaysAtHome-refilled}
 use Rattle.aeth_router.specs.declared.part.Part.{Part}
 use Rattle.aeth_components.specs.declared.lane.Lane.{Lane}
@@ -7,7 +8,6 @@ use Rattle.aeth_components.proofs.channels.Channels.refill_one.Goals as goal
 use Rattle.aeth_components.proofs.channels.Channels.refill_one.Goals.{After-refill_one}
 use Rattle.aeth_components.proofs.MarkLemmas.{AreMarked-turned, kept-alone}
 use Rattle.aeth_components.proofs.SkipLemmas.{turned-there}
-use Rattle.aeth_components.proofs.ReadLemmas.{read-there}
 use Rattle.aeth_components.proofs.TurnLemmas.{TakesNothing-refilled, refilled-none}
 use Rattle.aeth_components.specs.Busy.{IsIdle}
 use Rattle.aeth_components.proofs.WaitingLemmas.{AreHanding-settled}
@@ -24,8 +24,8 @@ at : (c : goal.After-refill_one)
     → slice_get c.self.inside.lanes.items c.args.number ≡ Some c.index_mut.result.now
 at c =
     let size = ap (λ (all : ChannelsState). length all.lanes) c.self.view_is in
-    read-there c.self.inside.lanes.items c.args.number c.index_mut.result.now
-    (omega (arith, size, c.requires.number)) c.index_mut.ensures.value
+    slice_get_read c.self.inside.lanes.items (length c.self.inside.lanes.items) c.args.number
+    c.index_mut.result.now refl (omega (arith, size, c.requires.number)) c.index_mut.ensures.value
 
 -- The channel has had its turn among those that hand words on.
 pub returns-clause-handing : goal.returns-clause-handing

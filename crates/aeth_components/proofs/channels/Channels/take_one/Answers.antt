@@ -1,4 +1,5 @@
-use Rattle.std.proofs.Common.{◌≡◌, List, ap, arith, inl, length, slice_get, Some}
+use Rattle.std.proofs.Common.{◌≡◌, List, ap, arith, inl, length, refl, slice_get, Some}
+use Rattle.std.proofs.lemmas.Option.{slice_get_read}
 use Rattle.aeth_router.specs.declared.part.Part.{Part}
 use Rattle.aeth_components.specs.declared.lane.Lane.{Lane}
 use Rattle.aeth_components.proofs.HomeLemmas.{AreHomes-kept, StaysAtHome-pulled}
@@ -6,7 +7,6 @@ use Rattle.aeth_components.proofs.channels.Channels.take_one.Goals as goal
 use Rattle.aeth_components.proofs.channels.Channels.take_one.Goals.{After-take_one}
 use Rattle.aeth_components.proofs.MarkLemmas.{AreMarked-turned, kept-alone}
 use Rattle.aeth_components.proofs.SkipLemmas.{turned-there}
-use Rattle.aeth_components.proofs.ReadLemmas.{read-there}
 use Rattle.aeth_components.proofs.TurnLemmas.{pulled-none}
 use Rattle.aeth_components.specs.Busy.{IsIdle, TakesNothing}
 use Rattle.aeth_components.specs.Channels.{ChannelsState}
@@ -17,8 +17,8 @@ at : (c : goal.After-take_one)
     → slice_get c.self.inside.lanes.items c.args.number ≡ Some c.index_mut.result.now
 at c =
     let size = ap (λ (all : ChannelsState). length all.lanes) c.self.view_is in
-    read-there c.self.inside.lanes.items c.args.number c.index_mut.result.now
-    (omega (arith, size, c.requires.number)) c.index_mut.ensures.value
+    slice_get_read c.self.inside.lanes.items (length c.self.inside.lanes.items) c.args.number
+    c.index_mut.result.now refl (omega (arith, size, c.requires.number)) c.index_mut.ensures.value
 
 -- A channel whose receiver takes nothing is as it was.
 pub settle-requires-clause-marked : goal.settle-requires-clause-marked

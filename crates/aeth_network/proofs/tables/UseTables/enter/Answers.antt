@@ -2,11 +2,12 @@ use Rattle.std.proofs.Common.{◌∙◌, ◌-◌, All, List, ap, drop, fold, sub
 use Rattle.std.specs.Prelude.{slice_range}
 use Rattle.std.proofs.lemmas.List.Elements.{All-drop, All-take}
 use Rattle.std.proofs.lemmas.List.Folds.{fold-map}
+use Rattle.aeth_base.proofs.Members.{All-from_map}
 use Rattle.aeth_router.specs.declared.part.Part.{Part}
 use Rattle.aeth_router.specs.declared.router_row.RouterRow.{RouterRow}
 use Rattle.aeth_components.specs.Entering.{TakesRows}
 use Rattle.aeth_running.specs.Routing.{Entering, Routing, entered_with, later_rows}
-use Rattle.aeth_network.proofs.MappedRows.{all-mapped, range-map}
+use Rattle.aeth_network.proofs.MappedRows.{range-map}
 use Rattle.aeth_network.specs.Routes.{entered_use, entering_of, rows_in}
 use Rattle.aeth_network.specs.declared.tables.EnteredUse.{EnteredUse}
 use Rattle.aeth_network.proofs.tables.UseTables.enter.Goals as goal
@@ -22,7 +23,7 @@ enter_uses-requires-clause-takes c =
     let P = λ (one : EnteredUse). All (TakesRows (rows_of one.entered.0)) parts in
     let takes = λ (entering : Entering). All (TakesRows entering.rows) parts in
     let own : All P all.later.items =
-    all-mapped (entering_of rows_of) takes all.later.items
+    All-from_map (entering_of rows_of) takes all.later.items
     (subst (λ (routing : Routing). All takes (later_rows routing)) (sym c.self.view_is)
     c.requires.takes) in
     subst (λ (uses : List EnteredUse).
