@@ -8,23 +8,36 @@ half second. What it writes goes to standard error as it comes; the table is pri
 of its own proof, of its tests and of its must-fail edits, then all others (Python, compilers, programs), then the sums. Ends with
 the command's status. For a measure from nothing take a fresh clone, on a machine that does nothing else.
 
-A processor that others share is slower in one hour than in another. So the script goes through one loop again and again
-meanwhile, always the same, and the last lines tell how long that took, at best and in the mean, and what the run would have
-taken had it been at its best throughout.
+A processor that others share is slower in one hour than in another. So meanwhile the script has the prover check one
+function again and again, always the same, which is no part of the repository; and the last line tells how many
+processor seconds that took, at best, in the mean and at most. By it two measures can be compared.
 """
 import os
 import pathlib
 import re
 import resource
+import shutil
 import statistics
 import subprocess
 import sys
+import tempfile
 import time
 
 KINDS = ("own", "tests", "edits")
 TICKS = os.sysconf("SC_CLK_TCK")
-YARD_STEPS = 400_000
-YARD_SECONDS = 5
+YARD_MINUTES = 4
+YARD_TEXT = """//! A yardstick.
+#![tactic(auto)]
+
+/// The sum of the numbers, or `None` where it is too great.
+pub fn sum_of(numbers: &[u32]) -> Option<u32> {
+    let mut sum: u32 = 0;
+    for number in numbers {
+        sum = sum.checked_add(*number)?;
+    }
+    Some(sum)
+}
+"""
 NAME = re.compile(r"(?:^|\0)--crate-name\0([^\0]*)")
 
 
@@ -80,12 +93,30 @@ def sample(top, taken, kinds):
             taken[key] = (int(fields[10]) + int(fields[11])) / TICKS
 
 
-def yardstick():
-    """The processor seconds of a loop that is always the same."""
-    began, number = time.process_time(), 1
-    for step in range(YARD_STEPS):
-        number = number * 31 + step & 0xFFFFFFFF
-    return time.process_time() - began
+class Yardstick:
+    """Checks of one function, one after the other, each a while after the one before, and the processor seconds of each."""
+
+    def __init__(self, folder):
+        self.taken, self.check, self.next, self.folder = [], None, 0, pathlib.Path(folder)
+        (self.folder / "src").mkdir()
+        (self.folder / "src/lib.rt").write_text(YARD_TEXT)
+
+    def words(self):
+        kit = pathlib.Path(shutil.which("rt")).resolve().parent.parent
+        libraries = ["--extern", f"std={kit}/rlibs/std.rlib", "-L", f"dependency={kit}/rlibs"]
+        logic = ["--antt-project", f"{kit}/rattle/logic/antt-project.json", "--logic-built", f"{kit}/logic_built"]
+        return [f"{kit}/bin/rattle", "check", "--crate-name", "yardstick", "src/lib.rt", *libraries, *logic, "--jobs", "1"]
+
+    def step(self, ends=False):
+        """Begins a check where it is time, and notes one that has ended; at the end it waits for it."""
+        if self.check is None and not ends and time.monotonic() >= self.next:
+            self.next = time.monotonic() + 60 * YARD_MINUTES
+            self.check = subprocess.Popen(self.words(), cwd=self.folder, stdout=subprocess.DEVNULL, stderr=subprocess.DEVNULL)
+        if self.check is not None:
+            number, status, used = os.wait4(self.check.pid, 0 if ends else os.WNOHANG)
+            if number:
+                self.taken += [used.ru_utime + used.ru_stime] if status == 0 else []
+                self.check.returncode, self.check = status, None
 
 
 def table_of(taken, kinds):
@@ -98,6 +129,7 @@ def table_of(taken, kinds):
 
 
 def show(table, spent, clock, yards):
+    spent -= sum(yards)
     print(f"{'CRATE':24}" + "".join(f"{kind:>9}" for kind in KINDS))
     for crate, row in sorted(table.items(), key=lambda it: -sum(it[1].values())):
         print(f"{crate:24}" + "".join(f"{row[kind]:9.0f}" for kind in KINDS))
@@ -105,22 +137,25 @@ def show(table, spent, clock, yards):
     print(f"{'all':24}" + "".join(f"{sums[kind]:9.0f}" for kind in KINDS))
     print(f"{'others':24}{spent - sum(sums.values()):9.0f}")
     print(f"{spent / 60:.1f} processor minutes, {clock / 60:.1f} minutes of clock")
-    best, mean = min(yards), statistics.fmean(yards)
-    print(f"The same loop took {best * 1000:.0f} milliseconds at best, {mean * 1000:.0f} in the mean:")
-    print(f"at its best throughout, the machine would have taken {spent / 60 * best / mean:.1f} processor minutes.")
+    if yards:
+        told = min(yards), statistics.fmean(yards), max(yards)
+        print("The same check took {:.1f} processor seconds at best, {:.1f} in the mean, {:.1f} at most.".format(*told))
 
 
 def main(words):
     os.chdir(pathlib.Path(__file__).resolve().parent.parent)
-    taken, kinds, yards, began = {}, {}, [yardstick()], time.monotonic()
-    run = subprocess.Popen(words or ["rt", "ci"], stdin=subprocess.DEVNULL, stdout=sys.stderr)
-    while run.poll() is None:
-        sample(str(run.pid), taken, kinds)
-        if time.monotonic() > began + YARD_SECONDS * len(yards):
-            yards.append(yardstick())
-        time.sleep(0.5)
+    taken, kinds, began = {}, {}, time.monotonic()
+    with tempfile.TemporaryDirectory() as folder:
+        yards = Yardstick(folder)
+        run = subprocess.Popen(words or ["rt", "ci"], stdin=subprocess.DEVNULL, stdout=sys.stderr)
+        while run.poll() is None:
+            sample(str(run.pid), taken, kinds)
+            yards.step()
+            time.sleep(0.5)
+        clock = time.monotonic() - began
+        yards.step(ends=True)
     used = resource.getrusage(resource.RUSAGE_CHILDREN)
-    show(table_of(taken, kinds), used.ru_utime + used.ru_stime, time.monotonic() - began, yards)
+    show(table_of(taken, kinds), used.ru_utime + used.ru_stime, clock, yards.taken)
     return run.returncode
 
 
