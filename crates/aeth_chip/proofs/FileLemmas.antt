@@ -47,6 +47,10 @@ judged_links-kept root links is =
     kept_first (nis_are_single (nis_of root) (told_links root)) _ links joined in
     (record { ends = ends; ports = ports; single = single }, cc same)
 
+pub judged-told : (root : Members) (links : List Link) → judged_links root ≡ Ok links
+    → told_links root ≡ links
+judged-told root links is = (judged_links-kept root links is).1
+
 -- Names and links that are told make up the chip that is told.
 pub parts_are : (root : Members) (slots : ℕ) (names : Names) (links : List Link)
     → slots ≡ size_of (slots_of root) → names.routers.keys ≡ routers_of root

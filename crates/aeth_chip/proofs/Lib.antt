@@ -1,4 +1,5 @@
 pub mod Pushes
+mod ReadLemmas
 pub mod NameLemmas
 mod RangeLemmas
 mod PortLemmas
@@ -8,6 +9,7 @@ pub mod NodeLemmas
 mod IndexLemmas
 pub mod OffsetLemmas
 pub mod WireLemmas
+mod SumLemmas
 pub mod JoinedLaws
 mod PathLemmas
 mod RouterLemmas

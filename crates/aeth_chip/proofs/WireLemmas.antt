@@ -10,7 +10,7 @@ use Rattle.aeth_base.specs.Limits.{max_link_delay}
 use Rattle.aeth_base.specs.declared.ids.LinkId.{LinkId}
 use Rattle.aeth_chip.specs.Chip.{ChipData, IsChip}
 use Rattle.aeth_chip.specs.Paths.{delay_in, delay_of}
-use Rattle.aeth_chip.specs.Wires.{further_wires, wire_at, wires_of}
+use Rattle.aeth_chip.specs.Wires.{HaveDelays, further_wires, wire_at, wires_of}
 use Rattle.aeth_chip.specs.declared.node.Link.{Link}
 
 -- The sum over one more element of a list.
@@ -26,11 +26,6 @@ sum_by-take_more f (first ∷ xs) (suc i) x at =
     let more = sum_by-cons f first (take (i + 1) xs) in
     let next : suc i + 1 ≡ suc (i + 1) = omega arith in
     rw next (omega arith)
-
--- Each delay of the links is from 1 to the greatest.
-abbrev pub HaveDelays : List Link → Type 0
-HaveDelays links = (l : ℕ) (link : Link) → slice_get links l ≡ Some link
-    → (1 ≤ link.delay) × (link.delay ≤ max_link_delay)
 
 pub have_delays : (chip : ChipData) → IsChip chip → HaveDelays chip.links
 have_delays chip is_chip l link at =

@@ -1,11 +1,14 @@
 -- What the table of least numbers of links has.
 -- This project's own.
-use Rattle.std.specs.Prelude.{◌≡◌, ◌+◌, ◌<◌, ◌≤◌, ℕ, List, Option, Some, None, slice_get}
+use Rattle.std.specs.Prelude.{◌≡◌, ◌+◌, ◌<◌, ◌≤◌, ℕ, List, Option, Some, None, length}
+use Rattle.std.specs.Prelude.{slice_get}
 use Rattle.std.specs.declared.vec.Vec.{Vec}
 use Rattle.std.specs.declared.alloc.Global.{Global}
 use Rattle.aeth_base.specs.declared.ids.NiId.{NiId}
 use Rattle.aeth_base.specs.declared.ids.RouterId.{RouterId}
 use Rattle.aeth_chip.specs.declared.node.Link.{Link}
+use Rattle.aeth_chip.specs.Index.{HasEntries}
+use Rattle.aeth_chip.specs.Levels.{AreLevels, IsOrigin}
 use Rattle.aeth_chip.specs.Limits.{max_routers}
 use Rattle.aeth_chip.specs.Nodes.{IsBelow}
 use Rattle.aeth_chip.specs.Paths.{IsDistance, IsOnwardDistance}
@@ -31,6 +34,11 @@ pub record AreRows (links : List Link) (routers : ℕ) (rows : List (Vec (Option
   pub onward : (r : RouterId) (b : NiId) → r.0 < routers
       → IsOnwardDistance links r b (entry_at rows b.0 r.0)
   pub beyond : (r : RouterId) (b : NiId) → routers ≤ r.0 → IsOnwardDistance links r b None
+
+-- A row for each of so many interfaces: the levels before it, whose place is behind the routers'.
+abbrev pub AreLevelRows : List (Vec ℕ Global) → ℕ → ℕ → List (Vec (Option ℕ) Global) → Type 0
+AreLevelRows origins routers count rows = HasEntries (λ b row.
+    AreLevels (IsOrigin origins) routers (routers + b) (length origins) row.items) count rows
 
 -- The links lead to routers of so few, or to interfaces.
 abbrev pub AreBelow : List Link → ℕ → Type 0

@@ -215,7 +215,7 @@ impl Chip {
         ensures wires { result ≡ wires_of self.now.links }
         ensures chip { IsChip self.now }
     {
-        self.index.wires
+        self.index.found.wires
     }
 
     /// How many further wires the links before a link have.

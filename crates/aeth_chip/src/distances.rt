@@ -1,12 +1,12 @@
 // Least numbers of links, found by levels from each interface backwards over the links.
-ghost use Rattle.std.specs.Prelude.{◌≡◌, ◌+◌, ◌≤◌, IfOk, IfSome, length};
-ghost use Rattle.aeth_chip.specs.Distances.{entry_at};
-ghost use Rattle.aeth_chip.specs.Limits.{max_routers};
-ghost use Rattle.aeth_chip.specs.Levels.{HasPlaces};
+ghost use Rattle.std.specs.Prelude.{◌≡◌, ◌+◌, ◌^◌, ◌<◌, ◌≤◌, ℕ, IfOk, IfSome, length};
+ghost use Rattle.aeth_chip.specs.Distances.{AreLevelRows, AreRows, entry_at};
+ghost use Rattle.aeth_chip.specs.Limits.{max_nis, max_routers};
+ghost use Rattle.aeth_chip.specs.Levels.{HasPlaces, IsOrigin};
 ghost use Rattle.aeth_chip.specs.Paths.{IsDistance, IsOnwardDistance};
 
 use crate::chip::Chip;
-use crate::levels::{levels_to, origins_of};
+use crate::levels::{Room, levels_to, origins_of, room_for};
 use crate::node::Link;
 use aeth_base::{LinkId, NiId, NoMemory, RouterId};
 use std::alloc::Global;
@@ -43,17 +43,18 @@ impl Distances {
     pub fn of(alloc: Global, chip: &Chip) -> Result<Distances, NoMemory>
         ensures { IfOk result (λ distances. distances ≡ chip.now.links) }
     {
-        let routers = chip.routers();
-        let places = routers as usize + chip.nis() as usize;
         let links = links_of(alloc, chip)?;
-        let origins = origins_of(alloc, &links, routers, places)?;
-        let mut rows = Vec::with_capacity(alloc, chip.nis() as usize)?;
-        let mut frontier = Vec::with_capacity(alloc, routers as usize)?;
-        let mut next = Vec::with_capacity(alloc, routers as usize)?;
-        for goal in routers as usize..places {
-            let levels = levels_to(alloc, &origins, routers, goal, &mut frontier, &mut next)?;
-            rows.push(levels)?;
-        }
+        Distances::over(alloc, chip.routers(), chip.nis(), links)
+    }
+
+    // The same of the links between so many routers and network interfaces.
+    fn over(alloc: Global, routers: u32, nis: u32, links: Vec<Link>) -> Result<Distances, NoMemory>
+        requires routers { routers ≤ max_routers }
+        requires nis { nis ≤ max_nis }
+        requires places { HasPlaces links.items routers (routers + nis) }
+        ensures { IfOk result (λ distances. distances ≡ links.items) }
+    {
+        let rows = rows_of(alloc, routers, nis, &links)?;
         Ok(Distances {
             links,
             routers,
@@ -90,6 +91,66 @@ fn entry(rows: &[Vec<Option<u32>>], goal: usize, place: usize) -> Option<u32>
     ensures { result ≡ entry_at rows.now goal place }
 {
     *rows.get(goal)?.get(place)?
+}
+
+// A row for each of so many network interfaces.
+fn rows_of(
+    alloc: Global,
+    routers: u32,
+    nis: u32,
+    links: &[Link],
+) -> Result<Vec<Vec<Option<u32>>>, NoMemory>
+    requires routers { routers ≤ max_routers }
+    requires nis { nis ≤ max_nis }
+    requires places { HasPlaces links.now routers (routers + nis) }
+    ensures { IfOk result (λ rows. AreRows links.now routers rows.items) }
+{
+    let places = routers as usize + nis as usize;
+    let origins = origins_of(alloc, links, routers, places)?;
+    levels_of(alloc, routers, nis, &origins)
+}
+
+// The levels before each of so many network interfaces, whose places come after those of the
+// routers.
+fn levels_of(
+    alloc: Global,
+    routers: u32,
+    nis: u32,
+    origins: &[Vec<usize>],
+) -> Result<Vec<Vec<Option<u32>>>, NoMemory>
+    requires routers { routers ≤ max_routers }
+    requires nis { nis ≤ max_nis }
+    requires size { length origins.now ≡ routers + nis }
+    requires places { (from to : ℕ) → IsOrigin origins.now from to → from < length origins.now }
+    ensures { IfOk result (λ rows. AreLevelRows origins.now routers nis rows.items) }
+{
+    let mut room = room_for(alloc, routers)?;
+    let mut rows = Vec::with_capacity(alloc, nis as usize)?;
+    for ni in 0..nis {
+        add_levels(alloc, routers, ni, origins, &mut room, &mut rows)?;
+    }
+    Ok(rows)
+}
+
+// Puts the levels before a network interface behind the rows.
+fn add_levels(
+    alloc: Global,
+    routers: u32,
+    ni: u32,
+    origins: &[Vec<usize>],
+    room: &mut Room,
+    rows: &mut Vec<Vec<Option<u32>>>,
+) -> Result<(), NoMemory>
+    requires goal { routers + ni < length origins.now }
+    requires places { (from to : ℕ) → IsOrigin origins.now from to → from < length origins.now }
+    requires most { length origins.now < 2 ^ 31 }
+    requires rows { AreLevelRows origins.now routers ni rows.old.items }
+    ensures { IfOk result (λ _. AreLevelRows origins.now routers (ni + 1) rows.new.items) }
+{
+    let goal = routers as usize + ni as usize;
+    let levels = levels_to(alloc, origins, routers, goal, room)?;
+    rows.push(levels)?;
+    Ok(())
 }
 
 // The links of a chip, whose ends have places.

@@ -1,14 +1,13 @@
 // An index of the links of a chip, by which the links of a node are found without a walk.
 ghost use Rattle.std.specs.Prelude.{◌≡◌, ◌<◌, ◌≤◌, ℕ, Some, IfOk, length, slice_get};
-ghost use Rattle.aeth_base.specs.Limits.{max_link_delay};
 ghost use Rattle.aeth_base.specs.declared.ids.LinkId.{LinkId};
 ghost use Rattle.aeth_base.specs.declared.ids.NiId.{NiId};
 ghost use Rattle.aeth_chip.specs.Chip.{IsSingle};
-ghost use Rattle.aeth_chip.specs.Index.{AreNiLinks, HasEntries, IsEnds, IsFurther, list_at};
+ghost use Rattle.aeth_chip.specs.Index.{AreEndsAndWires, AreNiLinks, HasEntries, IsEnds};
+ghost use Rattle.aeth_chip.specs.Index.{IsFurther, list_at};
 ghost use Rattle.aeth_chip.specs.Limits.{max_links};
-ghost use Rattle.aeth_chip.specs.Wires.{wires_of};
+ghost use Rattle.aeth_chip.specs.Wires.{HaveDelays, wires_of};
 ghost use Rattle.aeth_chip.specs.declared.lists.NiLink.TheVariants.{One};
-ghost use Rattle.aeth_chip.specs.declared.node.Link.{Link};
 
 use crate::lists::{ListedLinks, NiLink, NiLinks, RouterLinks, list_at};
 use crate::node::Link;
@@ -22,14 +21,27 @@ pub(crate) struct Ends {
     pub entering: LinkId,
 }
 
-/// The links of the routers; for each network interface its two links; for each link how many
-/// further wires the links before it have; and how many wires there are.
+/// For each network interface its two links; for each link how many further wires the links before
+/// it have; and how many wires there are.
 #[derive(Drop)]
-pub(crate) struct Index {
-    pub routers: RouterLinks,
+pub(crate) struct EndsAndWires {
     pub ends: Vec<Ends>,
     pub further: Vec<u32>,
     pub wires: u32,
+}
+
+/// The links of the routers, and what was found of the interfaces' ends and of the wires.
+#[derive(Drop)]
+pub(crate) struct Index {
+    pub routers: RouterLinks,
+    pub found: EndsAndWires,
+}
+
+/// Links with an index of them.
+#[derive(Drop)]
+pub(crate) struct IndexedLinks {
+    pub links: Vec<Link>,
+    pub index: Index,
 }
 
 impl Index {
@@ -57,26 +69,46 @@ impl Index {
 
     /// How many further wires the links before a link have.
     pub(crate) fn further(&self, link: LinkId) -> u32
-        requires { link.0 < length self.now.further.items }
-        ensures { slice_get self.now.further.items link.0 ≡ Some result }
+        requires { link.0 < length self.now.found.further.items }
+        ensures { slice_get self.now.found.further.items link.0 ≡ Some result }
     {
-        self.further[link.0 as usize]
+        self.found.further[link.0 as usize]
     }
 
     /// The two links of a network interface.
     pub(crate) fn ends(&self, ni: NiId) -> Ends
-        requires { ni.0 < length self.now.ends.items }
-        ensures { slice_get self.now.ends.items ni.0 ≡ Some result }
+        requires { ni.0 < length self.now.found.ends.items }
+        ensures { slice_get self.now.found.ends.items ni.0 ≡ Some result }
     {
-        self.ends[ni.0 as usize]
+        self.found.ends[ni.0 as usize]
     }
 }
 
-/// For each link how many further wires the links before it have, and how many wires there are.
-pub(crate) fn further_of(alloc: Global, links: &[Link]) -> Result<(Vec<u32>, u32), NoMemory>
+/// The ends of so many network interfaces and the wires of the links.
+pub(crate) fn ends_and_wires(
+    alloc: Global,
+    nis: u32,
+    listed: &ListedLinks,
+) -> Result<EndsAndWires, NoMemory>
+    requires few { length listed.now.links.items ≤ max_links }
+    requires delays { HaveDelays listed.now.links.items }
+    requires lists { AreNiLinks listed.now.links.items nis listed.now.nis }
+    requires single { (ni : NiId) → ni.0 < nis → IsSingle listed.now.links.items ni }
+    ensures { IfOk result (AreEndsAndWires listed.now.links.items nis) }
+{
+    let ends = ends_of(alloc, nis, listed)?;
+    let (further, wires) = further_of(alloc, &listed.links)?;
+    Ok(EndsAndWires {
+        ends,
+        further,
+        wires,
+    })
+}
+
+// For each link how many further wires the links before it have, and how many wires there are.
+fn further_of(alloc: Global, links: &[Link]) -> Result<(Vec<u32>, u32), NoMemory>
     requires few { length links.now ≤ max_links }
-    requires delays { (l : ℕ) (link : Link) → slice_get links.now l ≡ Some link
-        → (1 ≤ link.delay) × (link.delay ≤ max_link_delay) }
+    requires delays { HaveDelays links.now }
     ensures further { IfOk result (λ made.
         HasEntries (IsFurther links.now) (length links.now) made.0.items) }
     ensures wires { IfOk result (λ made. made.1 ≡ wires_of links.now) }
@@ -116,8 +148,8 @@ fn ends_at(its: &NiLinks, ni: u32) -> Ends
     }
 }
 
-/// For each of so many network interfaces its two links.
-pub(crate) fn ends_of(alloc: Global, nis: u32, listed: &ListedLinks) -> Result<Vec<Ends>, NoMemory>
+// For each of so many network interfaces its two links.
+fn ends_of(alloc: Global, nis: u32, listed: &ListedLinks) -> Result<Vec<Ends>, NoMemory>
     requires lists { AreNiLinks listed.now.links.items nis listed.now.nis }
     requires single { (ni : NiId) → ni.0 < nis → IsSingle listed.now.links.items ni }
     ensures { IfOk result (λ ends. HasEntries (IsEnds listed.now.links.items) nis ends.items) }

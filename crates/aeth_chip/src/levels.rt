@@ -1,6 +1,6 @@
 // The search in levels: the least numbers of links to a place of a chip, from all its places.
 ghost use Rattle.std.specs.Prelude.{◌≡◌, ◌≢◌, ◌++◌, ◌∷◌, ◌^◌, ◌<◌, ◌≤◌, ℕ, [], IfOk, Contains};
-ghost use Rattle.std.specs.Prelude.{length};
+ghost use Rattle.std.specs.Prelude.{None, length, replicate};
 ghost use Rattle.aeth_chip.specs.Levels.{AreLevels, AreOrigins, Enters, HasPlaces, IsOrigin};
 ghost use Rattle.aeth_chip.specs.Levels.{SpreadsLevel, items_at, node_place};
 
@@ -9,6 +9,13 @@ use crate::node::{Link, Node};
 use aeth_base::NoMemory;
 use std::alloc::Global;
 use std::mem::swap;
+
+/// Room for a search: the places to go on from in a round, and in the next one.
+#[derive(Drop)]
+pub(crate) struct Room {
+    pub frontier: Vec<usize>,
+    pub next: Vec<usize>,
+}
 
 // The place of a node in a row: the routers come first, then the interfaces.
 fn node_place(node: Node, routers: u32) -> usize
@@ -53,6 +60,13 @@ fn enter(origins: &mut Vec<Vec<usize>>, link: &Link, routers: u32) -> Result<(),
     Ok(())
 }
 
+/// Room for a search over so many routers.
+pub(crate) fn room_for(alloc: Global, routers: u32) -> Result<Room, NoMemory> {
+    let frontier = Vec::with_capacity(alloc, routers as usize)?;
+    let next = Vec::with_capacity(alloc, routers as usize)?;
+    Ok(Room { frontier, next })
+}
+
 // So many empty lists, with room for as many places in each as a router has ports.
 fn empty_lists(alloc: Global, count: usize) -> Result<Vec<Vec<usize>>, NoMemory>
     ensures size { IfOk result (λ lists. length lists.items ≡ count) }
@@ -86,8 +100,7 @@ pub(crate) fn levels_to(
     origins: &[Vec<usize>],
     routers: u32,
     goal: usize,
-    frontier: &mut Vec<usize>,
-    next: &mut Vec<usize>,
+    room: &mut Room,
 ) -> Result<Vec<Option<u32>>, NoMemory>
     requires goal { goal < length origins.now }
     requires routers { routers ≤ goal }
@@ -97,17 +110,45 @@ pub(crate) fn levels_to(
         AreLevels (IsOrigin origins.now) routers goal (length origins.now) levels.items) }
 {
     let mut levels = vec![in alloc; None; origins.len()]?;
+    search(
+        origins,
+        routers,
+        goal,
+        &mut room.frontier,
+        &mut room.next,
+        &mut levels,
+    )?;
+    Ok(levels)
+}
+
+// Gives each place its level before a goal, where none has one yet.
+fn search(
+    origins: &[Vec<usize>],
+    routers: u32,
+    goal: usize,
+    frontier: &mut Vec<usize>,
+    next: &mut Vec<usize>,
+    levels: &mut [Option<u32>],
+) -> Result<(), NoMemory>
+    requires goal { goal < length origins.now }
+    requires routers { routers ≤ goal }
+    requires places { (from to : ℕ) → IsOrigin origins.now from to → from < length origins.now }
+    requires most { length origins.now < 2 ^ 31 }
+    requires none { levels.old ≡ replicate (length origins.now) None }
+    ensures { IfOk result (λ _.
+        AreLevels (IsOrigin origins.now) routers goal (length origins.now) levels.new) }
+{
     let mut level = 0;
     frontier.clear();
     frontier.push(goal)?;
     next.clear();
     'rounds: while !frontier.is_empty() {
         level += 1;
-        spread_all(origins, frontier, level, routers, &mut levels, next)?;
+        spread_all(origins, frontier, level, routers, levels, next)?;
         swap(frontier, next);
         next.clear();
     }
-    Ok(levels)
+    Ok(())
 }
 
 // Gives a level to each place that has none and from which a link leads to one of the places.

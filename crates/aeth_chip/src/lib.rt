@@ -11,6 +11,7 @@ pub mod laws;
 mod levels;
 mod links;
 mod lists;
+mod making;
 mod node;
 mod paths;
 mod ports;

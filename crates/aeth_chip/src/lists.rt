@@ -1,13 +1,16 @@
 // Lists of the links of each router, and the one link each way of each network interface, made in
 // passes over the links.
-ghost use Rattle.std.specs.Prelude.{◌≡◌, ◌≢◌, ◌<◌, ◌≤◌, ◌++◌, ◌∷◌, ℕ, [], Some, IfOk, length};
-ghost use Rattle.std.specs.Prelude.{slice_get, if◌then◌else◌};
+ghost use Rattle.std.specs.Prelude.{◌≡◌, ◌≢◌, ◌<◌, ◌≤◌, ◌+◌, ◌++◌, ◌∷◌, ℕ, List, [], Some};
+ghost use Rattle.std.specs.Prelude.{IfOk, length, slice_get, if◌then◌else◌};
 ghost use Rattle.aeth_base.specs.declared.ids.NiId.{NiId};
 ghost use Rattle.aeth_base.specs.declared.ids.RouterId.{RouterId};
-ghost use Rattle.aeth_chip.specs.Index.{AreLinkLists, AreNiLinks, AreRouterLinks, as_ni, as_router};
-ghost use Rattle.aeth_chip.specs.Index.{entry_for, list_at, ni_link_with};
+ghost use Rattle.aeth_chip.specs.Index.{AreFirstLinks, AreLinkLists, AreNiLinks, AreRouterLinks};
+ghost use Rattle.aeth_chip.specs.Index.{HasEntries, IsNiLink, as_ni, as_router, entry_for, list_at};
+ghost use Rattle.aeth_chip.specs.Index.{ni_link_with};
 ghost use Rattle.aeth_chip.specs.Limits.{max_links};
 ghost use Rattle.aeth_chip.specs.Nodes.{IsBelow, IsNiBelow, router_of, same_node};
+ghost use Rattle.aeth_chip.specs.declared.node.End.{End};
+ghost use Rattle.aeth_chip.specs.declared.node.End.TheVariants.{From, To};
 ghost use Rattle.aeth_chip.specs.declared.node.Link.{Link};
 
 use crate::chip::MAX_PORTS;
@@ -156,19 +159,57 @@ fn router_links(alloc: Global, routers: u32, links: &[Link]) -> Result<RouterLin
         → IsBelow routers link.from × IsBelow routers link.to }
     ensures { IfOk result (λ its. AreRouterLinks links.now routers its) }
 {
-    let mut outgoing = empty_lists(alloc, routers)?;
-    let mut incoming = empty_lists(alloc, routers)?;
-    let mut ports = Vec::with_capacity(alloc, links.len())?;
-    for (number, link) in links.iter().enumerate() {
-        let number = LinkId(number as u32);
-        ports.push(enter(&mut outgoing, link.from, number)?)?;
-        enter(&mut incoming, link.to, number)?;
-    }
+    let mut its = no_router_links(alloc, routers, links.len())?;
+    enter_links(links, routers, &mut its)?;
+    Ok(its)
+}
+
+// None for so many routers, with room for so many links.
+fn no_router_links(alloc: Global, routers: u32, room: usize) -> Result<RouterLinks, NoMemory>
+    ensures { IfOk result (λ its. (links : List Link) → AreFirstLinks links 0 routers its) }
+{
+    let outgoing = empty_lists(alloc, routers)?;
+    let incoming = empty_lists(alloc, routers)?;
+    let ports = Vec::with_capacity(alloc, room)?;
     Ok(RouterLinks {
         outgoing,
         incoming,
         ports,
     })
+}
+
+// Enters all links, where there are none yet.
+fn enter_links(links: &[Link], routers: u32, its: &mut RouterLinks) -> Result<(), NoMemory>
+    requires few { length links.now ≤ max_links }
+    requires nodes { (l : ℕ) (link : Link) → slice_get links.now l ≡ Some link
+        → IsBelow routers link.from × IsBelow routers link.to }
+    requires none { AreFirstLinks links.now 0 routers its.old }
+    ensures { IfOk result (λ _. AreRouterLinks links.now routers its.new) }
+{
+    for number in 0..links.len() as u32 {
+        enter_link(links, routers, number, its)?;
+    }
+    Ok(())
+}
+
+// Enters one link more.
+fn enter_link(
+    links: &[Link],
+    routers: u32,
+    number: u32,
+    its: &mut RouterLinks,
+) -> Result<(), NoMemory>
+    requires number { number < length links.now }
+    requires nodes { (l : ℕ) (link : Link) → slice_get links.now l ≡ Some link
+        → IsBelow routers link.from × IsBelow routers link.to }
+    requires before { AreFirstLinks links.now number routers its.old }
+    ensures { IfOk result (λ _. AreFirstLinks links.now (number + 1) routers its.new) }
+{
+    let link = links[number as usize];
+    let port = enter(&mut its.outgoing, link.from, LinkId(number))?;
+    its.ports.push(port)?;
+    enter(&mut its.incoming, link.to, LinkId(number))?;
+    Ok(())
 }
 
 // The links of so many network interfaces, in one pass over the links.
@@ -178,12 +219,32 @@ fn ni_links(alloc: Global, nis: u32, links: &[Link]) -> Result<NiLinks, NoMemory
         → IsNiBelow nis link.from × IsNiBelow nis link.to }
     ensures { IfOk result (λ its. AreNiLinks links.now nis its) }
 {
-    let mut outgoing = vec![in alloc; NiLink::Missing; nis as usize]?;
-    let mut incoming = vec![in alloc; NiLink::Missing; nis as usize]?;
+    let mut outgoing = no_ni_links(alloc, nis)?;
+    let mut incoming = no_ni_links(alloc, nis)?;
+    enter_nis(links, &mut outgoing, &mut incoming);
+    Ok(NiLinks { outgoing, incoming })
+}
+
+// None for so many network interfaces, at either end.
+fn no_ni_links(alloc: Global, nis: u32) -> Result<Vec<NiLink>, NoMemory>
+    ensures { IfOk result (λ none. (end : End) → HasEntries (IsNiLink end []) nis none.items) }
+{
+    Ok(vec![in alloc; NiLink::Missing; nis as usize]?)
+}
+
+// Enters all links for the network interfaces, where there are none yet.
+fn enter_nis(links: &[Link], outgoing: &mut [NiLink], incoming: &mut [NiLink])
+    requires few { length links.now ≤ max_links }
+    requires nodes { (l : ℕ) (link : Link) → slice_get links.now l ≡ Some link
+        → IsNiBelow (length outgoing.old) link.from × IsNiBelow (length incoming.old) link.to }
+    requires no_outgoing { HasEntries (IsNiLink From []) (length outgoing.old) outgoing.old }
+    requires no_incoming { HasEntries (IsNiLink To []) (length incoming.old) incoming.old }
+    ensures outgoing { HasEntries (IsNiLink From links.now) (length outgoing.old) outgoing.new }
+    ensures incoming { HasEntries (IsNiLink To links.now) (length incoming.old) incoming.new }
+{
     for (number, link) in links.iter().enumerate() {
         let number = LinkId(number as u32);
-        enter_ni(&mut outgoing, link.from, number);
-        enter_ni(&mut incoming, link.to, number);
+        enter_ni(outgoing, link.from, number);
+        enter_ni(incoming, link.to, number);
     }
-    Ok(NiLinks { outgoing, incoming })
 }

@@ -5,7 +5,7 @@ ghost use Rattle.aeth_chip.specs.Nodes.{begins_at, end_node, ends_at, same_node}
 use aeth_base::{NiId, RouterId};
 
 /// Where a link begins or ends.
-#[derive(Clone, Copy, Debug, PartialEq, Eq)]
+#[derive(Clone, Copy)]
 pub enum Node {
     Router(RouterId),
     Ni(NiId),
@@ -13,7 +13,7 @@ pub enum Node {
 
 /// A directed link. A flit that enters it in a cycle reaches its far end `delay` cycles later: 1 in
 /// a file of version 1, 1 to 4 in one of version 2.
-#[derive(Clone, Copy, Debug, PartialEq, Eq)]
+#[derive(Clone, Copy)]
 pub struct Link {
     pub from: Node,
     pub to: Node,

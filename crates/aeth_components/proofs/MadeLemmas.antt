@@ -12,11 +12,11 @@ use Rattle.std.proofs.lemmas.Option.{slice_get-get_or, slice_get-map, slice_get_
 use Rattle.aeth_base.proofs.Lists.{item-at}
 use Rattle.aeth_chip.specs.Chip.{ChipData, IsChip, IsNode}
 use Rattle.aeth_chip.specs.Nodes.{begins_at, receives_on, same_node, sends_on}
-use Rattle.aeth_chip.specs.Wires.{further_wires, wire_at, wires_of}
+use Rattle.aeth_chip.specs.Wires.{HaveDelays, further_wires, wire_at, wires_of}
 use Rattle.aeth_chip.specs.declared.node.Link.{Link}
 use Rattle.aeth_chip.specs.declared.node.Node.{Node}
 use Rattle.aeth_chip.specs.declared.node.Node.TheVariants.{Router, Ni}
-use Rattle.aeth_chip.proofs.WireLemmas.{HaveDelays, have_delays, wire_at-behind}
+use Rattle.aeth_chip.proofs.WireLemmas.{have_delays, wire_at-behind}
 use Rattle.aeth_chip.proofs.WireLemmas.{wire_at-below, wires_of-split}
 use Rattle.aeth_router.proofs.LinkLemmas.{is_among-from_passes, passes-from_is_among}
 use Rattle.aeth_router.proofs.WireLemmas.{AreLinks-entering_wires}

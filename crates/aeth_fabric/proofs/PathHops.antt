@@ -20,14 +20,14 @@ use Rattle.aeth_chip.specs.Chip.{ChipData, IsChip, IsNode}
 use Rattle.aeth_chip.specs.Joined.{IsJoined}
 use Rattle.aeth_chip.specs.Nodes.{begins_at, sends_on}
 use Rattle.aeth_chip.specs.Paths.{BeginsAt, IsPath, delay_of, offset, to_of}
-use Rattle.aeth_chip.specs.Wires.{wire_at}
+use Rattle.aeth_chip.specs.Wires.{HaveDelays, wire_at}
 use Rattle.aeth_chip.specs.declared.node.Link.{Link}
 use Rattle.aeth_chip.specs.declared.node.Node.{Node}
 use Rattle.aeth_chip.specs.declared.node.Node.TheVariants.{Ni, Router}
 use Rattle.aeth_chip.proofs.JoinedLaws.{joined-next}
 use Rattle.aeth_chip.proofs.NodeLemmas.{length-numbers_from}
 use Rattle.aeth_chip.proofs.OffsetLemmas.{offset-more, offset-zero, offset_all}
-use Rattle.aeth_chip.proofs.WireLemmas.{HaveDelays, have_delays}
+use Rattle.aeth_chip.proofs.WireLemmas.{have_delays}
 use Rattle.aeth_router.proofs.WireLemmas.{last_wire-is}
 use Rattle.aeth_refinement.specs.Fabric.{AtInterface, AtRouter, AtStage}
 use Rattle.aeth_report.specs.Routes.{port_of, route_along}

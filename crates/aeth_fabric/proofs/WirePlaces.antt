@@ -7,9 +7,8 @@ use Rattle.std.proofs.lemmas.Bool.{cases_lt, le-ltb, lt-ltb}
 use Rattle.std.proofs.lemmas.List.Sums.{sum_by-cons}
 use Rattle.std.proofs.lemmas.Option.{same_Some, slice_get_cases, slice_get_within}
 use Rattle.aeth_base.proofs.Lists.{option_map-some}
-use Rattle.aeth_chip.specs.Wires.{further_wires, wire_at}
+use Rattle.aeth_chip.specs.Wires.{HaveDelays, further_wires, wire_at}
 use Rattle.aeth_chip.specs.declared.node.Link.{Link}
-use Rattle.aeth_chip.proofs.WireLemmas.{HaveDelays}
 use Rattle.aeth_fabric.specs.Wiring.{further_at, wire_place}
 
 -- The place of a further wire.

@@ -9,13 +9,13 @@ use Rattle.aeth_base.proofs.Lists.{option_map-some}
 use Rattle.aeth_chip.specs.Chip.{ChipData, IsChip, IsNode}
 use Rattle.aeth_chip.specs.Nodes.{begins_at, ends_at, numbers_from, receives_on, router_of, sends_on}
 use Rattle.aeth_chip.specs.Paths.{delay_of}
-use Rattle.aeth_chip.specs.Wires.{wire_at}
+use Rattle.aeth_chip.specs.Wires.{HaveDelays, wire_at}
 use Rattle.aeth_chip.specs.declared.node.Link.{Link}
 use Rattle.aeth_chip.specs.declared.node.Node.{Node}
 use Rattle.aeth_chip.specs.declared.node.Node.TheVariants.{Ni, Router}
 use Rattle.aeth_chip.proofs.NodeLemmas.{numbers_from-at, numbers_from-once, receives_on-found}
 use Rattle.aeth_chip.proofs.NodeLemmas.{same_node-refl, same_node-true}
-use Rattle.aeth_chip.proofs.WireLemmas.{HaveDelays, have_delays, wire_at-apart}
+use Rattle.aeth_chip.proofs.WireLemmas.{have_delays, wire_at-apart}
 use Rattle.aeth_refinement.specs.Accepted.{IsWired}
 use Rattle.aeth_refinement.specs.Fabric.{AtInterface, AtRouter, AtStage, Passage}
 use Rattle.aeth_report.specs.Routes.{port_of}

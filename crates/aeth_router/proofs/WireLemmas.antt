@@ -7,10 +7,10 @@ use Rattle.std.proofs.lemmas.Bool.Decides.{nat_tests}
 use Rattle.std.proofs.lemmas.Option.{slice_get_within}
 use Rattle.aeth_base.specs.declared.ids.RouterId.{RouterId}
 use Rattle.aeth_chip.specs.Nodes.{begins_at, ends_at, receives_on, sends_on}
-use Rattle.aeth_chip.specs.Wires.{wire_at, wires_of}
+use Rattle.aeth_chip.specs.Wires.{HaveDelays, wire_at, wires_of}
 use Rattle.aeth_chip.specs.declared.node.Link.{Link}
 use Rattle.aeth_chip.specs.declared.node.Node.TheVariants.{Router}
-use Rattle.aeth_chip.proofs.WireLemmas.{HaveDelays, wire_at-below, wires_of-split}
+use Rattle.aeth_chip.proofs.WireLemmas.{wire_at-below, wires_of-split}
 use Rattle.aeth_clocked.specs.Wires.{AreLinks}
 use Rattle.aeth_router.specs.Router.{entering_wires, is_among, last_wire}
 use Rattle.aeth_router.proofs.LinkLemmas.{AreLinks-numbers_from, is_among-at}

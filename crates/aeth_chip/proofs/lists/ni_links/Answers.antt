@@ -1,49 +1,56 @@
-use Rattle.std.proofs.Common.{◌≡◌, ◌∙◌, ◌+◌, List, Some, get_or, slice_get, subst, sym, take, length}
-use Rattle.std.proofs.Common.{ap, arith}
-use Rattle.std.proofs.lemmas.Option.{slice_get-get_or}
+use Rattle.std.proofs.Common.{◌∙◌, ℕ, List, length, ap, subst, sym, arith}
 use Rattle.aeth_base.proofs.Lists.{written_back}
 use Rattle.aeth_chip.specs.Index.{HasEntries, IsNiLink}
 use Rattle.aeth_chip.specs.declared.lists.NiLink.{NiLink}
 use Rattle.aeth_chip.specs.declared.node.End.TheVariants.{From, To}
-use Rattle.aeth_chip.specs.declared.node.Link.{Link}
-use Rattle.aeth_chip.specs.declared.node.Node.TheVariants.{Router}
-use Rattle.aeth_chip.proofs.IndexLemmas.{ni_links-more}
 use Rattle.aeth_chip.proofs.lists.ni_links.Goals as goal
 
-abbrev no_link : Link
-no_link = record { from = Router (record { 0 = 0 }); to = Router (record { 0 = 0 }); delay = 0 }
+-- There is an entry for each network interface.
+pub enter_nis-requires-clause-nodes : goal.enter_nis-requires-clause-nodes
+enter_nis-requires-clause-nodes c =
+    rw (
+      c.deref_mut.ensures.value,
+      c.deref_mut-2.ensures.value,
+      (c.in_ok-outgoing.ensures From).size,
+      (c.in_ok-incoming.ensures To).size,
+    )
+    c.requires.nodes
 
--- One more link.
-pub loop-number-preserved : goal.loop-number-preserved
-loop-number-preserved c =
+-- None has a link yet.
+pub enter_nis-requires-clause-no_outgoing : goal.enter_nis-requires-clause-no_outgoing
+enter_nis-requires-clause-no_outgoing c =
+    rw (c.deref_mut.ensures.value, (c.in_ok-outgoing.ensures From).size)
+    (c.in_ok-outgoing.ensures From)
+
+pub enter_nis-requires-clause-no_incoming : goal.enter_nis-requires-clause-no_incoming
+enter_nis-requires-clause-no_incoming c =
+    rw (c.deref_mut-2.ensures.value, (c.in_ok-incoming.ensures To).size)
+    (c.in_ok-incoming.ensures To)
+
+-- The entries that were made are those of the vectors.
+pub returns : goal.returns
+returns c =
     let links = c.args.links.now in
-    let number = c.loop-number.number in
-    let link = get_or links number no_link in
-    let at : slice_get links number ≡ Some link =
-    slice_get-get_or links number no_link c.loop-number-test.true in
-    let outgoing = c.loop-number.outgoing in
-    let sent = c.enter_ni.new.entries in
-    let seen_out = c.deref_mut.ensures.value in
-    let out_size : length sent ≡ length outgoing.items =
-    c.enter_ni.ensures.size ∙ ap length seen_out in
+    let nis = c.args.nis in
+    let outgoing = c.in_ok-outgoing.outgoing in
+    let sent = c.enter_nis.new.outgoing in
+    let out_seen = ap length c.deref_mut.ensures.value in
+    let out_size = (c.in_ok-outgoing.ensures From).size in
     let out_len = outgoing.ok in
-    let incoming = c.loop-number.incoming in
-    let received = c.enter_ni-in-loop-number.new.entries in
-    let seen_in = c.deref_mut-in-loop-number.ensures.value in
-    let in_size : length received ≡ length incoming.items =
-    c.enter_ni-in-loop-number.ensures.size ∙ ap length seen_in in
+    let out_same = c.enter_nis.ensures.outgoing.size ∙ out_seen in
+    let incoming = c.in_ok-incoming.incoming in
+    let received = c.enter_nis.new.incoming in
+    let in_seen = ap length c.deref_mut-2.ensures.value in
+    let in_size = (c.in_ok-incoming.ensures To).size in
     let in_len = incoming.ok in
+    let in_same = c.enter_nis.ensures.incoming.size ∙ in_seen in
     record {
-      outgoing = subst (λ (entries : List NiLink).
-          HasEntries (IsNiLink From (take (number + 1) links)) c.args.nis entries)
-          (sym (written_back outgoing.items sent outgoing.len (omega arith) out_size))
-          (ni_links-more From links c.args.nis number link outgoing.items sent
-          c.loop-number.invariant.outgoing at out_size
-          (rw seen_out at c.enter_ni.ensures.entries));
-      incoming = subst (λ (entries : List NiLink).
-          HasEntries (IsNiLink To (take (number + 1) links)) c.args.nis entries)
-          (sym (written_back incoming.items received incoming.len (omega arith) in_size))
-          (ni_links-more To links c.args.nis number link incoming.items received
-          c.loop-number.invariant.incoming at in_size
-          (rw seen_in at c.enter_ni-in-loop-number.ensures.entries));
+      outgoing = subst (λ (its : List NiLink). HasEntries (IsNiLink From links) nis its)
+          (sym (written_back outgoing.items sent outgoing.len (omega arith) out_same))
+          (subst (λ (n : ℕ). HasEntries (IsNiLink From links) n sent) (out_seen ∙ out_size)
+          c.enter_nis.ensures.outgoing);
+      incoming = subst (λ (its : List NiLink). HasEntries (IsNiLink To links) nis its)
+          (sym (written_back incoming.items received incoming.len (omega arith) in_same))
+          (subst (λ (n : ℕ). HasEntries (IsNiLink To links) n received) (in_seen ∙ in_size)
+          c.enter_nis.ensures.incoming);
     }

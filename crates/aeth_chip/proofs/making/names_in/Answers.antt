@@ -1,7 +1,7 @@
 use Rattle.std.proofs.Common.{◌∙◌}
 use Rattle.aeth_chip.proofs.RangeLemmas.{in_range, nis_set, routers_set}
-use Rattle.aeth_chip.proofs.reading.names_in.Goals as goal
-use Rattle.aeth_chip.proofs.reading.names_in.Goals.{In_ok-nis}
+use Rattle.aeth_chip.proofs.making.names_in.Goals as goal
+use Rattle.aeth_chip.proofs.making.names_in.Goals.{In_ok-nis}
 
 -- The set of the routers' names is the list of their texts.
 pub returns-clause-routers : goal.returns-clause-routers

@@ -1,6 +1,6 @@
 use Rattle.std.proofs.Common.{◌∙◌, sym}
 use Rattle.aeth_chip.proofs.RangeLemmas.{delays_are, delays_are_1}
-use Rattle.aeth_chip.proofs.reading.known_links.Goals as goal
+use Rattle.aeth_chip.proofs.making.known_links.Goals as goal
 
 -- The delays of the links are in their range.
 pub links_of-requires-clause-delays : goal.links_of-requires-clause-delays

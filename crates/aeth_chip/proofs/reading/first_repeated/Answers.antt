@@ -5,7 +5,7 @@ use Rattle.aeth_document.specs.Walks.{found_by, repeats, walked}
 use Rattle.aeth_document.specs.declared.walk.Walk.{Walk}
 use Rattle.aeth_document.proofs.WalkLemmas.{found_by-walked, repeats-append, walked-append}
 use Rattle.aeth_document.proofs.WalkLemmas.{walked-done}
-use Rattle.aeth_chip.proofs.reading.repeated_name.Goals as goal
+use Rattle.aeth_chip.proofs.reading.first_repeated.Goals as goal
 use Rattle.aeth_document.specs.declared.walk.Walk.TheVariants.{At, Stopped}
 
 -- A walk over the texts of two lists: where the first has a repeat, the second doesn't matter, and
@@ -26,9 +26,9 @@ returns c =
     let root = table_view c.args.root.now in
     let seen = map (λ t. t.now) c.repeats.new.seen.keys in
     let first : c.in_ok-walk.walk ≡ walked (At 0) (repeats [] (routers_of root)) =
-    rw (c.in_ok-seen.ensures.empty, c.from.ensures, c.routers_of.ensures)
+    rw (c.requires, c.from.ensures, c.routers_of.ensures)
     at c.in_ok-walk.ensures.walk in
-    let all = rw (c.in_ok-seen.ensures.empty, c.routers_of.ensures) at c.in_ok-walk.ensures.seen in
+    let all = rw (c.requires, c.routers_of.ensures) at c.in_ok-walk.ensures.seen in
     let second = rw c.nis_of.ensures at c.in_ok-walk-2.ensures.walk in
     let both = second
     ∙ behind c.in_ok-walk.walk (At 0) (routers_of root) (nis_of root) seen first all in
