@@ -15,6 +15,14 @@ any_here test xs i x total at passes so_far =
     sym (ap (list_any test) (drop-slice_get xs i x at)
     ∙ ap (λ b. b || list_any test (drop (i + 1) xs)) passes) ∙ so_far
 
+-- No item passes at a place, so one passes where one behind it does.
+pub any_on : {X : Type 0} (test : X → Bool) (xs : List X) (i : ℕ) (x : X) (total : Bool)
+    → slice_get xs i ≡ Some x → test x ≡ false → list_any test (drop i xs) ≡ total
+    → list_any test (drop (i + 1) xs) ≡ total
+any_on test xs i x total at fails so_far =
+    sym (ap (list_any test) (drop-slice_get xs i x at)
+    ∙ ap (λ b. b || list_any test (drop (i + 1) xs)) fails) ∙ so_far
+
 -- A core that is seated elsewhere is the first that is, from its place on.
 pub misseated_here : (seats : List SeatLine) (cores : List Core) (i : ℕ) (one : Core)
     (total : Option ℕ) → slice_get cores i ≡ Some one

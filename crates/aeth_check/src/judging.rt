@@ -1,12 +1,14 @@
 // The check of a plan: its rules one after the other.
 ghost use Rattle.aeth_check.specs.Accepted.{IsAccepted};
 ghost use Rattle.aeth_check.specs.Calls.{IsPlaced, IsWithin};
-ghost use Rattle.aeth_check.specs.Verdict.{verdict_of};
+ghost use Rattle.aeth_check.specs.Verdict.{conflict, lacking, misseated, stranger, stray_path};
+ghost use Rattle.aeth_check.specs.Verdict.{unfit_slots, verdict_of};
 ghost use Rattle.aeth_chip.specs.Chip.{IsChip};
 ghost use Rattle.aeth_group.specs.Members.{groups_of};
 ghost use Rattle.aeth_plan.specs.Plan.{IsPlanOf, grant_before};
 ghost use Rattle.aeth_text.specs.Order.{Rises};
-ghost use Rattle.std.specs.Prelude.{◌≡◌, ◌↔◌, All, IfOk, length};
+ghost use Rattle.std.specs.Option.{option_or};
+ghost use Rattle.std.specs.Prelude.{◌≡◌, ◌↔◌, All, IfOk, length, unwrap_or};
 
 use crate::channels::{lacking, stranger};
 use crate::conflicts::conflict;
@@ -41,7 +43,33 @@ fn judge(
         return Ok(verdict);
     }
     let seating = Seating::of(alloc, plan.seats(), app.cores())?;
-    if let Some(verdict) = misseated(app, &seating, plan) {
+    judge_seated(alloc, chip, app, groups, &seating, plan)
+}
+
+/// The first rule from 2 on that a plan breaks, or that it is accepted.
+fn judge_seated(
+    alloc: Global,
+    chip: &Chip,
+    app: &App,
+    groups: &Groups,
+    seating: &Seating,
+    plan: &Plan,
+) -> Result<Verdict, NoMemory>
+    requires chip { IsChip chip.now }
+    requires connections { groups.now.connections ≡ length app.now.connections }
+    requires order { Rises grant_before plan.now.grants }
+    requires within { All (IsWithin chip.now app.now) plan.now.grants }
+    requires placed { All (IsPlaced chip.now) plan.now.grants }
+    requires seating { seating.now ≡ plan.now.seats }
+    ensures { IfOk result (λ verdict. verdict
+        ≡ unwrap_or (option_or (misseated app.now plan.now)
+        (option_or (stranger groups.now plan.now)
+        (option_or (lacking groups.now plan.now)
+        (option_or (stray_path chip.now app.now plan.now)
+        (option_or (unfit_slots chip.now app.now plan.now)
+        (conflict chip.now groups.now plan.now)))))) Verdict.Accepted) }
+{
+    if let Some(verdict) = misseated(app, seating, plan) {
         return Ok(verdict);
     }
     if let Some(verdict) = stranger(groups, plan) {
@@ -51,7 +79,30 @@ fn judge(
         return Ok(verdict);
     }
     let distances = Distances::of(alloc, chip)?;
-    if let Some(verdict) = stray_path(chip, app, &distances, &seating, plan) {
+    judge_paths(alloc, chip, app, groups, &distances, seating, plan)
+}
+
+/// The first rule from 5 on that a plan breaks, or that it is accepted.
+fn judge_paths(
+    alloc: Global,
+    chip: &Chip,
+    app: &App,
+    groups: &Groups,
+    distances: &Distances,
+    seating: &Seating,
+    plan: &Plan,
+) -> Result<Verdict, NoMemory>
+    requires chip { IsChip chip.now }
+    requires within { All (IsWithin chip.now app.now) plan.now.grants }
+    requires placed { All (IsPlaced chip.now) plan.now.grants }
+    requires distances { distances.now ≡ chip.now.links }
+    requires seating { seating.now ≡ plan.now.seats }
+    ensures { IfOk result (λ verdict. verdict
+        ≡ unwrap_or (option_or (stray_path chip.now app.now plan.now)
+        (option_or (unfit_slots chip.now app.now plan.now)
+        (conflict chip.now groups.now plan.now))) Verdict.Accepted) }
+{
+    if let Some(verdict) = stray_path(chip, app, distances, seating, plan) {
         return Ok(verdict);
     }
     if let Some(verdict) = unfit_slots(chip, app, plan) {
