@@ -15,6 +15,7 @@ use crate::counting::{count_one, count_received};
 use crate::handing::Handing;
 use crate::homes::Homes;
 use crate::lane::Lane;
+use crate::noted::Noted;
 use crate::phases::{refill_one, rest, settle, take_one};
 use aeth_base::{Marks, NoMemory};
 use aeth_router::Part;
@@ -54,15 +55,13 @@ impl Channels {
     ) -> Result<Channels, NoMemory>
         ensures { IfOk result (λ made. made ≡ record { lanes = lanes.items; words = words.items }) }
     {
-        let busy = Marks::all(alloc, lanes.len())?;
-        let taking = Marks::all(alloc, lanes.len())?;
-        let homes = Homes::new(alloc, &lanes)?;
+        let noted = Noted::of(alloc, &lanes)?;
         Ok(Channels {
             lanes,
             words,
-            busy,
-            taking,
-            homes,
+            busy: noted.busy,
+            taking: noted.taking,
+            homes: noted.homes,
         })
     }
 
@@ -71,6 +70,13 @@ impl Channels {
         ensures { result.now ≡ self.now.lanes }
     {
         &self.lanes
+    }
+
+    /// How many words all sessions have.
+    pub(crate) fn count_words(&self) -> usize
+        ensures { result ≡ length self.now.words }
+    {
+        self.words.len()
     }
 
     /// A channel has another session from now on.

@@ -24,6 +24,7 @@ ghost use Rattle.aeth_components.specs.Ready.{AreReady};
 ghost use Rattle.aeth_components.specs.Seen.{all_seen, taken_of};
 ghost use Rattle.aeth_components.specs.Turns.{flits_on};
 
+use crate::beside::Beside;
 use crate::channels::Channels;
 use crate::counts::Counts;
 use crate::driving::drive;
@@ -102,21 +103,8 @@ impl Components {
         ensures { IfOk result (λ made. made
             ≡ first_components chip.now kind rooms.now lanes.items words.items) }
     {
-        let _ = chip.slots();
-        let parts = parts_of(alloc, chip, kind, rooms)?;
-        let wires = Wires::new(alloc, chip.wires())?;
-        let turns = Turns::new(alloc, chip, kind)?;
-        let counts = Counts::new(alloc, words.len(), chip.links() as usize)?;
-        let handing = Handing::new(alloc, lanes.len())?;
         let channels = Channels::new(alloc, lanes, words)?;
-        Ok(Components {
-            parts,
-            wires,
-            turns,
-            channels,
-            handing,
-            counts,
-        })
+        Components::with(alloc, chip, kind, rooms, channels)
     }
 
     /// The number of components: those that take a turn.
@@ -301,6 +289,32 @@ impl Components {
             cycle,
             steps,
         );
+    }
+
+    // The components of a chip with these channels.
+    fn with(
+        alloc: Global,
+        chip: &Chip,
+        kind: RouterKind,
+        rooms: &[u32],
+        channels: Channels,
+    ) -> Result<Components, NoMemory>
+        requires rooms { length rooms.now ≡ queues_of_interface * length chip.now.nis }
+        requires lanes { All (IsLane (length channels.words) (part_count chip.now)) channels.lanes }
+        ensures { IfOk result (λ made. made
+            ≡ first_components chip.now kind rooms.now channels.lanes channels.words) }
+    {
+        let _ = chip.slots();
+        let parts = parts_of(alloc, chip, kind, rooms)?;
+        let beside = Beside::of(alloc, chip, kind, &channels)?;
+        Ok(Components {
+            parts,
+            wires: beside.wires,
+            turns: beside.turns,
+            channels,
+            handing: beside.handing,
+            counts: beside.counts,
+        })
     }
 
     // One cycle, with a counter of its own.

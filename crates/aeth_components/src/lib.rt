@@ -1,6 +1,7 @@
 //! The components of a network, the sessions of its channels, and what one cycle makes of them.
 #![tactic(auto)]
 
+mod beside;
 mod channels;
 mod components;
 mod counting;
@@ -15,6 +16,7 @@ mod landing;
 mod lane;
 pub mod laws;
 mod making;
+mod noted;
 mod parts;
 mod phases;
 mod queues;

@@ -48,9 +48,14 @@ fn has_its_links(chip: &Chip) -> bool {
         && chip.incoming(RouterId(2)).is_empty()
 }
 
+// The first wrong port of a chip, and whether its second router has its links.
+fn ports_of(chip: &Chip) -> (Option<(u32, u8)>, bool) {
+    (wrong_exit(chip), has_its_links(chip))
+}
+
 fn ports_of_pair(alloc: Global) -> Option<(Option<(u32, u8)>, bool)> {
     let chip = pair(alloc)?;
-    Some((wrong_exit(&chip), has_its_links(&chip)))
+    Some(ports_of(&chip))
 }
 
 #[test]
@@ -93,9 +98,14 @@ fn wrong_wire(chip: &Chip) -> Option<(u32, u32)> {
     None
 }
 
+// How many wires a chip has, and the first wrong one.
+fn wires_of(chip: &Chip) -> (u32, Option<(u32, u32)>) {
+    (chip.wires(), wrong_wire(chip))
+}
+
 fn wires_of_pair(alloc: Global) -> Option<(u32, Option<(u32, u32)>)> {
     let chip = pair(alloc)?;
-    Some((chip.wires(), wrong_wire(&chip)))
+    Some(wires_of(&chip))
 }
 
 #[test]

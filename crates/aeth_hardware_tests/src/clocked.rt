@@ -43,8 +43,15 @@ fn exchanged(wires: &mut Wires, order: &Order) -> [Option<Flit>; 3]
 // The same where the stage with this number has the first turn.
 fn exchanged_by(alloc: Global, turn: u32) -> Result<[Option<Flit>; 3], NoMemory> {
     let order = Order::rotation(alloc, 2, turn)?;
+    exchanged_in(alloc, &order)
+}
+
+// The same in this order.
+fn exchanged_in(alloc: Global, order: &Order) -> Result<[Option<Flit>; 3], NoMemory>
+    requires { length order.now ≡ 2 }
+{
     let mut wires = Wires::new(alloc, 3)?;
-    Ok(exchanged(&mut wires, &order))
+    Ok(exchanged(&mut wires, order))
 }
 
 // Two stages in a ring exchange what they hold in each cycle, whoever comes first, and leave

@@ -1,6 +1,6 @@
 // Least numbers of links, between interfaces and from routers on, which were counted by hand.
 use aeth_base::{NiId, RouterId};
-use aeth_chip::{Distances, Summary, read_chip};
+use aeth_chip::{Distances, read_chip};
 use std::alloc::Global;
 
 /// Two routers that send to each other, with an interface at each.

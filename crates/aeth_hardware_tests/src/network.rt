@@ -205,13 +205,18 @@ fn landed_on(alloc: Global, chip: &Chip, by_table: bool) -> Option<[u32; 5]>
     carried(alloc, chip, &mut pair, by_table)
 }
 
-fn landed(alloc: Global, by_table: bool) -> Option<[u32; 5]> {
-    let chip = read_chip(alloc, PAIR.as_bytes()).ok()?;
+// The same on a chip that may be another.
+fn landed_there(alloc: Global, chip: &Chip, by_table: bool) -> Option<[u32; 5]> {
     if chip.nis() == 2 && chip.routers() == 2 && chip.slots() == 8 {
-        landed_on(alloc, &chip, by_table)
+        landed_on(alloc, chip, by_table)
     } else {
         None
     }
+}
+
+fn landed(alloc: Global, by_table: bool) -> Option<[u32; 5]> {
+    let chip = read_chip(alloc, PAIR.as_bytes()).ok()?;
+    landed_there(alloc, &chip, by_table)
 }
 
 // Flits leave in cycles 4, 8 and 12, and land 3 cycles later. The first with its two words is lost: it doesn't

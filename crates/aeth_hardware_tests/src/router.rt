@@ -1,7 +1,8 @@
 // What no clause says: that the definitions of routers and stages mean the rules.
-ghost use Rattle.std.specs.Prelude.{IfOk, IfSome};
+ghost use Rattle.std.specs.Prelude.{◌≡◌, IfOk, IfSome, length};
 ghost use Rattle.aeth_chip.specs.Wires.{wires_of};
 ghost use Rattle.aeth_clocked.specs.Wires.{AreLinks};
+ghost use Rattle.aeth_router.specs.Part.{outputs_of};
 ghost use Rattle.aeth_router.specs.Router.{router_inputs, router_outputs};
 
 use aeth_base::{LinkId, NoMemory, RouterId};
@@ -52,8 +53,16 @@ fn router_of(alloc: Global, text: &str, number: u32, wires: u32) -> Option<Route
     ensures outputs { IfSome result (λ router. AreLinks (router_outputs router) wires) }
 {
     let chip = read_chip(alloc, text.as_bytes()).ok()?;
+    router_with(alloc, &chip, number, wires)
+}
+
+// The same of this chip.
+fn router_with(alloc: Global, chip: &Chip, number: u32, wires: u32) -> Option<Router>
+    ensures inputs { IfSome result (λ router. AreLinks (router_inputs router) wires) }
+    ensures outputs { IfSome result (λ router. AreLinks (router_outputs router) wires) }
+{
     if chip.wires() == wires {
-        router_in(alloc, &chip, number).ok()
+        router_in(alloc, chip, number).ok()
     } else {
         None
     }
@@ -62,29 +71,79 @@ fn router_of(alloc: Global, text: &str, number: u32, wires: u32) -> Option<Route
 // What the router `r0` of `PAIR` drives on links 1 and 4 when it has latched these flits from
 // links 0 and 5.
 fn driven(alloc: Global, latched: &[Option<Flit>; 2]) -> Option<[Option<Flit>; 2]> {
-    let mut router = router_of(alloc, PAIR, 0, 6)?;
-    let Ok(mut wires) = Wires::new(alloc, 6) else {
-        return None;
-    };
+    let mut wires = Wires::new(alloc, 6).ok()?;
+    driven_on(alloc, &mut wires, latched)
+}
+
+// The same on these wires.
+fn driven_on(
+    alloc: Global,
+    wires: &mut Wires,
+    latched: &[Option<Flit>; 2],
+) -> Option<[Option<Flit>; 2]>
+    requires { length wires.old ≡ 6 }
+{
     wires.put(LinkId(0), latched[0]);
     wires.put(LinkId(5), latched[1]);
-    router.latch(&wires);
-    router.drive(0, &mut wires);
+    turn(alloc, PAIR, 0, 0, wires, 6)?;
     Some([wires.get(LinkId(1)), wires.get(LinkId(4))])
 }
 
-// What it passes on to links 1 and 4 when these flits come from links 0 and 5, one after the other.
+// A fresh router of a chip latches the chip's wires, so many, and drives in a cycle.
+fn turn(
+    alloc: Global,
+    text: &str,
+    number: u32,
+    cycle: u64,
+    wires: &mut Wires,
+    count: u32,
+) -> Option<()>
+    requires { length wires.old ≡ count }
+    ensures { length wires.new ≡ count }
+{
+    let mut router = router_of(alloc, text, number, count)?;
+    router.latch(wires);
+    router.drive(cycle, wires);
+    Some(())
+}
+
+// What the router `r0` of `PAIR` passes on to links 1 and 4 when these flits come from links 0 and 5,
+// one after the other.
 fn passed(alloc: Global, latched: &[Option<Flit>; 2]) -> Option<[Option<Flit>; 2]> {
+    let mut onward = Onward::new(alloc, 6).ok()?;
+    pass_on(alloc, latched, &mut onward)?;
+    settled(alloc, &mut onward)
+}
+
+// What comes to the wires is what it passes on.
+fn pass_on(alloc: Global, latched: &[Option<Flit>; 2], onward: &mut Onward) -> Option<()>
+    requires { length onward.old ≡ 6 }
+    ensures { length onward.new ≡ 6 }
+{
     let part = Part::Router(router_of(alloc, PAIR, 0, 6)?);
-    let (Ok(mut onward), Ok(mut wires)) = (Onward::new(alloc, 6), Wires::new(alloc, 6)) else {
-        return None;
-    };
+    pass_both(&part, latched, onward);
+    Some(())
+}
+
+// A component passes on these flits from links 0 and 5.
+fn pass_both(part: &Part, latched: &[Option<Flit>; 2], onward: &mut Onward)
+    requires links { AreLinks (outputs_of part.now) 6 }
+    requires size { length onward.old ≡ 6 }
+    ensures { length onward.new ≡ 6 }
+{
     if let Some(flit) = latched[0] {
-        part.pass(0, LinkId(0), flit, &mut onward);
+        part.pass(0, LinkId(0), flit, onward);
     }
     if let Some(flit) = latched[1] {
-        part.pass(0, LinkId(5), flit, &mut onward);
+        part.pass(0, LinkId(5), flit, onward);
     }
+}
+
+// What links 1 and 4 carry of what has come to six wires.
+pub(crate) fn settled(alloc: Global, onward: &mut Onward) -> Option<[Option<Flit>; 2]>
+    requires { length onward.old ≡ 6 }
+{
+    let mut wires = Wires::new(alloc, 6).ok()?;
     onward.settle(&mut wires);
     Some([wires.get(LinkId(1)), wires.get(LinkId(4))])
 }
@@ -92,22 +151,23 @@ fn passed(alloc: Global, latched: &[Option<Flit>; 2]) -> Option<[Option<Flit>; 2
 // What `PAIR_WITH_DELAY` carries on links 4, 6 and 3, in a cycle each, when `r0` has latched this
 // flit from link 0: it leaves `r0`, the stage behind link 4, and `r1`.
 fn crossing(alloc: Global, latched: Option<Flit>) -> Option<[Option<Flit>; 3]> {
-    let mut first = router_of(alloc, PAIR_WITH_DELAY, 0, 7)?;
-    let mut stage = Stage::new(LinkId(4), LinkId(6));
-    let mut second = router_of(alloc, PAIR_WITH_DELAY, 1, 7)?;
-    let Ok(mut wires) = Wires::new(alloc, 7) else {
-        return None;
-    };
+    let mut wires = Wires::new(alloc, 7).ok()?;
+    crossing_on(alloc, &mut wires, latched)
+}
+
+// The same on these wires.
+fn crossing_on(alloc: Global, wires: &mut Wires, latched: Option<Flit>) -> Option<[Option<Flit>; 3]>
+    requires { length wires.old ≡ 7 }
+{
     wires.put(LinkId(0), latched);
-    first.latch(&wires);
-    first.drive(1, &mut wires);
+    turn(alloc, PAIR_WITH_DELAY, 0, 1, wires, 7)?;
     let entered = wires.get(LinkId(4));
-    stage.latch(&wires);
+    let mut stage = Stage::new(LinkId(4), LinkId(6));
+    stage.latch(wires);
     wires.put(LinkId(4), None);
-    stage.drive(2, &mut wires);
+    stage.drive(2, wires);
     let reached = wires.get(LinkId(6));
-    second.latch(&wires);
-    second.drive(3, &mut wires);
+    turn(alloc, PAIR_WITH_DELAY, 1, 3, wires, 7)?;
     Some([entered, reached, wires.get(LinkId(3))])
 }
 
@@ -153,14 +213,21 @@ fn a_flit_crosses_a_link_with_a_delay(rt: HostRuntime) {
 
 // What a stage from wire 0 to wire 1 drives in two cycles when it has latched this flit.
 fn passed_on(alloc: Global, latched: Option<Flit>) -> Result<[Option<Flit>; 2], NoMemory> {
-    let mut stage = Stage::new(LinkId(0), LinkId(1));
     let mut wires = Wires::new(alloc, 2)?;
+    Ok(staged(&mut wires, latched))
+}
+
+// The same on these wires.
+fn staged(wires: &mut Wires, latched: Option<Flit>) -> [Option<Flit>; 2]
+    requires { length wires.old ≡ 2 }
+{
+    let mut stage = Stage::new(LinkId(0), LinkId(1));
     wires.put(LinkId(0), latched);
-    stage.latch(&wires);
-    stage.drive(0, &mut wires);
+    stage.latch(wires);
+    stage.drive(0, wires);
     let first = wires.get(LinkId(1));
-    stage.drive(1, &mut wires);
-    Ok([first, wires.get(LinkId(1))])
+    stage.drive(1, wires);
+    [first, wires.get(LinkId(1))]
 }
 
 // A stage drives a flit in the next cycle, unchanged, and in that cycle alone.

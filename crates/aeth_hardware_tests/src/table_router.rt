@@ -1,9 +1,10 @@
 // What no clause says: that the definitions of routers with tables mean the rules.
-ghost use Rattle.std.specs.Prelude.{◌≡◌, IfOk, IfSome};
+ghost use Rattle.std.specs.Prelude.{◌≡◌, ◌<◌, ◌^◌, IfOk, IfSome, length};
 ghost use Rattle.aeth_chip.specs.Wires.{wires_of};
 ghost use Rattle.aeth_clocked.specs.Wires.{AreLinks};
 ghost use Rattle.aeth_router.specs.TableRouter.{table_inputs, table_outputs};
 
+use crate::router::settled;
 use aeth_base::{LinkId, NoMemory, RouterId};
 use aeth_chip::{Chip, read_chip};
 use aeth_clocked::{Clocked, Flit, Wires};
@@ -109,42 +110,97 @@ fn router_of(alloc: Global, number: u32) -> Option<TableRouter>
 // What the pair carries when its routers latch these flits from links 0 and 2 in a cycle: on links
 // 4 and 5 in the next, and on links 3 and 1 in the one behind it.
 fn crossing(alloc: Global, cycle: u32, sent: &[Option<Flit>; 2]) -> Option<[Option<Flit>; 4]> {
-    let mut first = router_of(alloc, 0)?;
-    let mut second = router_of(alloc, 1)?;
-    let Ok(mut wires) = Wires::new(alloc, WIRES) else {
-        return None;
-    };
+    let mut wires = Wires::new(alloc, WIRES).ok()?;
     wires.put(LinkId(0), sent[0]);
     wires.put(LinkId(2), sent[1]);
-    first.latch(&wires);
-    second.latch(&wires);
+    crossing_on(alloc, cycle as u64, &mut wires)
+}
+
+// The same of what is on these wires.
+fn crossing_on(alloc: Global, cycle: u64, wires: &mut Wires) -> Option<[Option<Flit>; 4]>
+    requires wires { length wires.old ≡ WIRES }
+    requires cycle { cycle < 2 ^ 32 }
+{
+    let mut first = router_of(alloc, 0)?;
+    crossing_from(alloc, cycle, &mut first, wires)
+}
+
+// The same by way of this router, the first.
+fn crossing_from(
+    alloc: Global,
+    cycle: u64,
+    first: &mut TableRouter,
+    wires: &mut Wires,
+) -> Option<[Option<Flit>; 4]>
+    requires inputs { AreLinks (table_inputs first.old) WIRES }
+    requires outputs { AreLinks (table_outputs first.old) WIRES }
+    requires wires { length wires.old ≡ WIRES }
+    requires cycle { cycle < 2 ^ 32 }
+{
+    let mut second = router_of(alloc, 1)?;
+    Some(crossed(cycle, first, &mut second, wires))
+}
+
+// The same by way of both routers.
+fn crossed(
+    cycle: u64,
+    first: &mut TableRouter,
+    second: &mut TableRouter,
+    wires: &mut Wires,
+) -> [Option<Flit>; 4]
+    requires first_inputs { AreLinks (table_inputs first.old) WIRES }
+    requires first_outputs { AreLinks (table_outputs first.old) WIRES }
+    requires second_inputs { AreLinks (table_inputs second.old) WIRES }
+    requires second_outputs { AreLinks (table_outputs second.old) WIRES }
+    requires wires { length wires.old ≡ WIRES }
+    requires cycle { cycle < 2 ^ 32 }
+{
+    first.latch(wires);
+    second.latch(wires);
     wires.put(LinkId(0), None);
     wires.put(LinkId(2), None);
-    first.drive(cycle as u64 + 1, &mut wires);
-    second.drive(cycle as u64 + 1, &mut wires);
+    first.drive(cycle + 1, wires);
+    second.drive(cycle + 1, wires);
     let between = [wires.get(LinkId(4)), wires.get(LinkId(5))];
-    first.latch(&wires);
-    second.latch(&wires);
-    first.drive(cycle as u64 + 2, &mut wires);
-    second.drive(cycle as u64 + 2, &mut wires);
-    Some([
+    first.latch(wires);
+    second.latch(wires);
+    first.drive(cycle + 2, wires);
+    second.drive(cycle + 2, wires);
+    [
         between[0],
         between[1],
         wires.get(LinkId(3)),
         wires.get(LinkId(1)),
-    ])
+    ]
 }
 
 // What the router `r0` passes on to links 1 and 4, in the cycle behind this one, of a flit from link 0.
 fn passed(alloc: Global, cycle: u32, sent: Option<Flit>) -> Option<[Option<Flit>; 2]> {
+    let mut onward = Onward::new(alloc, WIRES).ok()?;
+    passed_by(alloc, cycle, sent, &mut onward)
+}
+
+// The same by way of this.
+fn passed_by(
+    alloc: Global,
+    cycle: u32,
+    sent: Option<Flit>,
+    onward: &mut Onward,
+) -> Option<[Option<Flit>; 2]>
+    requires { length onward.old ≡ WIRES }
+{
+    pass_on(alloc, cycle.checked_add(1)?, sent?, onward)?;
+    settled(alloc, onward)
+}
+
+// What comes to the wires is what it passes on in a cycle.
+fn pass_on(alloc: Global, cycle: u32, sent: Flit, onward: &mut Onward) -> Option<()>
+    requires { length onward.old ≡ WIRES }
+    ensures { length onward.new ≡ WIRES }
+{
     let part = Part::TableRouter(router_of(alloc, 0)?);
-    let (Ok(mut onward), Ok(mut wires)) = (Onward::new(alloc, WIRES), Wires::new(alloc, WIRES))
-    else {
-        return None;
-    };
-    part.pass(cycle.checked_add(1)?, LinkId(0), sent?, &mut onward);
-    onward.settle(&mut wires);
-    Some([wires.get(LinkId(1)), wires.get(LinkId(4))])
+    part.pass(cycle, LinkId(0), sent, onward);
+    Some(())
 }
 
 // A cycle, what is latched in it from links 0 and 2, what is driven then on links 4, 5, 3 and 1,

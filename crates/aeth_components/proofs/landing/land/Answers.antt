@@ -1,4 +1,4 @@
-use Rattle.std.proofs.Common.{◌≡◌, ◌<◌, ◌+◌, ◌==◌, ◌++◌, ◌∙◌, ℕ, [], ap, ap₂, arith}
+use Rattle.std.proofs.Common.{◌≡◌, ◌<◌, ◌+◌, ◌==◌, ◌++◌, ◌^◌, ◌∙◌, ℕ, [], ap, ap₂, arith}
 use Rattle.std.proofs.Common.{drop, fold, get_or, length, length-set, map, refl, set, slice_get, Some}
 use Rattle.std.proofs.Common.{sym, take}
 use Rattle.std.proofs.lemmas.List.{length-map, length-replicate}
@@ -99,6 +99,43 @@ overflow_cast-wire g c =
 
 pub flit-flit-requires : goal.flit-flit-requires
 flit-flit-requires g c = (next g ((goal.at.flit-flit-requires g c).In-Some)).some
+
+-- There are as many components as the ends say.
+few : (g : given.Over) (c : In-Some g) → length c.args.parts.now < 2 ^ 32
+few g c = omega (arith, c.requires.ends.count ∙ length-map c.args.parts.now frame_of)
+
+pub offset_bounds-parts-number : goal.offset_bounds-parts-number
+offset_bounds-parts-number g c =
+    let some = (goal.at.offset_bounds-parts-number g c).In-Some in
+    omega (arith, within g some, few g some)
+
+pub bounds-parts-number : goal.bounds-parts-number
+bounds-parts-number g c =
+    rw c.loop-wire.auto.parts (within g ((goal.at.bounds-parts-number g c).In-Some))
+
+pub offset_bounds-parts-number-else-number-interfaces :
+    goal.offset_bounds-parts-number-else-number-interfaces
+offset_bounds-parts-number-else-number-interfaces g c =
+    let some = (goal.at.offset_bounds-parts-number-else-number-interfaces g c).In-Some in
+    omega (arith, within g some, few g some)
+
+pub count_at-requires-clause-number : goal.count_at-requires-clause-number
+count_at-requires-clause-number g c =
+    rw (
+      length-set c.loop-wire.parts (get_or c.deref-receivers.result.now c.in-Some.wire 0)
+          c.latch_one.new.part,
+      c.loop-wire.auto.parts,
+    )
+    (within g ((goal.at.count_at-requires-clause-number g c).In-Some))
+
+pub count_at-requires-clause-few : goal.count_at-requires-clause-few
+count_at-requires-clause-few g c =
+    rw (
+      length-set c.loop-wire.parts (get_or c.deref-receivers.result.now c.in-Some.wire 0)
+          c.latch_one.new.part,
+      c.loop-wire.auto.parts,
+    )
+    (few g ((goal.at.count_at-requires-clause-few g c).In-Some))
 
 -- The channels are as sound as they were.
 pub count_at-requires-clause-lanes : goal.count_at-requires-clause-lanes

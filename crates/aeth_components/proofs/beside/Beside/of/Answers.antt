@@ -1,0 +1,21 @@
+use Rattle.std.proofs.Common.{◌∙◌, None, Option, ap, length, replicate, sym, ℕ}
+use Rattle.aeth_clocked.specs.declared.flit.Flit.{Flit}
+use Rattle.aeth_components.proofs.beside.Beside.of.Goals as goal
+
+-- A number for each word and each link.
+pub returns-clause-landings : goal.returns-clause-landings
+returns-clause-landings c =
+    c.in_ok-counts.ensures.landings ∙ ap (λ (n : ℕ). replicate {A = ℕ} n 0) c.count_words.ensures
+
+pub returns-clause-flits : goal.returns-clause-flits
+returns-clause-flits c =
+    c.in_ok-counts.ensures.flits ∙ ap (λ (n : ℕ). replicate {A = ℕ} n 0) c.links.ensures.links
+
+-- A mark for each channel.
+pub returns-clause-handing : goal.returns-clause-handing
+returns-clause-handing c = λ parts.
+    c.in_ok-handing.ensures parts c.args.channels.now.lanes (sym (ap length c.lanes.ensures))
+
+pub returns-clause-wires : goal.returns-clause-wires
+returns-clause-wires c =
+    c.in_ok-wires.ensures ∙ ap (λ (n : ℕ). replicate {A = Option Flit} n None) c.wires.ensures.wires

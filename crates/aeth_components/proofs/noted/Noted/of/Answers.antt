@@ -1,0 +1,18 @@
+use Rattle.std.proofs.Common.{arith}
+use Rattle.aeth_components.proofs.noted.Noted.of.Goals as goal
+use Rattle.aeth_components.proofs.MarkLemmas.{AreMarked-all}
+
+-- All channels are marked, and no words are noted.
+pub returns : goal.returns
+returns c =
+    let lanes = c.args.lanes.now in
+    let few = c.requires in
+    record {
+      idle = AreMarked-all c.in_ok-busy.busy lanes
+          (let room = c.in_ok-busy.ensures.room in omega (arith, few, room))
+          c.in_ok-busy.ensures.marked;
+      takes = AreMarked-all c.in_ok-taking.taking lanes
+          (let room = c.in_ok-taking.ensures.room in omega (arith, few, room))
+          c.in_ok-taking.ensures.marked;
+      places = c.in_ok-homes.ensures;
+    }
