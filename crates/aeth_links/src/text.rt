@@ -3,6 +3,7 @@ ghost use Rattle.std.specs.Prelude.{◌≡◌, ◌≤◌, ◌<◌, ◌++◌, IfO
 ghost use Rattle.aeth_accepted.specs.Inputs.{run_of};
 ghost use Rattle.aeth_links.specs.Carried.{carried_rows, lines_of, log_text};
 ghost use Rattle.aeth_links.specs.Seen.{rows_at, rows_seen};
+ghost use Rattle.aeth_network.specs.Runs.{IsNetworkOf};
 
 use aeth_accepted::RunInputs;
 use aeth_audit::{LinkRow, push_row};
@@ -16,16 +17,46 @@ use std::alloc::Global;
 pub fn links_text(alloc: Global, inputs: &RunInputs) -> Result<Vec<u8>, NoMemory>
     ensures { IfOk result (λ text. text.items ≡ log_text (carried_rows (run_of inputs.now))) }
 {
-    aeth_running::laws::networks_run();
     let mut network = RoutedNetwork::new(alloc, inputs)?;
+    text_of(alloc, inputs, &mut network)
+}
+
+// The text that their network gives, of which no cycle is done.
+fn text_of(
+    alloc: Global,
+    inputs: &RunInputs,
+    network: &mut RoutedNetwork,
+) -> Result<Vec<u8>, NoMemory>
+    requires network { IsNetworkOf inputs.now network.old }
+    requires first { network.old.time ≡ 0 }
+    ensures { IfOk result (λ text. text.items ≡ log_text (carried_rows (run_of inputs.now))) }
+{
     let order = Order::rotation(alloc, network.parts(), 0)?;
-    let links = inputs.chip().links();
     let mut text = Vec::from_slice(alloc, b"cycle,link,header,first,second\n")?;
-    for cycle in 0..inputs.cycles() {
-        network.cycle(&order);
-        push_rows(&mut text, network.wires(), links, cycle)?;
-    }
+    push_cycles(&mut text, inputs, network, &order)?;
     Ok(text)
+}
+
+// Appends the lines of all cycles.
+fn push_cycles(
+    text: &mut Vec<u8>,
+    inputs: &RunInputs,
+    network: &mut RoutedNetwork,
+    order: &Order,
+) -> Result<(), NoMemory>
+    requires network { IsNetworkOf inputs.now network.old }
+    requires first { network.old.time ≡ 0 }
+    requires order { length order.now ≡ length network.old.components.parts }
+    ensures { OnOk result (text.new.items
+        ≡ text.old.items ++ lines_of (carried_rows (run_of inputs.now))) }
+{
+    aeth_running::laws::networks_run();
+    let links = inputs.chip().links();
+    for cycle in 0..inputs.cycles() {
+        network.cycle(order);
+        push_rows(text, network.wires(), links, cycle)?;
+    }
+    Ok(())
 }
 
 // Appends the lines of what so many links carry in a cycle, by the wires of these numbers.
