@@ -2,7 +2,6 @@ pub mod AppFileLemmas
 pub mod AppLemmas
 mod DemandLemmas
 mod EndLemmas
-mod NameLemmas
 pub mod NeedLemmas
 pub mod OwnNames
 mod PartLemmas

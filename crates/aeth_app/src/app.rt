@@ -14,8 +14,7 @@ use crate::connection::{Connection, Core, Price, Wish};
 use crate::ends::{Positions, positions_at};
 use crate::rates::need_of;
 use crate::use_case::UseCase;
-use aeth_base::{Channel, ConnId, CoreId, Name, Side, UseId};
-use indexmap::IndexSet;
+use aeth_base::{Channel, ConnId, CoreId, Name, Names, Side, UseId};
 use std::marker::Model;
 
 /// The most cores of an application.
@@ -41,10 +40,10 @@ pub const SEATS_PER_NI: u32 = 4;
 
 /// The names of an application's cores, connections and use cases, in file order.
 #[derive(Drop)]
-pub(crate) struct Names {
-    pub cores: IndexSet<Name>,
-    pub connections: IndexSet<Name>,
-    pub uses: IndexSet<Name>,
+pub(crate) struct PartNames {
+    pub cores: Names,
+    pub connections: Names,
+    pub uses: Names,
 }
 
 /// What an application says beside its parts.
@@ -70,7 +69,7 @@ pub(crate) struct Parts {
 pub struct App {
     settings: Settings,
     parts: Parts,
-    names: Names,
+    names: PartNames,
     positions: Vec<Positions>,
 }
 
@@ -85,7 +84,7 @@ impl Model for App {
     ghost view = { λ app. app_with app.settings app.parts };
 
     ghost invariant = { λ app. IsApp (app_with app.settings app.parts)
-        × AreNames app.names.cores.keys app.names.connections.keys app.names.uses.keys
+        × AreNames app.names.cores app.names.connections app.names.uses
         app.parts.cores.items app.parts.connections.items app.parts.uses.items
         × ArePositions app.parts.connections.items app.positions.items };
 }
@@ -94,11 +93,11 @@ impl App {
     pub(crate) fn new(
         settings: Settings,
         parts: Parts,
-        names: Names,
+        names: PartNames,
         positions: Vec<Positions>,
     ) -> App
         requires app { IsApp (app_with settings parts) }
-        requires names { AreNames names.cores.keys names.connections.keys names.uses.keys
+        requires names { AreNames names.cores names.connections names.uses
             parts.cores.items parts.connections.items parts.uses.items }
         requires positions { ArePositions parts.connections.items positions.items }
         ensures { result ≡ app_with settings parts }
@@ -268,11 +267,11 @@ impl App {
     }
 }
 
-fn place_in(names: &IndexSet<Name>, name: &Name) -> Option<u32>
-    requires { length names.now.keys < 2 ^ 32 }
-    ensures { result ≡ position (bytes_eq name.now) names.now.keys }
+fn place_in(names: &Names, name: &Name) -> Option<u32>
+    requires { length names.now < 2 ^ 32 }
+    ensures { result ≡ position (bytes_eq name.now) names.now }
 {
-    match names.get_index_of(name) {
+    match names.place(name) {
         Some(place) => Some(place as u32),
         None => None,
     }

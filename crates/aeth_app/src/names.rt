@@ -1,22 +1,18 @@
 // The names of an application file's cores, connections and use cases.
 ghost use Rattle.std.specs.Prelude.{◌≡◌, codes, option_map, true, All, IfOk};
-ghost use Rattle.std.specs.List.{IsDistinct};
-ghost use Rattle.std.specs.Str.{bytes_eq};
 ghost use Rattle.aeth_base.specs.Name.{is_name};
 ghost use Rattle.aeth_app.specs.Parts.{ni_of};
 ghost use Rattle.aeth_app.specs.Ranges.{IsInRange, IsNamed};
-ghost use Rattle.aeth_app.specs.Repeats.{HasDistinctNames};
 ghost use Rattle.aeth_app.specs.Names.{AreNamesOf};
 ghost use Rattle.aeth_app.specs.Tables.{names_in};
 ghost use Rattle.aeth_document.specs.Arrays.{tables_in};
 ghost use Rattle.aeth_document.specs.Values.{text_at};
 ghost use Rattle.toml.specs.View.{table_view};
 
-use crate::app::Names;
-use aeth_base::{Name, NiId, NoMemory};
+use crate::app::PartNames;
+use aeth_base::{Name, Names, NiId, NoMemory};
 use aeth_chip::Chip;
 use aeth_document::{Tables, tables_at, text_at};
-use indexmap::IndexSet;
 use std::alloc::Global;
 use toml::Table;
 
@@ -28,26 +24,33 @@ pub(crate) fn name_at(table: &Table) -> Name
     Name::new(text_at(table, "name").as_bytes()).unwrap()
 }
 
-// The names of the tables, which are distinct, as a set.
-fn names_in(alloc: Global, tables: Tables<'_>) -> Result<IndexSet<Name>, NoMemory>
-    requires named { All IsNamed (tables_in tables) }
-    requires apart { IsDistinct bytes_eq (names_in (tables_in tables)) }
-    ensures { IfOk result (λ names. names.keys ≡ names_in (tables_in tables.entry)) }
+// The names of the tables, as a list.
+fn list_of(alloc: Global, tables: Tables<'_>) -> Result<Vec<Name>, NoMemory>
+    requires { All IsNamed (tables_in tables) }
+    ensures { IfOk result (λ list. list.items ≡ names_in (tables_in tables.entry)) }
 {
-    let mut names = IndexSet::new(alloc);
+    let mut list = Vec::new(alloc);
     for table in tables {
-        names.insert_full(name_at(table))?;
+        list.push(name_at(table))?;
     }
-    Ok(names)
+    Ok(list)
 }
 
-/// The names of a file, each of which stands once in its list.
-pub(crate) fn names_of(alloc: Global, root: &Table) -> Result<Names, NoMemory>
-    requires range { IsInRange (table_view root.now) }
-    requires apart { HasDistinctNames (table_view root.now) }
+// The names of the tables.
+fn names_in(alloc: Global, tables: Tables<'_>) -> Result<Names, NoMemory>
+    requires { All IsNamed (tables_in tables) }
+    ensures { IfOk result (λ names. names ≡ names_in (tables_in tables.entry)) }
+{
+    let list = list_of(alloc, tables)?;
+    Names::of(alloc, list)
+}
+
+/// The names of a file.
+pub(crate) fn names_of(alloc: Global, root: &Table) -> Result<PartNames, NoMemory>
+    requires { IsInRange (table_view root.now) }
     ensures { IfOk result (AreNamesOf (table_view root.now)) }
 {
-    Ok(Names {
+    Ok(PartNames {
         cores: names_in(alloc, tables_at(root, "core"))?,
         connections: names_in(alloc, tables_at(root, "connection"))?,
         uses: names_in(alloc, tables_at(root, "use"))?,

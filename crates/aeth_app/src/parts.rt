@@ -9,15 +9,14 @@ ghost use Rattle.aeth_document.specs.Arrays.{tables_in, texts_in};
 ghost use Rattle.aeth_document.specs.Values.{text_at};
 ghost use Rattle.toml.specs.View.{table_view};
 
-use crate::app::Names;
+use crate::app::PartNames;
 use crate::connection::{Connection, Core, Price, Wish};
 use crate::names::{name_at, ni_of};
 use crate::ranges::wish_numbers;
 use crate::use_case::UseCase;
-use aeth_base::{CoreId, Name, NoMemory};
+use aeth_base::{CoreId, Names, NoMemory};
 use aeth_chip::Chip;
 use aeth_document::{Tables, Texts, place_of, size, text_at, text_if, texts_at};
-use indexmap::IndexSet;
 use std::alloc::Global;
 use toml::Table;
 
@@ -54,9 +53,9 @@ fn wish_in(connection: &Table, side: &str) -> Wish
     }
 }
 
-fn end_of(cores: &IndexSet<Name>, text: &str) -> CoreId
-    requires { length cores.now.keys < 2 ^ 32 }
-    ensures { result ≡ end_of cores.now.keys text.now }
+fn end_of(cores: &Names, text: &str) -> CoreId
+    requires { length cores.now < 2 ^ 32 }
+    ensures { result ≡ end_of cores.now text.now }
 {
     CoreId(place_of(cores, text).unwrap_or(0))
 }
@@ -64,14 +63,14 @@ fn end_of(cores: &IndexSet<Name>, text: &str) -> CoreId
 /// The connections of the tables, between cores of these names.
 pub(crate) fn connections_of(
     alloc: Global,
-    cores: &IndexSet<Name>,
+    cores: &Names,
     tables: Tables<'_>,
 ) -> Result<Vec<Connection>, NoMemory>
-    requires cores { length cores.now.keys < 2 ^ 32 }
+    requires cores { length cores.now < 2 ^ 32 }
     requires named { All IsNamed (tables_in tables) }
     requires wishes { All IsConnectionInRange (tables_in tables) }
     ensures { IfOk result (λ connections. connections.items
-        ≡ map (connection_of cores.now.keys) (tables_in tables.entry)) }
+        ≡ map (connection_of cores.now) (tables_in tables.entry)) }
 {
     let mut connections = Vec::new(alloc);
     for table in tables {
@@ -87,11 +86,11 @@ pub(crate) fn connections_of(
 }
 
 // Sets the mark of the name that a text is, if it is one.
-fn mark(marks: &mut Vec<bool>, names: &IndexSet<Name>, text: &str)
-    requires few { length names.now.keys < 2 ^ 32 }
-    requires size { length marks.old.items ≡ length names.now.keys }
-    ensures { (texts : List (List ℕ)) → marks.old.items ≡ named_marks names.now.keys texts
-        → marks.new.items ≡ named_marks names.now.keys (texts ++ text.now ∷ []) }
+fn mark(marks: &mut Vec<bool>, names: &Names, text: &str)
+    requires few { length names.now < 2 ^ 32 }
+    requires size { length marks.old.items ≡ length names.now }
+    ensures { (texts : List (List ℕ)) → marks.old.items ≡ named_marks names.now texts
+        → marks.new.items ≡ named_marks names.now (texts ++ text.now ∷ []) }
 {
     if let Some(place) = place_of(names, text) {
         marks[place as usize] = true;
@@ -99,14 +98,10 @@ fn mark(marks: &mut Vec<bool>, names: &IndexSet<Name>, text: &str)
 }
 
 // For each of the names whether it is among the texts.
-fn named_marks(
-    alloc: Global,
-    names: &IndexSet<Name>,
-    texts: Texts<'_>,
-) -> Result<Vec<bool>, NoMemory>
-    requires { length names.now.keys < 2 ^ 32 }
+fn named_marks(alloc: Global, names: &Names, texts: Texts<'_>) -> Result<Vec<bool>, NoMemory>
+    requires { length names.now < 2 ^ 32 }
     ensures { IfOk result (λ marks. marks.items
-        ≡ named_marks names.now.keys (texts_in texts.entry)) }
+        ≡ named_marks names.now (texts_in texts.entry)) }
 {
     let mut marks = vec![in alloc; false; names.len()]?;
     for text in texts {
@@ -118,14 +113,14 @@ fn named_marks(
 /// The use cases of the tables, with connections and use cases of these names.
 pub(crate) fn uses_of(
     alloc: Global,
-    names: &Names,
+    names: &PartNames,
     tables: Tables<'_>,
 ) -> Result<Vec<UseCase>, NoMemory>
-    requires connections { length names.now.connections.keys < 2 ^ 32 }
-    requires uses { length names.now.uses.keys < 2 ^ 32 }
+    requires connections { length names.now.connections < 2 ^ 32 }
+    requires uses { length names.now.uses < 2 ^ 32 }
     requires named { All IsNamed (tables_in tables) }
     ensures { IfOk result (λ uses. uses.items
-        ≡ map (use_of names.now.connections.keys names.now.uses.keys) (tables_in tables.entry)) }
+        ≡ map (use_of names.now.connections names.now.uses) (tables_in tables.entry)) }
 {
     let mut uses = Vec::new(alloc);
     for table in tables {

@@ -13,7 +13,7 @@ ghost use Rattle.aeth_app.specs.Repeats.{HasDistinctNames};
 ghost use Rattle.aeth_app.specs.Unknown.{unknown_name};
 ghost use Rattle.toml.specs.View.{table_view};
 
-use crate::app::{App, Names, Parts, Settings};
+use crate::app::{App, PartNames, Parts, Settings};
 use crate::demands::judge_demands;
 use crate::ends::positions_of;
 use crate::fault::AppFault;
@@ -35,7 +35,7 @@ fn told_parts(
     alloc: Global,
     chip: &Chip,
     root: &Table,
-    names: &Names,
+    names: &PartNames,
 ) -> Result<(Settings, Parts), NoMemory>
     requires names { AreNamesOf (table_view root.now) names.now }
     requires range { IsInRange (table_view root.now) }
@@ -61,7 +61,7 @@ fn judged_parts(
     alloc: Global,
     chip: &Chip,
     root: &Table,
-    names: &Names,
+    names: &PartNames,
 ) -> Result<(Settings, Parts), AppFault>
     requires names { AreNamesOf (table_view root.now) names.now }
     requires range { IsInRange (table_view root.now) }
@@ -81,7 +81,7 @@ fn judged_parts(
 
 // The application of tables in which all names are known, or the first rule on what it asks
 // for that it breaks.
-fn told_app(alloc: Global, chip: &Chip, root: &Table, names: Names) -> Result<App, AppFault>
+fn told_app(alloc: Global, chip: &Chip, root: &Table, names: PartNames) -> Result<App, AppFault>
     requires names { AreNamesOf (table_view root.now) names }
     requires range { IsInRange (table_view root.now) }
     requires apart { HasDistinctNames (table_view root.now) }

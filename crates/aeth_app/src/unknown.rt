@@ -8,12 +8,11 @@ ghost use Rattle.aeth_document.specs.Values.{text_if, texts_at};
 ghost use Rattle.aeth_document.specs.Walks.{walked};
 ghost use Rattle.toml.specs.View.{table_view};
 
-use crate::app::Names;
+use crate::app::PartNames;
 use crate::names::ni_of;
-use aeth_base::{Broken, Name, Shown, shown_text};
+use aeth_base::{Broken, Names, Shown, shown_text};
 use aeth_chip::Chip;
 use aeth_document::{Tables, Texts, Walk, place_of, tables_at, text_at, text_if, texts_at};
-use indexmap::IndexSet;
 use toml::Table;
 
 fn unknown_ni(chip: &Chip, text: &str) -> Option<Shown>
@@ -39,9 +38,9 @@ fn interfaces(walk: Walk, chip: &Chip, cores: Tables<'_>) -> Walk
     walk
 }
 
-fn unknown(names: &IndexSet<Name>, text: &str) -> Option<Shown>
-    requires { length names.now.keys < 2 ^ 32 }
-    ensures { result ≡ unknown names.now.keys text.now }
+fn unknown(names: &Names, text: &str) -> Option<Shown>
+    requires { length names.now < 2 ^ 32 }
+    ensures { result ≡ unknown names.now text.now }
 {
     match place_of(names, text) {
         Some(_) => None,
@@ -50,10 +49,10 @@ fn unknown(names: &IndexSet<Name>, text: &str) -> Option<Shown>
 }
 
 #[tactic(auto, unfolding(aeth_document::specs::Walks::walked))]
-fn ends(walk: Walk, names: &IndexSet<Name>, connections: Tables<'_>) -> Walk
-    requires { length names.now.keys < 2 ^ 32 }
+fn ends(walk: Walk, names: &Names, connections: Tables<'_>) -> Walk
+    requires { length names.now < 2 ^ 32 }
     ensures { result ≡ walked walk
-        (map (unknown names.now.keys) (flat_map ends_in (tables_in connections.entry))) }
+        (map (unknown names.now) (flat_map ends_in (tables_in connections.entry))) }
 {
     let mut walk = walk;
     for connection in connections {
@@ -66,9 +65,9 @@ fn ends(walk: Walk, names: &IndexSet<Name>, connections: Tables<'_>) -> Walk
 }
 
 #[tactic(auto, unfolding(aeth_document::specs::Walks::walked))]
-fn texts(walk: Walk, names: &IndexSet<Name>, texts: Texts<'_>) -> Walk
-    requires { length names.now.keys < 2 ^ 32 }
-    ensures { result ≡ walked walk (map (unknown names.now.keys) (texts_in texts.entry)) }
+fn texts(walk: Walk, names: &Names, texts: Texts<'_>) -> Walk
+    requires { length names.now < 2 ^ 32 }
+    ensures { result ≡ walked walk (map (unknown names.now) (texts_in texts.entry)) }
 {
     let mut walk = walk;
     for text in texts {
@@ -79,10 +78,10 @@ fn texts(walk: Walk, names: &IndexSet<Name>, texts: Texts<'_>) -> Walk
 
 // The texts at a key of the tables.
 #[tactic(auto, unfolding(aeth_document::specs::Walks::walked))]
-fn texts_of(walk: Walk, names: &IndexSet<Name>, tables: Tables<'_>, key: &str) -> Walk
-    requires { length names.now.keys < 2 ^ 32 }
+fn texts_of(walk: Walk, names: &Names, tables: Tables<'_>, key: &str) -> Walk
+    requires { length names.now < 2 ^ 32 }
     ensures { result ≡ walked walk
-        (map (unknown names.now.keys) (flat_map (texts_at key.now) (tables_in tables.entry))) }
+        (map (unknown names.now) (flat_map (texts_at key.now) (tables_in tables.entry))) }
 {
     let mut walk = walk;
     for table in tables {
@@ -92,7 +91,7 @@ fn texts_of(walk: Walk, names: &IndexSet<Name>, tables: Tables<'_>, key: &str) -
 }
 
 /// The first text of the file that should name something and names nothing.
-pub(crate) fn unknown_name(chip: &Chip, root: &Table, names: &Names) -> Option<Broken>
+pub(crate) fn unknown_name(chip: &Chip, root: &Table, names: &PartNames) -> Option<Broken>
     requires { AreNamesOf (table_view root.now) names.now }
     ensures { result ≡ unknown_name chip.now.nis (table_view root.now) }
 {

@@ -10,7 +10,7 @@ use Rattle.aeth_base.specs.Limits.{max_cycles}
 use Rattle.aeth_text.specs.Order.{Rises, RisesAfter}
 use Rattle.aeth_trace.specs.Fields.{number_to}
 use Rattle.aeth_trace.specs.Limits.{max_value}
-use Rattle.aeth_trace.specs.Records.{records_of}
+use Rattle.aeth_records.specs.Records.{records_of}
 use Rattle.aeth_trace.specs.Rules.{are_known, table_of}
 use Rattle.aeth_trace.proofs.KnownLemmas.{are_known-All}
 use Rattle.aeth_trace.proofs.ToldLemmas.{number_to-within, table-All}

@@ -18,7 +18,7 @@ use Rattle.aeth_document.specs.Chain.{◌>>=◌}
 use Rattle.aeth_text.specs.Order.{Rises}
 use Rattle.aeth_trace.specs.Fields.{number_to}
 use Rattle.aeth_trace.specs.Limits.{max_value}
-use Rattle.aeth_trace.specs.Records.{records_of}
+use Rattle.aeth_records.specs.Records.{records_of}
 use Rattle.aeth_trace.specs.Rules.{are_known, table_of}
 use Rattle.aeth_audit.specs.Fault.{out_of_order, too_many_rows}
 use Rattle.aeth_audit.specs.Limits.{link_columns, max_link_rows}

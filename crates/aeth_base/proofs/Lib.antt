@@ -9,6 +9,7 @@ pub mod MarkedLemmas
 mod MarkedMasks
 pub mod Members
 mod NameLemmas
+pub mod NamesLemmas
 mod NumberReading
 pub mod Numbers
 mod PathLemmas

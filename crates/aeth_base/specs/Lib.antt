@@ -5,6 +5,7 @@ pub mod Limits
 pub mod Marks
 pub mod Name
 pub mod NameBytes
+pub mod Names
 pub mod Number
 pub mod PathLinks
 pub mod Shown

@@ -1,16 +1,14 @@
 -- What holds of a chip file's numbers and names where its first rules are kept.
 use Rattle.std.proofs.Common.{◌≡◌, ◌≤◌, ◌++◌, ℕ, ℤ, pos, true, false, List, [], ◌∷◌, length}
 use Rattle.std.proofs.Common.{map, All, None, refl, inl, inr, arith}
-use Rattle.std.specs.Prelude.{codes, fold, Ok}
-use Rattle.std.specs.List.{AllByRecursion, IsDistinct, filter_map}
+use Rattle.std.specs.Prelude.{codes, Ok}
+use Rattle.std.specs.List.{AllByRecursion, IsDistinct}
 use Rattle.std.specs.Str.{bytes_eq}
 use Rattle.std.proofs.lemmas.Bool.{cases_Bool}
-use Rattle.std.proofs.lemmas.List.{append-nil}
 use Rattle.std.proofs.lemmas.List.Elements.{All-append, All-from_recursion}
 use Rattle.toml.specs.Data.{Members}
-use Rattle.indexmap.specs.IndexSet.{insert_key}
 use Rattle.aeth_base.specs.Limits.{max_link_delay, max_slots}
-use Rattle.aeth_base.specs.Name.{is_name, name_of}
+use Rattle.aeth_base.specs.Name.{is_name}
 use Rattle.aeth_chip.specs.ChipFile.{delays, end_fields, is_in_range, keys_fit, link_fields}
 use Rattle.aeth_chip.specs.ChipFile.{most_slots, names_differ, numbers, root_fields, wrong_keys}
 use Rattle.aeth_chip.specs.Limits.{max_links, max_nis, max_routers}
@@ -18,11 +16,10 @@ use Rattle.aeth_chip.specs.Told.{allows_delays, delay_at, link_tables, nis_of, r
 use Rattle.aeth_chip.specs.Told.{HasDelay, version_of}
 use Rattle.aeth_document.specs.Keys.{wrong_key}
 use Rattle.aeth_document.specs.Values.{integer_if}
-use Rattle.aeth_document.specs.Walks.{first_broken, next_place, no_name, outside, repeats, size_of}
+use Rattle.aeth_document.specs.Walks.{first_broken, next_place, no_name, outside, size_of}
 use Rattle.aeth_document.proofs.ChainLemmas.{judged-none}
 use Rattle.aeth_document.proofs.KeyLemmas.{absent}
-use Rattle.aeth_document.proofs.WalkLemmas.{distinct-from_walk, distinct_set, filter_map-name_of}
-use Rattle.aeth_document.proofs.WalkLemmas.{fewer_repeats, repeats-append}
+use Rattle.aeth_document.proofs.WalkLemmas.{distinct-from_walk}
 use Rattle.aeth_document.proofs.WalkLemmas.{first_broken-after, first_broken-before}
 use Rattle.aeth_document.proofs.WalkLemmas.{first_broken-none, first_broken-tail, names-from_walk}
 use Rattle.aeth_document.proofs.WalkLemmas.{outside-size, outside-within}
@@ -81,30 +78,6 @@ in_range root kept =
       nis = first_broken-after 1 1 (ns ++ rs) is names;
       delays = first_broken-after 1 1 (ns ++ rs ++ is) ds none;
     }
-
--- The set of the names is the list of the texts, where the rules of numbers and of names are kept.
-pub routers_set : (root : Members) → is_in_range root ≡ Ok tt → names_differ root ≡ Ok tt
-    → fold (insert_key bytes_eq) [] (filter_map name_of (routers_of root)) ≡ routers_of root
-unfolding names_differ
-routers_set root kept differ =
-    let none = judged-none 4 (codes "NameTwice") _ tt differ in
-    let apart = first_broken-before 0 (repeats [] (routers_of root))
-    (repeats ([] ++ routers_of root) (nis_of root))
-    (rw (repeats-append [] (routers_of root) (nis_of root)) at none) in
-    rw (filter_map-name_of 1 (routers_of root) (in_range root kept).routers)
-    (distinct_set 0 [] (routers_of root) apart)
-
-pub nis_set : (root : Members) → is_in_range root ≡ Ok tt → names_differ root ≡ Ok tt
-    → fold (insert_key bytes_eq) [] (filter_map name_of (nis_of root)) ≡ nis_of root
-unfolding names_differ
-nis_set root kept differ =
-    let none = judged-none 4 (codes "NameTwice") _ tt differ in
-    let behind = first_broken-after 0 0 (repeats [] (routers_of root))
-    (repeats ([] ++ routers_of root) (nis_of root))
-    (rw (repeats-append [] (routers_of root) (nis_of root)) at none) in
-    rw (filter_map-name_of 1 (nis_of root) (in_range root kept).nis)
-    (distinct_set 0 [] (nis_of root) (fewer_repeats 0 (routers_of root) [] (nis_of root)
-    (rw (append-nil (routers_of root)) behind)))
 
 -- The names of routers and interfaces, where the rules of numbers and of names are kept.
 pub names_are : (root : Members) → is_in_range root ≡ Ok tt

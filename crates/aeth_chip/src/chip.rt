@@ -13,8 +13,7 @@ ghost use Rattle.aeth_chip.specs.Wires.{further_wires, wires_of};
 
 use crate::index::Index;
 use crate::node::Link;
-use aeth_base::{LinkId, Name, NiId, RouterId};
-use indexmap::IndexSet;
+use aeth_base::{LinkId, Name, Names, NiId, RouterId};
 use std::marker::Model;
 
 /// The most slots of a slot table in a file of version 1.
@@ -40,8 +39,8 @@ pub const MAX_PORTS: u32 = 8;
 #[derive(Drop)]
 pub struct Chip {
     slots: u32,
-    routers: IndexSet<Name>,
-    nis: IndexSet<Name>,
+    routers: Names,
+    nis: Names,
     links: Vec<Link>,
     index: Index,
 }
@@ -55,38 +54,38 @@ impl Model for Chip {
 
     ghost view = { λ chip. record {
       slots = chip.slots;
-      routers = chip.routers.keys;
-      nis = chip.nis.keys;
+      routers = chip.routers;
+      nis = chip.nis;
       links = chip.links.items;
     } };
 
     ghost invariant = { λ chip. IsChip (record {
       slots = chip.slots;
-      routers = chip.routers.keys;
-      nis = chip.nis.keys;
+      routers = chip.routers;
+      nis = chip.nis;
       links = chip.links.items;
-    }) × IsIndex chip.links.items (length chip.routers.keys) (length chip.nis.keys) chip.index };
+    }) × IsIndex chip.links.items (length chip.routers) (length chip.nis) chip.index };
 }
 
 impl Chip {
     pub(crate) fn new(
         slots: u32,
-        routers: IndexSet<Name>,
-        nis: IndexSet<Name>,
+        routers: Names,
+        nis: Names,
         links: Vec<Link>,
         index: Index,
     ) -> Chip
         requires chip { IsChip (record {
           slots = slots;
-          routers = routers.keys;
-          nis = nis.keys;
+          routers = routers;
+          nis = nis;
           links = links.items;
         }) }
-        requires index { IsIndex links.items (length routers.keys) (length nis.keys) index }
+        requires index { IsIndex links.items (length routers) (length nis) index }
         ensures { result ≡ record {
           slots = slots;
-          routers = routers.keys;
-          nis = nis.keys;
+          routers = routers;
+          nis = nis;
           links = links.items;
         } }
     {
@@ -232,14 +231,14 @@ impl Chip {
         requires { ni.0 < length self.now.nis }
         ensures { slice_get self.now.nis ni.0 ≡ Some result }
     {
-        *self.nis.get_index(ni.0 as usize).unwrap()
+        self.nis.name(ni.0 as usize)
     }
 
     /// The network interface of this name.
     pub fn find_ni(&self, name: &Name) -> Option<NiId>
         ensures { option_map (λ ni. ni.0) result ≡ position (bytes_eq name.now) self.now.nis }
     {
-        match self.nis.get_index_of(name) {
+        match self.nis.place(name) {
             Some(place) => Some(NiId(place as u32)),
             None => None,
         }

@@ -10,17 +10,16 @@ ghost use Rattle.aeth_document.specs.Walks.{first_broken};
 ghost use Rattle.toml.specs.View.{table_view};
 
 use crate::node::{Link, Node};
-use aeth_base::{Broken, Name, NiId, NoMemory, RouterId};
+use aeth_base::{Broken, Names, NiId, NoMemory, RouterId};
 use aeth_document::{Shown, Tables, Walk, integer_if, place_of, shown_text, size, text_at};
-use indexmap::IndexSet;
 use std::alloc::Global;
 use toml::Table;
 
 /// The names of a file's routers and network interfaces, which are distinct.
 #[derive(Drop)]
-pub(crate) struct Names {
-    pub routers: IndexSet<Name>,
-    pub nis: IndexSet<Name>,
+pub(crate) struct NodeNames {
+    pub routers: Names,
+    pub nis: Names,
 }
 
 // A text of a file, and the node that it names.
@@ -56,10 +55,10 @@ fn told_delay(link: &Table, has_delays: bool) -> i64
 }
 
 #[tactic(auto, unfolding(crate::specs::Told::node_of))]
-fn node_of(names: &Names, text: &str) -> Option<Node>
-    requires routers { length names.now.routers.keys < 2 ^ 32 }
-    requires nis { length names.now.nis.keys < 2 ^ 32 }
-    ensures { result ≡ node_of names.now.routers.keys names.now.nis.keys text.now }
+fn node_of(names: &NodeNames, text: &str) -> Option<Node>
+    requires routers { length names.now.routers < 2 ^ 32 }
+    requires nis { length names.now.nis < 2 ^ 32 }
+    ensures { result ≡ node_of names.now.routers names.now.nis text.now }
 {
     match place_of(&names.routers, text) {
         Some(router) => Some(Node::Router(RouterId(router))),
@@ -81,10 +80,10 @@ fn known(node: Option<Node>) -> Node
 }
 
 // The ends before the first link: the empty text, and what it names.
-fn no_ends(names: &Names) -> NamedEnds<'static>
-    requires routers { length names.now.routers.keys < 2 ^ 32 }
-    requires nis { length names.now.nis.keys < 2 ^ 32 }
-    ensures { AreNamed names.now.routers.keys names.now.nis.keys result }
+fn no_ends(names: &NodeNames) -> NamedEnds<'static>
+    requires routers { length names.now.routers < 2 ^ 32 }
+    requires nis { length names.now.nis < 2 ^ 32 }
+    ensures { AreNamed names.now.routers names.now.nis result }
 {
     let end = NamedEnd {
         text: "",
@@ -94,12 +93,12 @@ fn no_ends(names: &Names) -> NamedEnds<'static>
 }
 
 // The node that a text names, as it was found for an end before where the text is the same.
-fn named_end<'a>(names: &Names, text: &'a str, before: NamedEnd<'a>) -> NamedEnd<'a>
-    requires routers { length names.now.routers.keys < 2 ^ 32 }
-    requires nis { length names.now.nis.keys < 2 ^ 32 }
-    requires before { IsNamed names.now.routers.keys names.now.nis.keys before }
+fn named_end<'a>(names: &NodeNames, text: &'a str, before: NamedEnd<'a>) -> NamedEnd<'a>
+    requires routers { length names.now.routers < 2 ^ 32 }
+    requires nis { length names.now.nis < 2 ^ 32 }
+    requires before { IsNamed names.now.routers names.now.nis before }
     ensures text { result.text.now ≡ text.now }
-    ensures node { IsNamed names.now.routers.keys names.now.nis.keys result }
+    ensures node { IsNamed names.now.routers names.now.nis result }
 {
     if text == before.text {
         return before;
@@ -112,13 +111,13 @@ fn named_end<'a>(names: &Names, text: &'a str, before: NamedEnd<'a>) -> NamedEnd
 
 // The ends of a table's link, after those of the link before: links often stand in pairs, one for
 // each way, so one begins where the one before ends, and ends where that begins.
-fn ends_in<'a>(names: &Names, table: &'a Table, before: NamedEnds<'a>) -> NamedEnds<'a>
-    requires routers { length names.now.routers.keys < 2 ^ 32 }
-    requires nis { length names.now.nis.keys < 2 ^ 32 }
-    requires before { AreNamed names.now.routers.keys names.now.nis.keys before }
+fn ends_in<'a>(names: &NodeNames, table: &'a Table, before: NamedEnds<'a>) -> NamedEnds<'a>
+    requires routers { length names.now.routers < 2 ^ 32 }
+    requires nis { length names.now.nis < 2 ^ 32 }
+    requires before { AreNamed names.now.routers names.now.nis before }
     ensures from { result.from.text.now ≡ text_at (codes "from") (table_view table.now) }
     ensures to { result.to.text.now ≡ text_at (codes "to") (table_view table.now) }
-    ensures named { AreNamed names.now.routers.keys names.now.nis.keys result }
+    ensures named { AreNamed names.now.routers names.now.nis result }
 {
     NamedEnds {
         from: named_end(names, text_at(table, "from"), before.to),
@@ -129,21 +128,21 @@ fn ends_in<'a>(names: &Names, table: &'a Table, before: NamedEnds<'a>) -> NamedE
 // The link of a table, after one with these ends; the first of its own ends that names no node; and
 // its ends.
 fn told_link<'a>(
-    names: &Names,
+    names: &NodeNames,
     table: &'a Table,
     before: NamedEnds<'a>,
     has_delays: bool,
 ) -> (Link, Option<Shown>, NamedEnds<'a>)
-    requires routers { length names.now.routers.keys < 2 ^ 32 }
-    requires nis { length names.now.nis.keys < 2 ^ 32 }
-    requires before { AreNamed names.now.routers.keys names.now.nis.keys before }
+    requires routers { length names.now.routers < 2 ^ 32 }
+    requires nis { length names.now.nis < 2 ^ 32 }
+    requires before { AreNamed names.now.routers names.now.nis before }
     requires delay { HasDelay (table_view table.now) }
     requires none { has_delays ≡ false → delay_at (table_view table.now) ≡ pos 1 }
     ensures link { result.0
-        ≡ link_of names.now.routers.keys names.now.nis.keys (table_view table.now) }
+        ≡ link_of names.now.routers names.now.nis (table_view table.now) }
     ensures unknown { result.1
-        ≡ unknown_end names.now.routers.keys names.now.nis.keys (table_view table.now) }
-    ensures ends { AreNamed names.now.routers.keys names.now.nis.keys result.2 }
+        ≡ unknown_end names.now.routers names.now.nis (table_view table.now) }
+    ensures ends { AreNamed names.now.routers names.now.nis result.2 }
 {
     let ends = ends_in(names, table, before);
     let unknown = if ends.from.node.is_none() {
@@ -166,19 +165,19 @@ fn told_link<'a>(
 #[tactic(auto, using(aeth_document::proofs::WalkLemmas::walk_laws), unfolding(aeth_document::specs::Walks::walked))]
 pub(crate) fn links_of(
     alloc: Global,
-    names: &Names,
+    names: &NodeNames,
     tables: Tables<'_>,
     has_delays: bool,
 ) -> Result<(Vec<Link>, Option<Broken>), NoMemory>
-    requires routers { length names.now.routers.keys < 2 ^ 32 }
-    requires nis { length names.now.nis.keys < 2 ^ 32 }
+    requires routers { length names.now.routers < 2 ^ 32 }
+    requires nis { length names.now.nis < 2 ^ 32 }
     requires delays { AllByRecursion HasDelay (tables_in tables) }
     requires none { has_delays ≡ false
         → AllByRecursion (λ link. delay_at link ≡ pos 1) (tables_in tables) }
     ensures links { IfOk result (λ told. told.0.items
-        ≡ map (link_of names.now.routers.keys names.now.nis.keys) (tables_in tables.entry)) }
+        ≡ map (link_of names.now.routers names.now.nis) (tables_in tables.entry)) }
     ensures unknown { IfOk result (λ told. told.1 ≡ first_broken 0
-        (map (unknown_end names.now.routers.keys names.now.nis.keys) (tables_in tables.entry))) }
+        (map (unknown_end names.now.routers names.now.nis) (tables_in tables.entry))) }
 {
     let mut links = Vec::new(alloc);
     let mut walk = Walk::from(0);

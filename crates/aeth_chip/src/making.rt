@@ -19,7 +19,7 @@ use crate::chip::Chip;
 use crate::fault::ChipFault;
 use crate::index::{Index, IndexedLinks, ends_and_wires};
 use crate::keys::{allows_delays, link_tables, nis_of, routers_of};
-use crate::links::{Names, links_of};
+use crate::links::{NodeNames, links_of};
 use crate::lists::{ListedLinks, listed_links};
 use crate::node::Link;
 use crate::ports::{crowded_routers, unjoined_nis};
@@ -29,29 +29,28 @@ use std::alloc::Global;
 use toml::Table;
 
 // The names of the routers and of the network interfaces.
-fn names_in(alloc: Global, root: &Table) -> Result<Names, NoMemory>
-    requires range { is_in_range (table_view root.now) ≡ Ok tt }
-    requires differ { names_differ (table_view root.now) ≡ Ok tt }
-    ensures routers { IfOk result (λ names. names.routers.keys ≡ routers_of (table_view root.now)) }
-    ensures nis { IfOk result (λ names. names.nis.keys ≡ nis_of (table_view root.now)) }
-    ensures few_routers { IfOk result (λ names. length names.routers.keys ≤ max_routers) }
-    ensures few_nis { IfOk result (λ names. length names.nis.keys ≤ max_nis) }
+fn names_in(alloc: Global, root: &Table) -> Result<NodeNames, NoMemory>
+    requires { is_in_range (table_view root.now) ≡ Ok tt }
+    ensures routers { IfOk result (λ names. names.routers ≡ routers_of (table_view root.now)) }
+    ensures nis { IfOk result (λ names. names.nis ≡ nis_of (table_view root.now)) }
+    ensures few_routers { IfOk result (λ names. length names.routers ≤ max_routers) }
+    ensures few_nis { IfOk result (λ names. length names.nis ≤ max_nis) }
 {
     let routers = names_of(alloc, routers_of(root))?;
     let nis = names_of(alloc, nis_of(root))?;
-    Ok(Names { routers, nis })
+    Ok(NodeNames { routers, nis })
 }
 
 // The links of a file whose routers and network interfaces have these names, or the first that has
 // an end without a name of these.
 #[tactic(auto, unfolding(crate::specs::ChipFile::ends_are_known))]
-fn known_links(alloc: Global, root: &Table, names: &Names) -> Result<Vec<Link>, ChipFault>
+fn known_links(alloc: Global, root: &Table, names: &NodeNames) -> Result<Vec<Link>, ChipFault>
     requires keys { keys_fit (table_view root.now) ≡ Ok tt }
     requires range { is_in_range (table_view root.now) ≡ Ok tt }
-    requires routers { names.now.routers.keys ≡ routers_of (table_view root.now) }
-    requires nis { names.now.nis.keys ≡ nis_of (table_view root.now) }
-    requires few_routers { length names.now.routers.keys ≤ max_routers }
-    requires few_nis { length names.now.nis.keys ≤ max_nis }
+    requires routers { names.now.routers ≡ routers_of (table_view root.now) }
+    requires nis { names.now.nis ≡ nis_of (table_view root.now) }
+    requires few_routers { length names.now.routers ≤ max_routers }
+    requires few_nis { length names.now.nis ≤ max_nis }
     ensures gives { Reads rule_of (λ _. tt) result (ends_are_known (table_view root.now)) }
     ensures links { IfOk result (λ links. links.items ≡ told_links (table_view root.now)) }
 {
@@ -96,17 +95,17 @@ fn slots_of(root: &Table) -> u32
 // The links of a file whose routers and network interfaces have these names, with lists of them for
 // each, or the first rule on links that it breaks.
 #[tactic(auto, unfolding(crate::specs::ChipFile::judged_links))]
-fn judged_links(alloc: Global, root: &Table, names: &Names) -> Result<ListedLinks, ChipFault>
+fn judged_links(alloc: Global, root: &Table, names: &NodeNames) -> Result<ListedLinks, ChipFault>
     requires keys { keys_fit (table_view root.now) ≡ Ok tt }
     requires range { is_in_range (table_view root.now) ≡ Ok tt }
-    requires routers { names.now.routers.keys ≡ routers_of (table_view root.now) }
-    requires nis { names.now.nis.keys ≡ nis_of (table_view root.now) }
-    requires few_routers { length names.now.routers.keys ≤ max_routers }
-    requires few_nis { length names.now.nis.keys ≤ max_nis }
+    requires routers { names.now.routers ≡ routers_of (table_view root.now) }
+    requires nis { names.now.nis ≡ nis_of (table_view root.now) }
+    requires few_routers { length names.now.routers ≤ max_routers }
+    requires few_nis { length names.now.nis ≤ max_nis }
     ensures gives { Reads rule_of (λ listed. listed.links.items) result
         (judged_links (table_view root.now)) }
     ensures lists { IfOk result
-        (AreLinkLists (length names.now.routers.keys) (length names.now.nis.keys)) }
+        (AreLinkLists (length names.now.routers) (length names.now.nis)) }
 {
     let links = known_links(alloc, root, names)?;
     let routers = names.routers.len() as u32;
@@ -138,27 +137,27 @@ fn with_index(alloc: Global, nis: u32, listed: ListedLinks) -> Result<IndexedLin
 }
 
 // The same of a file's links, or the first rule on links that it breaks.
-fn indexed_links(alloc: Global, root: &Table, names: &Names) -> Result<IndexedLinks, ChipFault>
+fn indexed_links(alloc: Global, root: &Table, names: &NodeNames) -> Result<IndexedLinks, ChipFault>
     requires keys { keys_fit (table_view root.now) ≡ Ok tt }
     requires range { is_in_range (table_view root.now) ≡ Ok tt }
     requires differ { names_differ (table_view root.now) ≡ Ok tt }
-    requires routers { names.now.routers.keys ≡ routers_of (table_view root.now) }
-    requires nis { names.now.nis.keys ≡ nis_of (table_view root.now) }
-    requires few_routers { length names.now.routers.keys ≤ max_routers }
-    requires few_nis { length names.now.nis.keys ≤ max_nis }
+    requires routers { names.now.routers ≡ routers_of (table_view root.now) }
+    requires nis { names.now.nis ≡ nis_of (table_view root.now) }
+    requires few_routers { length names.now.routers ≤ max_routers }
+    requires few_nis { length names.now.nis ≤ max_nis }
     ensures gives { Reads rule_of (λ its. its.links.items) result
         (judged_links (table_view root.now)) }
-    ensures index { IfOk result (λ its. IsIndex its.links.items (length names.now.routers.keys)
-        (length names.now.nis.keys) its.index) }
+    ensures index { IfOk result (λ its. IsIndex its.links.items (length names.now.routers)
+        (length names.now.nis) its.index) }
 {
     let listed = judged_links(alloc, root, names)?;
     Ok(with_index(alloc, names.nis.len() as u32, listed)?)
 }
 
 // The chip of these parts.
-fn chip_with(slots: u32, names: Names, its: IndexedLinks) -> Chip
+fn chip_with(slots: u32, names: NodeNames, its: IndexedLinks) -> Chip
     requires chip { IsChip (chip_with slots names its.links.items) }
-    requires index { IsIndex its.links.items (length names.routers.keys) (length names.nis.keys)
+    requires index { IsIndex its.links.items (length names.routers) (length names.nis)
         its.index }
     ensures { result ≡ chip_with slots names its.links.items }
 {
@@ -167,14 +166,14 @@ fn chip_with(slots: u32, names: Names, its: IndexedLinks) -> Chip
 
 // The same, where its routers and network interfaces have these names.
 #[tactic(auto, unfolding(crate::specs::ChipFile::chip_in))]
-fn linked_chip(alloc: Global, root: &Table, names: Names) -> Result<Chip, ChipFault>
+fn linked_chip(alloc: Global, root: &Table, names: NodeNames) -> Result<Chip, ChipFault>
     requires keys { keys_fit (table_view root.now) ≡ Ok tt }
     requires range { is_in_range (table_view root.now) ≡ Ok tt }
     requires differ { names_differ (table_view root.now) ≡ Ok tt }
-    requires routers { names.routers.keys ≡ routers_of (table_view root.now) }
-    requires nis { names.nis.keys ≡ nis_of (table_view root.now) }
-    requires few_routers { length names.routers.keys ≤ max_routers }
-    requires few_nis { length names.nis.keys ≤ max_nis }
+    requires routers { names.routers ≡ routers_of (table_view root.now) }
+    requires nis { names.nis ≡ nis_of (table_view root.now) }
+    requires few_routers { length names.routers ≤ max_routers }
+    requires few_nis { length names.nis ≤ max_nis }
     ensures { Reads rule_of (λ chip. chip) result (chip_in (table_view root.now)) }
 {
     let its = indexed_links(alloc, root, &names)?;

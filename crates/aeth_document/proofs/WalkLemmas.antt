@@ -1,7 +1,7 @@
 -- Laws of walks.
-use Rattle.std.proofs.Common.{append_assoc, ◌≡◌, ◌≤◌, ◌<◌, ◌+◌, ◌++◌, ◌∙◌, ℕ, zero, suc, ℤ}
+use Rattle.std.proofs.Common.{append_assoc, ◌≡◌, ◌≤◌, ◌<◌, ◌+◌, ◌++◌, ℕ, zero, suc, ℤ}
 use Rattle.std.proofs.Common.{pos, negsuc, true, false, List, [], ◌∷◌, length, map, Option, Some}
-use Rattle.std.proofs.Common.{None, fold, is_none, refl, sym, ap, inl, inr, arith}
+use Rattle.std.proofs.Common.{None, is_none, refl, sym, ap, inl, inr, arith}
 use Rattle.std.specs.Prelude.{position}
 use Rattle.std.specs.List.{AllByRecursion, IsDistinct, filter_map, list_any, range_with_len}
 use Rattle.std.specs.Str.{bytes_eq}
@@ -12,7 +12,6 @@ use Rattle.std.proofs.lemmas.List.Quantifiers.{position-Some}
 use Rattle.std.proofs.lemmas.List.Sums.{fold-append}
 use Rattle.std.proofs.lemmas.Map.Keys.{IsDistinct-push}
 use Rattle.std.proofs.lemmas.Option.{option_and_then_some}
-use Rattle.indexmap.specs.IndexSet.{insert_key}
 use Rattle.aeth_base.specs.Name.{is_name, name_of}
 use Rattle.aeth_base.specs.declared.shown.Broken.{Broken}
 use Rattle.aeth_base.specs.declared.shown.Shown.{Shown}
@@ -178,30 +177,6 @@ repeated-none others text none =
       | inr apart ↦ apart
     ]
 
--- A text that is among none of some others is among none of fewer.
-repeated-fewer : (more others : List (List ℕ)) (text : List ℕ)
-    → repeated (more ++ others) text ≡ None → repeated others text ≡ None
-repeated-fewer [] others text none = none
-repeated-fewer (one ∷ more) others text none =
-    elim (cases_Bool (bytes_eq text one)) [
-      | inl same ↦ absurd (cc (rw same at none))
-      | inr apart ↦ repeated-fewer more others text (rw apart at none)
-    ]
-
--- Texts without repeats behind some others have none behind fewer of them.
-pub fewer_repeats : (place : ℕ) (more others texts : List (List ℕ))
-    → first_broken place (repeats (more ++ others) texts) ≡ None
-    → first_broken place (repeats others texts) ≡ None
-fewer_repeats place more others [] none = refl
-fewer_repeats place more others (text ∷ texts) none =
-    let behind = rw (append_assoc more others (text ∷ [])) at none in
-    let checks = repeats (more ++ (others ++ text ∷ [])) texts in
-    let first = repeated-fewer more others text
-    (first_broken-head place (repeated (more ++ others) text) checks behind) in
-    let rest = fewer_repeats (next_place place) more (others ++ text ∷ []) texts
-    (first_broken-tail place (repeated (more ++ others) text) checks behind) in
-    rw first rest
-
 -- Texts without repeats, behind others that are distinct, are distinct with them.
 distinct-behind : (place : ℕ) (others texts : List (List ℕ))
     → first_broken place (repeats others texts) ≡ None → IsDistinct bytes_eq others
@@ -221,19 +196,6 @@ pub distinct-from_walk : (place : ℕ) (texts : List (List ℕ))
     → first_broken place (repeats [] texts) ≡ None → IsDistinct bytes_eq texts
 unfolding IsDistinct
 distinct-from_walk place texts none = distinct-behind place [] texts none tt
-
--- Texts without repeats are the set of themselves, behind the others.
-pub distinct_set : (place : ℕ) (others texts : List (List ℕ))
-    → first_broken place (repeats others texts) ≡ None
-    → fold (insert_key bytes_eq) others texts ≡ others ++ texts
-distinct_set place others [] none = sym (append-nil others)
-distinct_set place others (text ∷ texts) none =
-    let checks = repeats (others ++ text ∷ []) texts in
-    let apart = repeated-none others text
-    (first_broken-head place (repeated others text) checks none) in
-    let rest = first_broken-tail place (repeated others text) checks none in
-    rw apart (distinct_set (next_place place) (others ++ text ∷ []) texts rest
-    ∙ append_assoc others (text ∷ []) texts)
 
 -- A walk over numbers that finds nothing finds nothing at each of them.
 pub first_broken-range : (check : ℕ → Option Shown) (place first count i : ℕ)

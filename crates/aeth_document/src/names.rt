@@ -1,5 +1,5 @@
 // Names in files.
-ghost use Rattle.std.specs.Prelude.{◌≡◌, ◌<◌, ◌^◌, ◌++◌, ◌∷◌, [], fold, length, map, not, IfOk, IsSome, OnOk, None};
+ghost use Rattle.std.specs.Prelude.{◌≡◌, ◌<◌, ◌^◌, ◌++◌, ◌∷◌, [], length, map, not, IfOk, IsSome, OnOk, None};
 ghost use Rattle.std.specs.List.{filter_map, list_any};
 ghost use Rattle.std.specs.Str.{bytes_eq};
 ghost use Rattle.aeth_base.specs.Name.{name_of};
@@ -9,7 +9,7 @@ ghost use Rattle.aeth_document.specs.Walks.{found_by, no_name, place_of, repeate
 
 use crate::tables::Texts;
 use crate::walk::Walk;
-use aeth_base::{Name, NoMemory, Shown, shown_text};
+use aeth_base::{Name, Names, NoMemory, Shown, shown_text};
 use indexmap::IndexSet;
 use std::alloc::Global;
 
@@ -23,26 +23,25 @@ pub fn no_name(text: &str) -> Option<Shown>
     }
 }
 
-/// Those of the texts that are names, as a set in their order, each once.
-pub fn names_of(alloc: Global, texts: Texts<'_>) -> Result<IndexSet<Name>, NoMemory>
-    ensures { IfOk result (λ names. names.keys
-        ≡ fold (insert_key bytes_eq) [] (filter_map name_of (texts_in texts.entry))) }
+/// Those of the texts that are names, in their order.
+pub fn names_of(alloc: Global, texts: Texts<'_>) -> Result<Names, NoMemory>
+    ensures { IfOk result (λ names. names ≡ filter_map name_of (texts_in texts.entry)) }
 {
-    let mut names = IndexSet::with_capacity(alloc, texts.count_left())?;
-    for text in texts {
-        if let Some(name) = Name::new(text.as_bytes()) {
-            add_name(&mut names, name)?;
-        }
-    }
-    Ok(names)
+    let list = list_of(alloc, texts)?;
+    Names::of(alloc, list)
 }
 
-// Puts a name at the end of a set where it is new.
-fn add_name(set: &mut IndexSet<Name>, name: Name) -> Result<(), NoMemory>
-    ensures { OnOk result (set.new.keys ≡ insert_key bytes_eq set.old.keys name) }
+// The same as a list.
+fn list_of(alloc: Global, texts: Texts<'_>) -> Result<Vec<Name>, NoMemory>
+    ensures { IfOk result (λ list. list.items ≡ filter_map name_of (texts_in texts.entry)) }
 {
-    set.insert_full(name)?;
-    Ok(())
+    let mut list = Vec::with_capacity(alloc, texts.count_left())?;
+    for text in texts {
+        if let Some(name) = Name::new(text.as_bytes()) {
+            list.push(name)?;
+        }
+    }
+    Ok(list)
 }
 
 // Puts a text at the end of a set where it is new, and says whether it is.
@@ -95,13 +94,13 @@ pub fn repeats<'a>(
     Ok(walk)
 }
 
-/// The place of a text among the names of a set.
-pub fn place_of(names: &IndexSet<Name>, text: &str) -> Option<u32>
-    requires { length names.now.keys < 2 ^ 32 }
-    ensures { result ≡ place_of names.now.keys text.now }
+/// The place of a text among names.
+pub fn place_of(names: &Names, text: &str) -> Option<u32>
+    requires { length names.now < 2 ^ 32 }
+    ensures { result ≡ place_of names.now text.now }
 {
     match Name::new(text.as_bytes()) {
-        Some(name) => match names.get_index_of(&name) {
+        Some(name) => match names.place(&name) {
             Some(place) => Some(place as u32),
             None => None,
         },

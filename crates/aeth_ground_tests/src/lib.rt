@@ -16,6 +16,8 @@ mod host;
 mod landings;
 #[cfg(test)]
 mod latency;
+#[cfg(test)]
+mod name_places;
 mod names;
 #[cfg(test)]
 mod numbers;

@@ -8,7 +8,7 @@ use Rattle.aeth_base.specs.Limits.{max_cycles}
 use Rattle.aeth_document.proofs.ChainLemmas.{bind_ok}
 use Rattle.aeth_trace.specs.Limits.{max_pull, max_rows, max_switch_rows}
 use Rattle.aeth_trace.specs.Receivers.{AreReceiversOf, heads_receivers, pull_in, receivers_of}
-use Rattle.aeth_trace.specs.Records.{records_of}
+use Rattle.aeth_records.specs.Records.{records_of}
 use Rattle.aeth_trace.specs.Rules.{are_few, are_in_order, are_known, table_of}
 use Rattle.aeth_trace.specs.Spans.{SpanData}
 use Rattle.aeth_trace.specs.Switches.{AreSwitchesOf, are_apart, heads_switches, is_first_at_zero}

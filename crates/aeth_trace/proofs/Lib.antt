@@ -1,5 +1,3 @@
-mod Steps
-mod Lefts
 mod FoundLemmas
 pub mod RowLemmas
 pub mod ToldLemmas

@@ -1,7 +1,5 @@
 pub mod Limits
 pub mod Fault
-pub mod Left
-pub mod Records
 pub mod Fields
 pub mod Found
 pub mod Rules

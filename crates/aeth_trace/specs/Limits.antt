@@ -10,10 +10,6 @@ max_rows = 1000000
 abbrev pub max_switch_rows : ℕ
 max_switch_rows = 1024
 
--- How many bytes a short row has: room is made for so many rows of the file.
-abbrev pub short_row : ℕ
-short_row = 10
-
 -- The greatest value of a word.
 abbrev pub max_value : ℕ
 max_value = 4294967295

@@ -9,7 +9,7 @@ use Rattle.std.specs.Prelude.{◌≡◌, ⊤, ℕ, ◌-◌, List, [], ◌∷◌,
 use Rattle.std.specs.Prelude.{slice_get}
 use Rattle.aeth_app.specs.App.{AppData}
 use Rattle.aeth_base.specs.Faults.{BrokenRule}
-use Rattle.aeth_trace.specs.Records.{records_of}
+use Rattle.aeth_records.specs.Records.{records_of}
 use Rattle.aeth_trace.specs.Rules.{table_of}
 use Rattle.aeth_trace.specs.Switches.{heads_switches, switch_in, use_names}
 use Rattle.aeth_trace.specs.declared.fault.TraceFault.{TraceFault}

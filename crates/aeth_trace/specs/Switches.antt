@@ -16,7 +16,7 @@ use Rattle.aeth_document.specs.Chain.{◌>>=◌}
 use Rattle.aeth_trace.specs.Fault.{first_not_zero, overlap}
 use Rattle.aeth_trace.specs.Fields.{named, number_to, three_of}
 use Rattle.aeth_trace.specs.Limits.{max_switch_rows}
-use Rattle.aeth_trace.specs.Records.{records_of}
+use Rattle.aeth_records.specs.Records.{records_of}
 use Rattle.aeth_trace.specs.Rules.{are_few, are_in_order, are_known, table_of}
 use Rattle.aeth_trace.specs.Spans.{SpanData, span_of}
 use Rattle.aeth_trace.specs.declared.switches.SwitchRow.{SwitchRow}

@@ -12,7 +12,7 @@ use Rattle.aeth_document.specs.Chain.{◌>>=◌}
 use Rattle.aeth_trace.specs.Channels.{rows_on, rows_until}
 use Rattle.aeth_trace.specs.Fields.{channel_in, four_of, heads_channels}
 use Rattle.aeth_trace.specs.Limits.{max_rows, max_value}
-use Rattle.aeth_trace.specs.Records.{records_of}
+use Rattle.aeth_records.specs.Records.{records_of}
 use Rattle.aeth_trace.specs.Rules.{are_few, are_in_order, are_known, table_of}
 use Rattle.aeth_trace.specs.declared.words.WordRow.{WordRow}
 

@@ -2,13 +2,13 @@
 #![tactic(auto)]
 
 mod by_channel;
+mod columns;
 mod fault;
 mod fields;
 mod found;
 mod judging;
 pub mod laws;
 mod receivers;
-pub mod records;
 mod row;
 mod spans;
 mod switches;

@@ -6,6 +6,7 @@ ghost use Rattle.aeth_trace.specs.Receivers.{AreReceiversOf, IsSteady, change_af
 ghost use Rattle.aeth_trace.specs.Receivers.{pull_of, pulls_on, pulls_until, receivers_of};
 
 use crate::by_channel::ByChannel;
+use crate::columns::Columns;
 use crate::fault::TraceFault;
 use crate::fields::{channel_in, heads_channels};
 use crate::found::Found;
@@ -34,16 +35,31 @@ pub struct PullRow {
 }
 
 impl Row for PullRow {
+    ghost names = { λ row. row.channel.conn.0 };
+
+    ghost at = { λ row. row.cycle };
+
+    fn named(&self) -> u32 {
+        self.channel.conn.0
+    }
+
+    fn cycle(&self) -> u32 {
+        self.cycle
+    }
+}
+
+// The columns of a file of receivers.
+struct PullColumns;
+
+impl Columns for PullColumns {
     ghost use Rattle.aeth_trace.specs.Receivers.{heads_receivers, pull_in};
     ghost use Rattle.aeth_trace.specs.Words.{connection_names};
+
+    type Row = PullRow;
 
     ghost heads = { heads_receivers };
 
     ghost told = { λ app. pull_in (connection_names app) };
-
-    ghost names = { λ row. row.channel.conn.0 };
-
-    ghost at = { λ row. row.cycle };
 
     fn is_header(fields: &ByteRecord) -> bool {
         heads_channels(fields, b"pull")
@@ -58,14 +74,6 @@ impl Row for PullRow {
                 pull,
             }),
         }
-    }
-
-    fn named(&self) -> u32 {
-        self.channel.conn.0
-    }
-
-    fn cycle(&self) -> u32 {
-        self.cycle
     }
 }
 
@@ -155,7 +163,7 @@ pub fn read_receivers(alloc: Global, bytes: &[u8], app: &App) -> Result<Receiver
     ensures reads { Reads rule_of (λ receivers. receivers) result (receivers_of app.now bytes.now) }
     ensures receivers { IfOk result (λ receivers. AreReceiversOf app.now receivers) }
 {
-    let rows: Vec<PullRow> = read_table(alloc, bytes, app)?;
+    let rows = read_table::<PullColumns>(alloc, bytes, app)?;
     judge_known(&rows, 1, app.connections())?;
     judge_order(&rows)?;
     judge_count(rows.len(), MAX_ROWS)?;

@@ -6,6 +6,7 @@ ghost use Rattle.aeth_trace.specs.Switches.{AreSwitchesOf, are_apart, are_apart_
 ghost use Rattle.aeth_trace.specs.SwitchFaults.{IsOfRow, switches_told};
 ghost use Rattle.aeth_trace.specs.Switches.{is_first_at_zero, switches_of};
 
+use crate::columns::Columns;
 use crate::fault::TraceFault;
 use crate::fields::{number_to, three_of, use_named};
 use crate::found::Found;
@@ -32,15 +33,30 @@ pub struct SwitchRow {
 }
 
 impl Row for SwitchRow {
+    ghost names = { λ row. row.to.0 };
+
+    ghost at = { λ row. row.cycle };
+
+    fn named(&self) -> u32 {
+        self.to.0
+    }
+
+    fn cycle(&self) -> u32 {
+        self.cycle
+    }
+}
+
+// The columns of a file of switches.
+struct SwitchColumns;
+
+impl Columns for SwitchColumns {
     ghost use Rattle.aeth_trace.specs.Switches.{heads_switches, switch_in, use_names};
+
+    type Row = SwitchRow;
 
     ghost heads = { heads_switches };
 
     ghost told = { λ app. switch_in (use_names app) };
-
-    ghost names = { λ row. row.to.0 };
-
-    ghost at = { λ row. row.cycle };
 
     fn is_header(fields: &ByteRecord) -> bool {
         match three_of(fields) {
@@ -64,14 +80,6 @@ impl Row for SwitchRow {
                 }
             }
         }
-    }
-
-    fn named(&self) -> u32 {
-        self.to.0
-    }
-
-    fn cycle(&self) -> u32 {
-        self.cycle
     }
 }
 
@@ -192,7 +200,7 @@ pub fn read_switches(
     ensures switches { IfOk result (λ switches. AreSwitchesOf app.now spans.now switches) }
     ensures of_row { IfErr result (IsOfRow (switches_told app.now bytes.now)) }
 {
-    let rows: Vec<SwitchRow> = read_table(alloc, bytes, app)?;
+    let rows = read_table::<SwitchColumns>(alloc, bytes, app)?;
     judge_known(&rows, 2, app.uses())?;
     judge_order(&rows)?;
     judge_apart(spans, &rows)?;

@@ -7,6 +7,7 @@ ghost use Rattle.aeth_trace.specs.Limits.{max_rows};
 ghost use Rattle.aeth_trace.specs.Words.{AreWordsOf, words_of, words_on, words_until};
 
 use crate::by_channel::ByChannel;
+use crate::columns::Columns;
 use crate::fault::TraceFault;
 use crate::fields::{channel_in, heads_channels};
 use crate::found::Found;
@@ -34,15 +35,30 @@ pub struct WordRow {
 }
 
 impl Row for WordRow {
+    ghost names = { λ row. row.channel.conn.0 };
+
+    ghost at = { λ row. row.cycle };
+
+    fn named(&self) -> u32 {
+        self.channel.conn.0
+    }
+
+    fn cycle(&self) -> u32 {
+        self.cycle
+    }
+}
+
+// The columns of a file of words.
+struct WordColumns;
+
+impl Columns for WordColumns {
     ghost use Rattle.aeth_trace.specs.Words.{connection_names, heads_words, word_in};
+
+    type Row = WordRow;
 
     ghost heads = { heads_words };
 
     ghost told = { λ app. word_in (connection_names app) };
-
-    ghost names = { λ row. row.channel.conn.0 };
-
-    ghost at = { λ row. row.cycle };
 
     fn is_header(fields: &ByteRecord) -> bool {
         heads_channels(fields, b"value")
@@ -57,14 +73,6 @@ impl Row for WordRow {
                 value,
             }),
         }
-    }
-
-    fn named(&self) -> u32 {
-        self.channel.conn.0
-    }
-
-    fn cycle(&self) -> u32 {
-        self.cycle
     }
 }
 
@@ -143,7 +151,7 @@ pub fn read_words(alloc: Global, bytes: &[u8], app: &App) -> Result<Words, Trace
     ensures reads { Reads rule_of (λ words. words) result (words_of app.now bytes.now) }
     ensures words { IfOk result (λ words. AreWordsOf app.now words) }
 {
-    let rows: Vec<WordRow> = read_table(alloc, bytes, app)?;
+    let rows = read_table::<WordColumns>(alloc, bytes, app)?;
     judge_known(&rows, 1, app.connections())?;
     judge_order(&rows)?;
     judge_count(rows.len(), MAX_ROWS)?;

@@ -22,8 +22,8 @@ loop-table-preserved c =
         c.text_at-in-loop-table.ensures,
         c.wish_in.ensures,
         c.wish_in-in-loop-table.ensures,
-        append_assoc c.loop-table.connections.items (connection_of c.args.cores.now.keys table ∷ [])
-            (map (connection_of c.args.cores.now.keys) rest),
+        append_assoc c.loop-table.connections.items (connection_of c.args.cores.now table ∷ [])
+            (map (connection_of c.args.cores.now) rest),
       ) left.all;
       named = All-tail IsNamed table rest left.named;
       wishes = All-tail IsConnectionInRange table rest left.wishes;

@@ -6,8 +6,8 @@ use Rattle.aeth_app.proofs.parts.connections_of.Given as goal
 
 abbrev pub invariant-loop-table : goal.invariant-loop-table
 invariant-loop-table l = record {
-  all : l.connections.items ++ map (connection_of l.cores.keys) (tables_in l.table-iterator)
-      ≡ map (connection_of l.cores.keys) (tables_in l.fn.tables);
+  all : l.connections.items ++ map (connection_of l.cores) (tables_in l.table-iterator)
+      ≡ map (connection_of l.cores) (tables_in l.fn.tables);
   named : All IsNamed (tables_in l.table-iterator);
   wishes : All IsConnectionInRange (tables_in l.table-iterator);
 }

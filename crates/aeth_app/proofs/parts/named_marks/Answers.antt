@@ -10,14 +10,14 @@ loop-text-init c =
     record {
       seen = [];
       all = rw c.into_iter-text-iterator.ensures.into_iter_gives refl;
-      marked = rw c.len.ensures.len at none ∙ named_marks-none c.args.names.now.keys;
+      marked = rw c.len.ensures at none ∙ named_marks-none c.args.names.now;
     }
 
 -- There is a mark for each name.
 pub mark-requires-clause-size : goal.mark-requires-clause-size
 mark-requires-clause-size c =
     rw c.loop-text.invariant.marked
-    (length-named_marks c.args.names.now.keys c.loop-text.invariant.seen)
+    (length-named_marks c.args.names.now c.loop-text.invariant.seen)
 
 -- One text more is seen.
 pub loop-text-preserved : goal.loop-text-preserved

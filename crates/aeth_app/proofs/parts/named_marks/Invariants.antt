@@ -8,5 +8,5 @@ abbrev pub invariant-loop-text : goal.invariant-loop-text
 invariant-loop-text l = record {
   seen : List (List ℕ);
   all : seen ++ texts_in l.text-iterator ≡ texts_in l.fn.texts;
-  marked : l.marks.items ≡ named_marks l.names.keys seen;
+  marked : l.marks.items ≡ named_marks l.names seen;
 }

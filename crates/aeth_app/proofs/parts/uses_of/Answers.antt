@@ -12,8 +12,8 @@ loop-table-preserved c =
     let left = rw c.in-Some.ensures.steps at c.loop-table.invariant in
     let table = table_view c.in-Some.table.now in
     let rest = tables_in c.next.new.self in
-    let connections = c.args.names.now.connections.keys in
-    let uses = c.args.names.now.uses.keys in
+    let connections = c.args.names.now.connections in
+    let uses = c.args.names.now.uses in
     record {
       all = rw (
         c.in_ok-push.ensures.items,

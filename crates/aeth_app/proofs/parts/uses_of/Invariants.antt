@@ -7,7 +7,7 @@ use Rattle.aeth_app.proofs.parts.uses_of.Given as goal
 abbrev pub invariant-loop-table : goal.invariant-loop-table
 invariant-loop-table l = record {
   all : l.uses.items
-      ++ map (use_of l.names.connections.keys l.names.uses.keys) (tables_in l.table-iterator)
-      ≡ map (use_of l.names.connections.keys l.names.uses.keys) (tables_in l.fn.tables);
+      ++ map (use_of l.names.connections l.names.uses) (tables_in l.table-iterator)
+      ≡ map (use_of l.names.connections l.names.uses) (tables_in l.fn.tables);
   named : All IsNamed (tables_in l.table-iterator);
 }

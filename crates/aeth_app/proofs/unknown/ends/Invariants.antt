@@ -8,6 +8,6 @@ use Rattle.aeth_app.proofs.unknown.ends.Given as goal
 abbrev pub invariant-loop-connection : goal.invariant-loop-connection
 invariant-loop-connection l =
     walked l.walk
-    (map (unknown l.names.keys) (flat_map ends_in (tables_in l.connection-iterator)))
+    (map (unknown l.names) (flat_map ends_in (tables_in l.connection-iterator)))
     ≡ walked l.fn.walk
-    (map (unknown l.names.keys) (flat_map ends_in (tables_in l.fn.connections)))
+    (map (unknown l.names) (flat_map ends_in (tables_in l.fn.connections)))

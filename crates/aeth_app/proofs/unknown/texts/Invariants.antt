@@ -6,5 +6,5 @@ use Rattle.aeth_app.proofs.unknown.texts.Given as goal
 
 abbrev pub invariant-loop-text : goal.invariant-loop-text
 invariant-loop-text l =
-    walked l.walk (map (unknown l.names.keys) (texts_in l.text-iterator))
-    ≡ walked l.fn.walk (map (unknown l.names.keys) (texts_in l.fn.texts))
+    walked l.walk (map (unknown l.names) (texts_in l.text-iterator))
+    ≡ walked l.fn.walk (map (unknown l.names) (texts_in l.fn.texts))

@@ -9,6 +9,6 @@ use Rattle.aeth_app.proofs.unknown.texts_of.Given as goal
 abbrev pub invariant-loop-table : goal.invariant-loop-table
 invariant-loop-table l =
     walked l.walk
-    (map (unknown l.names.keys) (flat_map (texts_at l.key) (tables_in l.table-iterator)))
+    (map (unknown l.names) (flat_map (texts_at l.key) (tables_in l.table-iterator)))
     ≡ walked l.fn.walk
-    (map (unknown l.names.keys) (flat_map (texts_at l.key) (tables_in l.fn.tables)))
+    (map (unknown l.names) (flat_map (texts_at l.key) (tables_in l.fn.tables)))

@@ -20,7 +20,7 @@ told_link-unknown-requires-clause-none c = λ no_delays.
 pub loop-table-preserved : goal.loop-table-preserved
 loop-table-preserved c =
     let before = rw c.in-Some.ensures.steps at c.loop-table.invariant in
-    let shown = unknown_end c.args.names.now.routers.keys c.args.names.now.nis.keys in
+    let shown = unknown_end c.args.names.now.routers c.args.names.now.nis in
     record {
       links = rw (c.in_ok-push.ensures.items, append_assoc, c.told_link-unknown.ensures.link)
           before.links;

@@ -41,25 +41,25 @@ pub with_index-requires-clause-single : goal.with_index-requires-clause-single
 with_index-requires-clause-single c =
     let root = table_view c.args.root.now in
     let listed = (goal.at.with_index-requires-clause-single c).In_ok-listed in
-    rw (c.len.ensures.len, c.requires.nis)
+    rw (c.len.ensures, c.requires.nis)
     (subst (λ (ls : List Link). (ni : NiId) → ni.0 < length (nis_of root) → IsSingle ls ni)
     (are_told listed) (is_chip listed).single)
 
 pub with_index-requires-clause-lists : goal.with_index-requires-clause-lists
 with_index-requires-clause-lists c = (
-  length c.args.names.now.routers.keys,
-  rw c.len.ensures.len c.in_ok-listed.ensures.lists,
+  length c.args.names.now.routers,
+  rw c.len.ensures c.in_ok-listed.ensures.lists,
 )
 
 -- The links are kept.
 pub returns : goal.returns
 returns c =
-    let routers = length c.args.names.now.routers.keys in
+    let routers = length c.args.names.now.routers in
     let its = c.in_ok-with_index.field-0 in
     record {
       gives = c.in_ok-listed.ensures.gives ∙ ap Ok (sym c.in_ok-with_index.ensures.links);
-      index = subst (λ (n : ℕ). IsIndex its.links.items routers n its.index) c.len.ensures.len
+      index = subst (λ (n : ℕ). IsIndex its.links.items routers n its.index) c.len.ensures
           (c.in_ok-with_index.ensures.index routers
-          (subst (λ (n : ℕ). AreLinkLists routers n c.in_ok-listed.listed) (sym c.len.ensures.len)
+          (subst (λ (n : ℕ). AreLinkLists routers n c.in_ok-listed.listed) (sym c.len.ensures)
           c.in_ok-listed.ensures.lists));
     }

@@ -10,12 +10,12 @@ listed_links-requires-clause-few c =
 -- They join nodes of the file.
 pub listed_links-requires-clause-routers : goal.listed_links-requires-clause-routers
 listed_links-requires-clause-routers c =
-    rw (c.in_ok-links.ensures.links, c.len-routers.ensures.len, c.requires.routers)
+    rw (c.in_ok-links.ensures.links, c.len-routers.ensures, c.requires.routers)
     (told_below _ c.requires.keys c.requires.range c.in_ok-links.ensures.gives)
 
 pub listed_links-requires-clause-nis : goal.listed_links-requires-clause-nis
 listed_links-requires-clause-nis c =
-    rw (c.in_ok-links.ensures.links, c.len-nis.ensures.len, c.requires.nis)
+    rw (c.in_ok-links.ensures.links, c.len-nis.ensures, c.requires.nis)
     (told_ni_below _ c.requires.keys c.requires.range c.in_ok-links.ensures.gives)
 
 -- The lists are those of so many routers and network interfaces.
@@ -26,8 +26,8 @@ pub judge_nis-requires-clause-lists : goal.judge_nis-requires-clause-lists
 judge_nis-requires-clause-lists c = c.in_ok-listed.ensures.lists.of_nis
 
 pub judge_nis-requires-clause-nis : goal.judge_nis-requires-clause-nis
-judge_nis-requires-clause-nis c = ap length (sym c.requires.nis) ∙ sym c.len-nis.ensures.len
+judge_nis-requires-clause-nis c = ap length (sym c.requires.nis) ∙ sym c.len-nis.ensures
 
 pub returns-clause-lists : goal.returns-clause-lists
 returns-clause-lists c =
-    rw (c.len-routers.ensures.len, c.len-nis.ensures.len) at c.in_ok-listed.ensures.lists
+    rw (c.len-routers.ensures, c.len-nis.ensures) at c.in_ok-listed.ensures.lists

@@ -1,11 +1,11 @@
 use Rattle.aeth_document.proofs.names.place_of.Goals as goal
 
--- The place in the set, where names are compared by their bytes.
-pub returns-in-Some-get_index_of : goal.returns-in-Some-get_index_of
-returns-in-Some-get_index_of c =
-    rw (← rw c.as_bytes.ensures.value at c.in-Some.ensures) c.in-Some-get_index_of.ensures.index
+-- The place among the names, which are compared by their bytes.
+pub returns-in-Some-place : goal.returns-in-Some-place
+returns-in-Some-place c =
+    rw (← rw c.as_bytes.ensures.value at c.in-Some.ensures) c.in-Some-place.ensures
 
 -- No place, for the same reason.
-pub returns-in-None-get_index_of : goal.returns-in-None-get_index_of
-returns-in-None-get_index_of c =
-    rw (← rw c.as_bytes.ensures.value at c.in-Some.ensures) c.in-None-get_index_of.ensures.index
+pub returns-in-None-place : goal.returns-in-None-place
+returns-in-None-place c =
+    rw (← rw c.as_bytes.ensures.value at c.in-Some.ensures) c.in-None-place.ensures

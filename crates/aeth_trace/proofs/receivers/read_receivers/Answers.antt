@@ -1,4 +1,4 @@
-use Rattle.aeth_trace.specs.Records.{records_of}
+use Rattle.aeth_records.specs.Records.{records_of}
 use Rattle.aeth_trace.specs.declared.receivers.PullRow.{PullRow}
 use Rattle.aeth_trace.proofs.FileLemmas.{are_receivers}
 use Rattle.aeth_trace.proofs.KnownLemmas.{are_known-All}

@@ -1,5 +1,5 @@
 use Rattle.std.proofs.lemmas.Result.{err_from_is_err_and}
-use Rattle.aeth_trace.specs.Records.{records_of}
+use Rattle.aeth_records.specs.Records.{records_of}
 use Rattle.aeth_trace.proofs.FileLemmas.{are_switches}
 use Rattle.aeth_trace.proofs.KnownLemmas.{are_known-All}
 use Rattle.aeth_trace.specs.declared.switches.SwitchRow.{SwitchRow}

@@ -7,7 +7,7 @@ pub loop-row-preserved : goal.loop-row-preserved
 loop-row-preserved g c =
     let found = c.if-not-branch.false in
     let taken = rw found at c.in_ok-next_row.ensures.row in
-    let step = rows_from-step (g.R.Row.told c.args.app.now) c.loop-row.row c.loop-row.rows.items _
+    let step = rows_from-step (g.C.Columns.told c.args.app.now) c.loop-row.row c.loop-row.rows.items _
     _ _ c.in-Some.told taken c.in-Some.ensures.row in
     record {
       reading = c.in_ok-next_row.ensures.reading found;

@@ -1,6 +1,6 @@
 use Rattle.std.proofs.Common.{◌≡◌}
 use Rattle.aeth_trace.specs.Found.{AreFound}
-use Rattle.aeth_trace.specs.Left.{IsReading, left}
+use Rattle.aeth_records.specs.Left.{IsReading, left}
 use Rattle.aeth_trace.specs.Rules.{rows_from}
 use Rattle.aeth_trace.specs.Words.{connection_names}
 use Rattle.aeth_trace.proofs.RowLemmas.{with_front}
@@ -11,6 +11,6 @@ abbrev pub invariant-loop-row : goal.invariant-loop-row
 invariant-loop-row g l = record {
   reading : IsReading l.reader;
   found : AreFound (connection_names l.app) l.found;
-  walk : with_front l.rows.items (rows_from (g.R.Row.told l.app) l.row (left l.reader))
-      ≡ rows_from (g.R.Row.told l.fn.app) 1 (left l.fn.reader);
+  walk : with_front l.rows.items (rows_from (g.C.Columns.told l.app) l.row (left l.reader))
+      ≡ rows_from (g.C.Columns.told l.fn.app) 1 (left l.fn.reader);
 }

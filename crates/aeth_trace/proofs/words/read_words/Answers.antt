@@ -1,6 +1,6 @@
 use Rattle.std.proofs.Common.{length}
 use Rattle.aeth_trace.specs.Limits.{max_rows}
-use Rattle.aeth_trace.specs.Records.{records_of}
+use Rattle.aeth_records.specs.Records.{records_of}
 use Rattle.aeth_trace.specs.declared.words.WordRow.{WordRow}
 use Rattle.aeth_trace.proofs.FileLemmas.{are_words, few}
 use Rattle.aeth_trace.proofs.KnownLemmas.{are_known-All}

@@ -1,6 +1,6 @@
-use Rattle.aeth_trace.proofs.Lefts.{left_by, reading_on}
+use Rattle.aeth_records.proofs.Lefts.{left_by, reading_on}
 use Rattle.csv.specs.Records.{fields_of}
-use Rattle.aeth_trace.proofs.records.next_row.Goals as goal
+use Rattle.aeth_records.proofs.records.next_row.Goals as goal
 
 pub returns-in-Ok-clause-reading : goal.returns-in-Ok-clause-reading
 returns-in-Ok-clause-reading c found =

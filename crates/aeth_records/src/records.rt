@@ -1,9 +1,9 @@
-//! The records of a file in CSV, one after the other.
+// The records of a file in CSV, one after the other.
 ghost use Rattle.std.specs.Prelude.{◌≡◌, ◌≤◌, ◌+◌, ◌/◌, ◌∷◌, [], true, IfOk, MatchBool, length, min};
 ghost use Rattle.csv.specs.Records.{fields_of};
-ghost use Rattle.aeth_trace.specs.Left.{IsReading, left};
-ghost use Rattle.aeth_trace.specs.Limits.{short_row};
-ghost use Rattle.aeth_trace.specs.Records.{records_of};
+ghost use Rattle.aeth_records.specs.Left.{IsReading, left};
+ghost use Rattle.aeth_records.specs.Limits.{short_row};
+ghost use Rattle.aeth_records.specs.Records.{records_of};
 
 use csv::{ByteRecord, ErrorKind, Reader, ReaderBuilder};
 use std::alloc::{AllocError, Global};

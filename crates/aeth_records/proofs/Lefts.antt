@@ -7,9 +7,9 @@ use Rattle.csv.specs.Reading.{Reached, ReadRecord, default_config, records_from,
 use Rattle.csv.specs.Reading.{source_of}
 use Rattle.csv.specs.declared.parser.State.{State}
 use Rattle.csv.proofs.ReadFacts.{rows-end, rows-more}
-use Rattle.aeth_trace.specs.Left.{SliceReader, IsReading, bytes_left, known, left}
-use Rattle.aeth_trace.proofs.Steps.{next_leaves, next_shorter, records_from_enough}
-use Rattle.aeth_trace.proofs.Steps.{records_from-one}
+use Rattle.aeth_records.specs.Left.{SliceReader, IsReading, bytes_left, known, left}
+use Rattle.aeth_records.proofs.Steps.{next_leaves, next_shorter, records_from_enough}
+use Rattle.aeth_records.proofs.Steps.{records_from-one}
 
 pub left_at : (r : SliceReader) (ys : List ℕ) (s : State) → source_of known r ≡ Some ys
     → r.state ≡ s → left r ≡ records_from default_config (length ys + 1) s ys

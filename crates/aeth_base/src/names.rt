@@ -1,0 +1,72 @@
+// Names in an order, with their places.
+ghost use Rattle.std.specs.Prelude.{◌≡◌, ◌<◌, IfOk, Some, length, slice_get};
+ghost use Rattle.std.specs.List.{position};
+ghost use Rattle.std.specs.Str.{bytes_eq};
+ghost use Rattle.aeth_base.specs.Names.{ArePlaced};
+
+use crate::memory::NoMemory;
+use crate::name::Name;
+use std::alloc::Global;
+use std::collections::HashMap;
+use std::marker::Model;
+
+/// Names in an order, with the place at which each stands first. They are seen as the list of names.
+#[derive(Drop)]
+pub struct Names {
+    list: Vec<Name>,
+    places: HashMap<Name, usize>,
+}
+
+impl Model for Names {
+    ghost use Rattle.std.specs.Prelude.{List, ℕ};
+    ghost use Rattle.aeth_base.specs.Names.{ArePlaced};
+
+    ghost Value = { List (List ℕ) };
+
+    ghost view = { λ names. names.list.items };
+
+    ghost invariant = { λ names. ArePlaced names.list.items names.places };
+}
+
+impl Names {
+    /// These names, or want of memory.
+    pub fn of(alloc: Global, list: Vec<Name>) -> Result<Names, NoMemory>
+        ensures { IfOk result (λ names. names ≡ list.items) }
+    {
+        let places = places_of(alloc, &list)?;
+        Ok(Names { list, places })
+    }
+
+    /// How many there are.
+    pub fn len(&self) -> usize
+        ensures { result ≡ length self.now }
+    {
+        self.list.len()
+    }
+
+    /// The name at a place.
+    pub fn name(&self, place: usize) -> Name
+        requires { place < length self.now }
+        ensures { slice_get self.now place ≡ Some result }
+    {
+        self.list[place]
+    }
+
+    /// The first place of a name; `None` exactly where it isn't among them.
+    pub fn place(&self, name: &Name) -> Option<usize>
+        ensures { result ≡ position (bytes_eq name.now) self.now }
+    {
+        self.places.get(name).copied()
+    }
+}
+
+// The first place of each name: they are entered from the last one on, so that the first of two that are one stays.
+fn places_of(alloc: Global, list: &[Name]) -> Result<HashMap<Name, usize>, NoMemory>
+    ensures { IfOk result (ArePlaced list.now) }
+{
+    let mut places = HashMap::with_capacity(alloc, list.len())?;
+    for place in (0..list.len()).rev() {
+        places.insert(list[place], place)?;
+    }
+    Ok(places)
+}
