@@ -42,7 +42,7 @@ end
 };
 
 /// A chip, an application, and what is asked of the allocation.
-const ROWS: &[Row] = &[
+static ROWS: &[Row] = &[
     (PAIR, ROLL, OfAllocation(ROLLED_BACK)),
     (SLOW_TWIN, ONE, OfAllocation(FASTER)),
 ];

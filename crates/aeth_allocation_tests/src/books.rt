@@ -15,7 +15,7 @@ const BOTH: &[(u32, u64)] = &[(0, 0b1_0001), (1, 0b1000_0000)];
 const OVER: &[u32] = &[0, 4, 3];
 
 /// The pair, an application, grants, and what is asked then.
-const ROWS: &[Row] = &[
+static ROWS: &[Row] = &[
     // Free starts: taken where a use case of the group has both connections, past the wrap too.
     (PAIR, TWO, OfBook(&[], Starts(1, 0, OVER, 0b1111_1111))),
     (PAIR, TWO, OfBook(FIRST, Starts(0, 0, OVER, 0b1110_1110))),

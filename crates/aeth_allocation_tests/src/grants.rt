@@ -14,7 +14,7 @@ use std::marker::Brand;
 use std::sync::ledger::{Blank, Ledger};
 
 /// The links from the first interface of a pair to the second.
-const OVER: [u32; 3] = [0, 4, 3];
+static OVER: [u32; 3] = [0, 4, 3];
 
 /// What is asked of a book, with the answer.
 #[derive(Clone, Copy)]

@@ -69,7 +69,7 @@ const WITH_DETOUR: Search = Search {
 };
 
 /// A chip, an application, grants, and what is asked then.
-const ROWS: &[Row] = &[
+static ROWS: &[Row] = &[
     // The first slot; the first that is free; none where a path would have to be as fast as 2 cycles.
     (
         PAIR,

@@ -27,7 +27,7 @@ end
 ";
 
 /// A chip, an application, a plan, and what is asked of it.
-const ROWS: &[Row] = &[
+static ROWS: &[Row] = &[
     (PAIR, ONE, OfPlan(PLAN, Text)),
     (PAIR, ONE, OfPlan(EMPTY, Text)),
     (PAIR, ONE, OfPlan(FULL, Text)),

@@ -1,7 +1,7 @@
 // The statuses with which the program ends.
 
 /// How a run of the program ended.
-#[derive(Clone, Copy, PartialEq, Eq)]
+#[derive(Clone, Copy)]
 pub enum Status {
     /// The job is done, and its text is on `out`.
     Done,

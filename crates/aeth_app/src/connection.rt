@@ -48,7 +48,7 @@ pub struct Connection {
 
 /// What a link costs when paths are compared: each the same, or more the more of its slots are
 /// used. After UMARS (2005).
-#[derive(Clone, Copy, Debug, PartialEq)]
+#[derive(Clone, Copy)]
 pub enum Price {
     Hops,
     Pressure,

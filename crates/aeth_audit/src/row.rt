@@ -3,7 +3,7 @@ use aeth_base::LinkId;
 use aeth_clocked::Flit;
 
 /// A flit that enters a link in a cycle.
-#[derive(Clone, Copy, Debug, PartialEq)]
+#[derive(Clone, Copy)]
 pub struct LinkRow {
     /// 0 to 1,000,000.
     pub cycle: u32,

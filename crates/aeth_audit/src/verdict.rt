@@ -1,7 +1,7 @@
 // What an audit answers.
 
 /// What the audit of a log says.
-#[derive(Clone, Copy, Debug, PartialEq)]
+#[derive(Clone, Copy)]
 pub enum Audit {
     /// No row breaks a rule.
     Clean,

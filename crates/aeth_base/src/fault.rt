@@ -6,7 +6,7 @@ use crate::{Broken, Shown};
 use std::marker::Model;
 
 /// The first rule that a file breaks, as its refusal shows it.
-#[derive(Clone, Debug, Drop)]
+#[derive(Clone, Drop)]
 pub struct BrokenRule {
     /// The number of the rule among those of such files.
     pub rule: u32,

@@ -9,7 +9,7 @@ use crate::{LinkId, MAX_PATH_LINKS};
 use std::marker::Model;
 
 /// A list of at most 8 links, as a flit takes them one after the other.
-#[derive(Clone, Copy, Debug)]
+#[derive(Clone, Copy)]
 pub struct Path {
     links: [LinkId; MAX_PATH_LINKS as usize],
     len: u32,

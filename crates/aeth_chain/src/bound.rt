@@ -10,7 +10,7 @@ use crate::item::ChainItem;
 use aeth_server::ChannelShape;
 
 /// What a chain guarantees. After the latency-rate server (Stiliadis and Varma, 1998).
-#[derive(Clone, Copy, Debug, PartialEq, Eq)]
+#[derive(Clone, Copy)]
 pub struct ChainBound {
     /// Words per table: the least rate of its channels.
     pub rate: u32,

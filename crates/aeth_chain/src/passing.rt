@@ -10,7 +10,7 @@ use aeth_base::NoMemory;
 use std::alloc::Global;
 
 /// A word that is offered on a channel: in which cycle, and its value.
-#[derive(Clone, Copy, Debug, PartialEq, Eq)]
+#[derive(Clone, Copy)]
 pub struct Offer {
     pub cycle: u32,
     pub value: u32,

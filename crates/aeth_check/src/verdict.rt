@@ -4,7 +4,7 @@ use aeth_base::{Side, Unit};
 
 /// Whether a plan is accepted, or the first rule that it breaks. Lines are those of the printed
 /// plan, and count from 1.
-#[derive(Clone, Copy, PartialEq)]
+#[derive(Clone, Copy)]
 pub enum Verdict {
     /// No rule fails.
     Accepted,

@@ -9,7 +9,7 @@ use aeth_base::NiId;
 use aeth_ni::Write;
 
 /// What is done at the begin of a cycle.
-#[derive(Clone, Copy, Debug)]
+#[derive(Clone, Copy)]
 pub enum Event {
     /// A queue injects no more.
     Halt(ChannelEnd),

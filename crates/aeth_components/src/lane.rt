@@ -6,7 +6,7 @@ ghost use Rattle.aeth_components.specs.Lanes.{is_open as open_in};
 use aeth_base::NiId;
 
 /// An end of a channel: a queue of a network interface.
-#[derive(Clone, Copy, Debug)]
+#[derive(Clone, Copy)]
 pub struct ChannelEnd {
     /// The interface.
     pub ni: NiId,
@@ -18,7 +18,7 @@ pub struct ChannelEnd {
 ///
 /// No more words are accepted than there are, handed on than accepted, landed than handed on, and
 /// taken than landed.
-#[derive(Clone, Copy, Debug)]
+#[derive(Clone, Copy)]
 pub struct Lane {
     /// Where the session's words are sent.
     pub sender: ChannelEnd,

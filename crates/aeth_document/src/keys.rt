@@ -17,7 +17,7 @@ use aeth_base::{Shown, shown_text};
 use toml::{Table, Value};
 
 /// What may stand at a key.
-#[derive(Clone, Copy, Debug, PartialEq, Eq)]
+#[derive(Clone, Copy)]
 pub enum Kind {
     Integer,
     /// An integer that may be absent.
@@ -33,7 +33,7 @@ pub enum Kind {
 }
 
 /// A key that a table has, and what stands there.
-#[derive(Clone, Copy, Debug)]
+#[derive(Clone, Copy)]
 pub struct Field(pub &'static str, pub Kind);
 
 fn are_texts(values: &[Value]) -> bool

@@ -9,7 +9,7 @@ use toml::{Table, Value};
 
 /// The tables of an array in their order, as an iterator over those that are left. Values of
 /// another kind are passed over.
-#[derive(Clone, Copy, Debug)]
+#[derive(Clone, Copy)]
 pub struct Tables<'a> {
     values: &'a [Value],
 }
@@ -86,7 +86,7 @@ fn count_tables(values: &[Value]) -> usize
 
 /// The texts of an array in their order, as an iterator over those that are left. Values of another
 /// kind are passed over.
-#[derive(Clone, Copy, Debug)]
+#[derive(Clone, Copy)]
 pub struct Texts<'a> {
     values: &'a [Value],
 }

@@ -11,7 +11,7 @@ use aeth_base::{Broken, Shown};
 
 /// A walk over the checks of a rule, one after the other: the place of the next check, or the first
 /// check that was broken. Past the last place of 32 bits, which no file reaches, places stand still.
-#[derive(Clone, Copy, Debug, PartialEq, Eq)]
+#[derive(Clone, Copy)]
 pub enum Walk {
     At(u32),
     Stopped(Broken),

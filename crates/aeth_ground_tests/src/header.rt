@@ -5,7 +5,7 @@ use std::test::Fail;
 
 // A route, queue, credits and count, the word, and the port and the word of its hop. The second word
 // has every bit but one.
-const WORKED: [((u32, u8, u8, u8), u32, (u8, u32)); 3] = [
+static WORKED: [((u32, u8, u8, u8), u32, (u8, u32)); 3] = [
     ((2, 9, 3, 2), 0x8D20_0002, (2, 0x8D20_0000)),
     ((0x1F_FFFF, 31, 15, 2), 0xBFFF_FFFF, (7, 0xBFE3_FFFF)),
     ((1, 0, 0, 2), 0x8000_0001, (1, 0x8000_0000)),
@@ -13,7 +13,7 @@ const WORKED: [((u32, u8, u8, u8), u32, (u8, u32)); 3] = [
 
 // The first word that doesn't hold its fields.
 fn first_other_word() -> Option<u32> {
-    for ((route, queue, credits, count), word, hopped) in WORKED {
+    for &((route, queue, credits, count), word, hopped) in &WORKED {
         let header = Header {
             route,
             queue,

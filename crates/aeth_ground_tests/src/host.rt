@@ -51,7 +51,7 @@ fn a_host_shelf_reads_whole_files(rt: HostRuntime) -> Result<(), Fail> {
 }
 
 /// Places of a file of 250 mixed bytes, and the bytes from there on, four or as many as there are.
-const PIECES: [(u64, &[u8]); 8] = [
+static PIECES: [(u64, &[u8]); 8] = [
     (5, &[5, 6, 7, 8]),
     (9, &[9, 10, 11, 12]),
     (5, &[5, 6, 7, 8]),
@@ -73,7 +73,7 @@ fn reads_piece<H: Shelf>(shelf: &mut H, name: &str, at: u64, piece: &[u8]) -> bo
 
 /// The first place from which on a shelf doesn't read its piece.
 fn first_misread<H: Shelf>(shelf: &mut H, name: &str) -> Option<u64> {
-    for (at, piece) in PIECES {
+    for &(at, piece) in &PIECES {
         if !reads_piece(shelf, name, at, piece) {
             return Some(at);
         }

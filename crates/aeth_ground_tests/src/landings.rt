@@ -21,7 +21,7 @@ struct Run {
     due: &'static [u64],
 }
 
-const RUNS: [Run; 8] = [
+static RUNS: [Run; 8] = [
     Run {
         name: "five words at once",
         channel: SPREAD,

@@ -16,7 +16,7 @@ fn latency_of(slots: &SlotSet, cap: u32, rate: u32) -> Option<u32> {
 }
 
 // A table size, slots, words a slot, a rate in words per table, and the latency in cycles.
-const WORKED: [(u32, &[u32], u32, u32, u32); 13] = [
+static WORKED: [(u32, &[u32], u32, u32, u32); 13] = [
     (8, &[0, 4], 2, 4, 1),
     (8, &[0, 1], 2, 4, 4),
     (8, &[2], 15, 4, 5),
@@ -36,7 +36,7 @@ const WORKED: [(u32, &[u32], u32, u32, u32); 13] = [
 
 // The table size, the words a slot and the rate of the first row whose latency is another.
 fn first_other_latency() -> Option<(u32, u32, u32)> {
-    for (size, slots, cap, rate, theta) in WORKED {
+    for &(size, slots, cap, rate, theta) in &WORKED {
         if latency_of(&set_of(size, slots), cap, rate) != Some(theta) {
             return Some((size, cap, rate));
         }

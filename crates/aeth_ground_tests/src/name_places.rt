@@ -3,10 +3,17 @@ use aeth_base::{Name, Names};
 use std::alloc::Global;
 use std::test::Fail;
 
-/// The names of a list in which one stands twice.
+/// Texts, and the place of each among four names of which one stands twice.
+static PLACES: [(&str, Option<usize>); 4] = [
+    ("ni0", Some(0)),
+    ("ni1", Some(1)),
+    ("ni2", Some(3)),
+    ("ni3", None),
+];
+
 fn four_names(alloc: Global) -> Result<Names, Fail> {
     let mut list = Vec::new(alloc);
-    for text in ["ni0", "ni1", "ni0", "ni2"] {
+    for &text in &["ni0", "ni1", "ni0", "ni2"] {
         if let Some(name) = Name::new(text.as_bytes()) {
             list.push(name)?;
         }
@@ -18,21 +25,25 @@ fn place_of(names: &Names, text: &str) -> Option<usize> {
     names.place(&Name::new(text.as_bytes())?)
 }
 
-/// The name at a place, where there are so many.
-fn name_at(names: &Names, place: usize) -> Option<Name> {
-    if place < names.len() {
-        Some(names.name(place))
-    } else {
-        None
+/// The first text that isn't at its place.
+fn first_misplaced(names: &Names) -> Option<&'static str> {
+    for &(text, place) in &PLACES {
+        if place_of(names, text) != place {
+            return Some(text);
+        }
     }
+    None
+}
+
+/// Whether the third name is the first once more, and there are four.
+fn are_four(names: &Names) -> bool {
+    names.len() == 4 && names.name(2).as_bytes() == b"ni0".as_slice()
 }
 
 #[test]
 fn each_name_has_its_first_place(rt: HostRuntime) -> Result<(), Fail> {
     let names = four_names(rt.alloc())?;
-    let places = ["ni0", "ni1", "ni2", "ni3"].map(|text| place_of(&names, text));
-    assert_eq!(rt; places, [Some(0), Some(1), Some(3), None]);
-    assert_eq!(rt; name_at(&names, 2), Name::new(b"ni0"));
-    assert_eq!(rt; name_at(&names, 4), None);
+    assert_eq!(rt; first_misplaced(&names), None);
+    assert!(rt; are_four(&names));
     Ok(())
 }

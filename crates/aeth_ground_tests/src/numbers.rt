@@ -3,7 +3,7 @@ use aeth_base::{ceil_div, push_number, read_number};
 use std::alloc::Global;
 use std::test::Fail;
 
-const NUMBERS: [(&str, Option<u64>); 11] = [
+static NUMBERS: [(&str, Option<u64>); 11] = [
     ("0", Some(0)),
     ("7", Some(7)),
     ("18446744073709551615", Some(u64::MAX)),
@@ -19,7 +19,7 @@ const NUMBERS: [(&str, Option<u64>); 11] = [
 
 /// The first text that isn't read as its number.
 fn first_misread() -> Option<&'static str> {
-    for (text, number) in NUMBERS {
+    for &(text, number) in &NUMBERS {
         if read_number(text.as_bytes()) != number {
             return Some(text);
         }
@@ -39,7 +39,7 @@ fn is_written_as(alloc: Global, number: Option<u64>, text: &str) -> Result<bool,
 
 /// The first text that its number isn't written as.
 fn first_miswritten(alloc: Global) -> Result<Option<&'static str>, Fail> {
-    for (text, number) in NUMBERS {
+    for &(text, number) in &NUMBERS {
         if !is_written_as(alloc, number, text)? {
             return Ok(Some(text));
         }

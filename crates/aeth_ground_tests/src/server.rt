@@ -115,7 +115,7 @@ pub(crate) fn shape_of(channel: &Channel) -> Option<ChannelShape>
 }
 
 // A channel, its latency with the path, and its buffer in words.
-const BUFFERS: [(Channel, u32, u32); 7] = [
+static BUFFERS: [(Channel, u32, u32); 7] = [
     (SPREAD, 4, 9),
     (SINGLE, 6, 6),
     (DELAYED, 4, 9),
@@ -135,7 +135,7 @@ fn latency_and_buffer(channel: &Channel) -> Option<(u32, u32)> {
 
 // The latency and the buffer of the first channel that has others.
 fn first_other_buffer() -> Option<(u32, u32)> {
-    for (channel, latency, words) in BUFFERS {
+    for &(channel, latency, words) in &BUFFERS {
         if latency_and_buffer(&channel) != Some((latency, words)) {
             return Some((latency, words));
         }
@@ -149,14 +149,14 @@ fn buffers_hold_a_round_trip(rt: HostRuntime) {
 }
 
 // A number of words, and the finish time of the last of them.
-const FINISHES: [(usize, u128); 5] = [(0, 0), (1, 28), (2, 36), (4, 52), (5, 60)];
+static FINISHES: [(usize, u128); 5] = [(0, 0), (1, 28), (2, 36), (4, 52), (5, 60)];
 
 // The first number of words with another finish time.
 fn first_other_finish(shape: &ChannelShape) -> Option<usize>
     requires { IsShapeInRange shape.now }
 {
     let offers = [1, 1, 1, 1, 9];
-    for (count, finish) in FINISHES {
+    for &(count, finish) in &FINISHES {
         if deadline(shape, &offers, count) != finish {
             return Some(count);
         }

@@ -23,7 +23,7 @@ impl Shelf for Zeros {
 }
 
 /// Sizes of files, and why these aren't read.
-const SIZES: [(usize, Option<ReadFail>); 4] = [
+static SIZES: [(usize, Option<ReadFail>); 4] = [
     (0, None),
     (16_384, None),
     (33_554_432, None),
@@ -40,7 +40,7 @@ fn reads_or_fails(alloc: Global, size: usize, fail: Option<ReadFail>) -> bool {
 
 /// The first size of which a file is read otherwise.
 fn first_other_size(alloc: Global) -> Option<usize> {
-    for (size, fail) in SIZES {
+    for &(size, fail) in &SIZES {
         if !reads_or_fails(alloc, size, fail) {
             return Some(size);
         }
@@ -77,7 +77,7 @@ fn shelf_of(alloc: Global, most: usize, fail: Option<u64>) -> Result<MemShelf, F
 /// The most bytes a call, the call that fails, a name, its content, and how many calls there are.
 type Reading = (usize, Option<u64>, &'static str, Option<&'static str>, u64);
 
-const READINGS: [Reading; 9] = [
+static READINGS: [Reading; 9] = [
     (64, None, "chip", Some("slots = 8"), 2),
     (9, None, "chip", Some("slots = 8"), 2),
     (8, None, "chip", Some("slots = 8"), 3),

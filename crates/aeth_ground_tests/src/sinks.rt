@@ -65,7 +65,7 @@ pub(crate) fn failing_calls(alloc: Global, fail: Option<u64>) -> Result<Vec<u64>
 /// Room, the most bytes a call, the call that fails, whether all is written, and what is.
 type Writing = (usize, usize, Option<u64>, bool, &'static str);
 
-const WRITINGS: [Writing; 7] = [
+static WRITINGS: [Writing; 7] = [
     (64, 64, None, true, "0,4"),
     (64, 2, None, true, "0,4"),
     (64, 2, Some(1), false, "0,"),

@@ -31,7 +31,7 @@ pub(crate) fn has_slots(set: &SlotSet, slots: &[u32]) -> bool {
 }
 
 /// A size of a table, how far a set is rotated, its slots, and those that they become.
-const ROTATIONS: [(u32, u32, &[u32], &[u32]); 8] = [
+static ROTATIONS: [(u32, u32, &[u32], &[u32]); 8] = [
     (8, 3, &[0, 4, 5], &[0, 3, 7]),
     (64, 1, &[0, 62, 63], &[0, 1, 63]),
     (65, 1, &[0, 63, 64], &[0, 1, 64]),
@@ -44,7 +44,7 @@ const ROTATIONS: [(u32, u32, &[u32], &[u32]); 8] = [
 
 /// The size and the step of the first rotation that gives another set.
 fn first_other_rotation() -> Option<(u32, u32)> {
-    for (size, by, slots, turned) in ROTATIONS {
+    for &(size, by, slots, turned) in &ROTATIONS {
         if !has_slots(&set_of(size, slots).rotate(by), turned) {
             return Some((size, by));
         }
@@ -80,7 +80,7 @@ fn sets_are_met_joined_and_taken_away(rt: HostRuntime) {
 }
 
 /// Where a search in the set of 3, 63, 64 and 127 begins, and what it finds.
-const SEARCHES: [(u32, Option<u32>); 8] = [
+static SEARCHES: [(u32, Option<u32>); 8] = [
     (0, Some(3)),
     (3, Some(3)),
     (4, Some(63)),
@@ -93,7 +93,7 @@ const SEARCHES: [(u32, Option<u32>); 8] = [
 
 /// The first place from which on a search finds another slot.
 fn first_other_search(set: &SlotSet) -> Option<u32> {
-    for (from, next) in SEARCHES {
+    for &(from, next) in &SEARCHES {
         if set.at_or_after(from) != next {
             return Some(from);
         }

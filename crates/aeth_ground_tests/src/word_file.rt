@@ -134,7 +134,7 @@ fn is_refused_for(alloc: Global, text: &[u8], rule: u32, name: &str, value: Show
 /// The rule of the first file that isn't refused for it.
 #[cfg(test)]
 fn first_other_rule(alloc: Global) -> Option<&'static str> {
-    for (text, rule, name, value) in REFUSED {
+    for &(text, rule, name, value) in &REFUSED {
         if !is_refused_for(alloc, text, rule, name, value) {
             return Some(name);
         }

@@ -4,7 +4,7 @@ use aeth_base::{CoreId, NiId, Path, Side, Unit};
 use aeth_slots::SlotSet;
 
 /// A reservation of slots along a path, for one side of a unit. After Æthereal (2005).
-#[derive(Clone, Copy, Debug)]
+#[derive(Clone, Copy)]
 pub struct Grant {
     pub unit: Unit,
     pub side: Side,
@@ -15,7 +15,7 @@ pub struct Grant {
 
 /// Where a core is seated: on which network interface, after UMARS (2005), and on which of its four
 /// seats.
-#[derive(Clone, Copy, Debug, PartialEq, Eq)]
+#[derive(Clone, Copy)]
 pub struct SeatLine {
     pub core: CoreId,
     pub ni: NiId,

@@ -23,7 +23,7 @@ fn pair(alloc: Global) -> Option<Chip> {
 }
 
 /// Routers and ports, and the links that these lead to.
-const EXITS: [(u32, u8, Option<LinkId>); 5] = [
+static EXITS: [(u32, u8, Option<LinkId>); 5] = [
     (0, 0, Some(LinkId(1))),
     (0, 1, Some(LinkId(4))),
     (0, 2, None),
@@ -33,7 +33,7 @@ const EXITS: [(u32, u8, Option<LinkId>); 5] = [
 
 // The first of these ports that leads elsewhere.
 fn wrong_exit(chip: &Chip) -> Option<(u32, u8)> {
-    for (router, port, link) in EXITS {
+    for &(router, port, link) in &EXITS {
         if chip.exit(RouterId(router), port) != link {
             return Some((router, port));
         }
@@ -77,7 +77,7 @@ fn wire_of(chip: &Chip, link: u32, place: u32) -> Option<u32> {
 }
 
 /// Links and places, and the wires that stand there.
-const WIRES: [(u32, u32, Option<u32>); 8] = [
+static WIRES: [(u32, u32, Option<u32>); 8] = [
     (1, 0, Some(1)),
     (1, 1, Some(6)),
     (1, 2, Some(7)),
@@ -90,7 +90,7 @@ const WIRES: [(u32, u32, Option<u32>); 8] = [
 
 // The first of these places at which another wire stands.
 fn wrong_wire(chip: &Chip) -> Option<(u32, u32)> {
-    for (link, place, wire) in WIRES {
+    for &(link, place, wire) in &WIRES {
         if wire_of(chip, link, place) != wire {
             return Some((link, place));
         }

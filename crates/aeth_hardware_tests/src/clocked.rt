@@ -69,7 +69,7 @@ fn a_ring_exchanges_its_flits(rt: HostRuntime) -> Result<(), Fail> {
 }
 
 // Lists, and whether they are orders.
-const LISTS: [(&[u32], bool); 6] = [
+static LISTS: [(&[u32], bool); 6] = [
     (&[], true),
     (&[2, 0, 1], true),
     (&[0, 2, 2], false),
@@ -79,7 +79,7 @@ const LISTS: [(&[u32], bool); 6] = [
 ];
 
 // Counts, turns, and the rotations.
-const ROTATIONS: [(u32, u32, &[u32]); 3] = [
+static ROTATIONS: [(u32, u32, &[u32]); 3] = [
     (3, 1, &[1, 2, 0]),
     (3, 4_294_967_294, &[2, 0, 1]),
     (1, 7, &[0]),

@@ -167,7 +167,7 @@ impl Bench {
 }
 
 // With counter 1 one of two words is sent in the queue's slot, and one waits for a credit.
-const A_WORD_IS_HELD_BACK: [Step; 9] = [
+static A_WORD_IS_HELD_BACK: [Step; 9] = [
     SetRoute(0, 3, 1),
     SetSlot(2, 0),
     Offer(0, 100, true),
@@ -183,7 +183,7 @@ const A_WORD_IS_HELD_BACK: [Step; 9] = [
 
 // Four words land in queue 9, of which the newest three stay. Credits go back, without a word
 // beside them.
-const TAKEN_WORDS_RETURN: [Step; 11] = [
+static TAKEN_WORDS_RETURN: [Step; 11] = [
     SetRoute(9, 31, 0),
     SetSlot(0, 9),
     Latch([0x8120_0000, 1, 2], Some((9, 2))),
@@ -199,7 +199,7 @@ const TAKEN_WORDS_RETURN: [Step; 11] = [
 ];
 
 // A full source queue in the last slot, a halt, a finish, and tables that are cleared.
-const NOTHING_IS_SENT: [Step; 29] = [
+static NOTHING_IS_SENT: [Step; 29] = [
     SetRoute(7, 7, 65_535),
     SetSlot(127, 7),
     Offer(7, 10, true),

@@ -47,7 +47,7 @@ const SESSION: Lane = Lane {
 };
 
 // The sender's tables: slots 0 and 4, by way of both routers.
-const TABLES: [Event; 3] = [
+static TABLES: [Event; 3] = [
     Event::Change(Write::SetRoute {
         ni: NiId(0),
         queue: 0,

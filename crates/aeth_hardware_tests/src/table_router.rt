@@ -24,7 +24,7 @@ const WIRES: u32 = 6;
 
 // The entries of a channel by links 0, 4 and 3 from slots 0 and 4, and of one by links 2, 5 and 1
 // from slot 0: a router, its port, a slot, and the link on which the flit comes.
-const ENTRIES: [(u32, u8, u32, u32); 6] = [
+static ENTRIES: [(u32, u8, u32, u32); 6] = [
     (0, 0, 2, 5),
     (0, 1, 1, 0),
     (0, 1, 5, 0),

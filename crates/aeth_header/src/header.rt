@@ -38,7 +38,7 @@ pub const COUNT_SHIFT: u32 = CREDITS_SHIFT + CREDITS_BITS;
 const _: () = prove!(COUNT_SHIFT + COUNT_BITS == u32::BITS);
 
 /// What the header word of a flit says.
-#[derive(Clone, Copy, Debug, PartialEq)]
+#[derive(Clone, Copy, PartialEq)]
 pub struct Header {
     /// The output ports that are left, three bits each, the next one lowest: below 2^21.
     pub route: u32,

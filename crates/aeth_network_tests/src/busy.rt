@@ -52,7 +52,7 @@ const STALLED: &[u32] = &[
     1, 4, 5, 6, 7, 8, 9, 10, 11, 12, 13, 14, 15, 30, 31, 32, 33, 34, 35, 40, 41, 42, 43, 60,
 ];
 
-const ROWS: [Row; 5] = [
+static ROWS: [Row; 5] = [
     Row {
         texts: Texts {
             words: NO_WORDS,

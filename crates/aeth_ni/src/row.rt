@@ -4,7 +4,7 @@ use aeth_base::{Channel, NiId};
 use aeth_slots::SlotSet;
 
 /// The row of one channel in the tables of its sending interface.
-#[derive(Clone, Copy, Debug)]
+#[derive(Clone, Copy)]
 pub struct ChannelRow {
     /// The channel.
     pub channel: Channel,

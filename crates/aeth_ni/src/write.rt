@@ -3,7 +3,7 @@
 use aeth_base::NiId;
 
 /// One write to the tables of a network interface.
-#[derive(Clone, Copy, Debug, PartialEq)]
+#[derive(Clone, Copy, PartialEq)]
 pub enum Write {
     /// No queue injects in this slot any more.
     ClearSlot {

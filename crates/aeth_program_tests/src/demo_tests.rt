@@ -5,7 +5,7 @@ use std::str;
 use std::test::Fail;
 
 /// Parts of a file of words, by number.
-const WORDS: [(u32, &str, &str); 3] = [
+static WORDS: [(u32, &str, &str); 3] = [
     (
         0,
         "connection,side,cycle,value\nc42,fwd,0,0\nc31,fwd,2,1\nc45,fwd,4,2\nc29,fwd,6,3\n",
@@ -25,7 +25,7 @@ const WORDS: [(u32, &str, &str); 3] = [
 
 #[test]
 fn words_are_drawn(rt: HostRuntime) -> Result<(), Fail> {
-    for (n, front, end) in WORDS {
+    for &(n, front, end) in &WORDS {
         let texts = demo_texts(rt.alloc(), n)?;
         let words = str::from_utf8(&texts.words)?;
         assert!(rt; words.starts_with(front), "{n}");
@@ -35,7 +35,7 @@ fn words_are_drawn(rt: HostRuntime) -> Result<(), Fail> {
 }
 
 /// What the application file of the number 7 has, whose shifts are 5, 12, 9 and 10.
-const STREAMS: [&str; 7] = [
+static STREAMS: [&str; 7] = [
     "version = 1\ndetour = 1\ncore = [ {name = \"k0\", ni = \"n0\"}, {name = \"k1\", ni = \"n1\"}, ",
     ", {name = \"k15\", ni = \"n15\"} ]\n[[connection]]\nname = \"c0\"\nfrom = \"k0\"\nto = \"k5\"\nfwd = {words = 1, per = 64, latency = 100, delay = 0}\nback = {words = 0, per = 1, latency = 100, delay = 0}\n",
     "\n[[connection]]\nname = \"c31\"\nfrom = \"k15\"\nto = \"k11\"\nfwd = {words = 1, per = 64,",
@@ -49,7 +49,7 @@ const STREAMS: [&str; 7] = [
 fn streams_lead_so_far(rt: HostRuntime) -> Result<(), Fail> {
     let texts = demo_texts(rt.alloc(), 7)?;
     let app = str::from_utf8(&texts.app)?;
-    for part in STREAMS {
+    for &part in &STREAMS {
         assert!(rt; app.contains(part), "{part}");
     }
     assert!(rt; app.ends_with(", \"c63\"]\n"));
@@ -57,7 +57,7 @@ fn streams_lead_so_far(rt: HostRuntime) -> Result<(), Fail> {
 }
 
 /// What the chip file has.
-const MESH: [&str; 5] = [
+static MESH: [&str; 5] = [
     "version = 1\nslots = 64\nrouters = [\"r0\", \"r1\", ",
     ", \"r15\"]\nnis = [\"n0\", ",
     ", \"n15\"]\nlink = [\n  {from = \"n0\", to = \"r0\"},\n  {from = \"r0\", to = \"n0\"},\n",
@@ -69,7 +69,7 @@ const MESH: [&str; 5] = [
 fn the_chip_is_a_mesh(rt: HostRuntime) -> Result<(), Fail> {
     let texts = demo_texts(rt.alloc(), 0)?;
     let chip = str::from_utf8(&texts.chip)?;
-    for part in MESH {
+    for &part in &MESH {
         assert!(rt; chip.contains(part), "{part}");
     }
     assert!(rt; chip.ends_with("  {from = \"r15\", to = \"r14\"},\n]\n"));

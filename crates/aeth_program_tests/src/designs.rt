@@ -75,7 +75,7 @@ c0,fwd,1,104
 ";
 
 /// The files by their names.
-pub(crate) const FILES: [(&str, &str); 7] = [
+pub(crate) static FILES: [(&str, &str); 7] = [
     ("pair", PAIR),
     ("one", ONE),
     ("two", TWO),

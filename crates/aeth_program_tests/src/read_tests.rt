@@ -8,7 +8,7 @@ use std::test::Fail;
 /// Words, the calls of a shelf from a number to before another one, and what must be answered where one
 /// of these fails. A call gives 64 bytes at most, so a file takes one for each 64 bytes and one for its
 /// end. The last row of a command begins where all calls were made.
-const READS: [(&str, u64, u64, &str); 20] = [
+static READS: [(&str, u64, u64, &str); 20] = [
     ("app pair two", 0, 5, "4 err read fault chip;"),
     ("app pair two", 5, 15, "4 err read fault app;"),
     ("app pair two", 15, 17, SUMMED_UP),
@@ -38,7 +38,7 @@ const READS: [(&str, u64, u64, &str); 20] = [
 
 #[test]
 fn a_failing_call_is_a_read_fault_of_its_file(rt: HostRuntime) -> Result<(), Fail> {
-    for (words, first, past, answer) in READS {
+    for &(words, first, past, answer) in &READS {
         for call in first..past {
             let said = said_failing(rt.alloc(), words, 64, call)?;
             assert_eq!(rt; said.as_str(), answer, "{words} {call}");
@@ -48,7 +48,7 @@ fn a_failing_call_is_a_read_fault_of_its_file(rt: HostRuntime) -> Result<(), Fai
 }
 
 /// The same of the run, of whose files a call gives one byte.
-const BYTES: [(u64, u64, &str); 7] = [
+static BYTES: [(u64, u64, &str); 7] = [
     (0, 238, "4 err read fault chip;"),
     (238, 522, "4 err read fault app;"),
     (522, 613, "4 err read fault plan;"),
@@ -60,7 +60,7 @@ const BYTES: [(u64, u64, &str); 7] = [
 
 #[test]
 fn a_fault_at_each_byte_is_one_of_its_file(rt: HostRuntime) -> Result<(), Fail> {
-    for (first, past, answer) in BYTES {
+    for &(first, past, answer) in &BYTES {
         for call in first..past {
             let said = said_failing(rt.alloc(), RUN, 1, call)?;
             assert_eq!(rt; said.as_str(), answer, "{call}");
@@ -70,11 +70,11 @@ fn a_fault_at_each_byte_is_one_of_its_file(rt: HostRuntime) -> Result<(), Fail> 
 }
 
 /// The most bytes that a call of a shelf gives.
-const MOST: [usize; 3] = [1, 2, 4_096];
+static MOST: [usize; 3] = [1, 2, 4_096];
 
 #[test]
 fn short_reads_give_the_same_text(rt: HostRuntime) -> Result<(), Fail> {
-    for most in MOST {
+    for &most in &MOST {
         let said = said_failing(rt.alloc(), RUN, most, u64::MAX)?;
         assert_eq!(rt; said.as_str(), LOG, "{most}");
     }
@@ -89,7 +89,7 @@ fn said_failing(alloc: Global, words: &str, most: usize, call: u64) -> Result<St
 
 /// Words, and how many calls of the shelf there are: two for each file that is read, and one for a
 /// file that can't be read.
-const CALLS_OF: [(&str, u64); 6] = [
+static CALLS_OF: [(&str, u64); 6] = [
     ("app pair two", 4),
     ("app none two", 1),
     ("app two two", 2),
@@ -100,7 +100,7 @@ const CALLS_OF: [(&str, u64); 6] = [
 
 #[test]
 fn a_file_after_a_failure_is_not_read(rt: HostRuntime) -> Result<(), Fail> {
-    for (words, calls) in CALLS_OF {
+    for &(words, calls) in &CALLS_OF {
         let mut shelf = shelf_of(rt.alloc(), &FILES)?;
         let said = said(rt.alloc(), words, &mut shelf)?;
         assert_eq!(rt; shelf.calls(), calls, "{words} says {said}");
@@ -110,7 +110,7 @@ fn a_file_after_a_failure_is_not_read(rt: HostRuntime) -> Result<(), Fail> {
 
 /// The number of bytes of a chip file, each of them `#`, and what `chip` must answer: the longest
 /// file is a comment, and a file of one byte more is too long.
-const LENGTHS: [(usize, &str); 2] = [
+static LENGTHS: [(usize, &str); 2] = [
     (33_554_432, "2 err refused chip 2 WrongKey 0 link;"),
     (33_554_433, "2 err refused chip 0 TooLong 0 -;"),
 ];
@@ -118,7 +118,7 @@ const LENGTHS: [(usize, &str); 2] = [
 #[test]
 fn a_file_is_too_long(rt: HostRuntime) -> Result<(), Fail> {
     let alloc = rt.alloc();
-    for (length, answer) in LENGTHS {
+    for &(length, answer) in &LENGTHS {
         let file = vec![in alloc; b'#'; length]?;
         let files = vec![in alloc; ("comment".to_string(alloc)?, file)]?;
         let mut shelf = MemShelf::new(files, Vec::new(alloc));

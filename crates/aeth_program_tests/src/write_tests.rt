@@ -7,7 +7,7 @@ use std::test::Fail;
 
 /// Words, the most bytes that a call on a sink takes, the failing calls on `out` and on `err`, and
 /// what must be answered. A sink has room for 64 bytes, and the last run needs more.
-const SINKS: [(&str, usize, u64, u64, &str); 5] = [
+static SINKS: [(&str, usize, u64, u64, &str); 5] = [
     ("slots 8 2 4 0,1,2,3,4,5,6,7", 2, 1, 9, "5 out 0,"),
     ("slots 8 2 4 0,1,2,3,4,5,6,7", 64, 0, 9, "5"),
     ("slots 8 1 4 1,2", 64, 9, 0, "5"),
@@ -30,7 +30,7 @@ const SINKS: [(&str, usize, u64, u64, &str); 5] = [
 #[test]
 fn a_sink_that_fails_has_a_part(rt: HostRuntime) -> Result<(), Fail> {
     let alloc = rt.alloc();
-    for (words, most, out_call, err_call, answer) in SINKS {
+    for &(words, most, out_call, err_call, answer) in &SINKS {
         let mut shelf = shelf_of(alloc, &FILES)?;
         let mut out = failing_sink(alloc, 64, most, out_call)?;
         let mut err = failing_sink(alloc, 64, most, err_call)?;

@@ -138,7 +138,7 @@ fn is_told(
 }
 
 /// What is told of each channel.
-const CHANNELS: [(u32, Side, &str); 4] = [
+static CHANNELS: [(u32, Side, &str); 4] = [
     (0, Side::Fwd, "579 222233 0000077744 0000077744"),
     (0, Side::Back, "8 000111 2229999999 2229999999"),
     (1, Side::Fwd, " 000000 2222221111 2222221111"),
@@ -151,7 +151,7 @@ fn first_other_answer(
     words: &Words,
     receivers: &Receivers,
 ) -> Result<Option<&'static str>, Fail> {
-    for (conn, side, answer) in CHANNELS {
+    for &(conn, side, answer) in &CHANNELS {
         if !is_told(alloc, words, receivers, channel(conn, side), answer)? {
             return Ok(Some(answer));
         }

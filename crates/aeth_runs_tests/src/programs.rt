@@ -38,7 +38,7 @@ fn row(conn: u32, queue: u8, slots: SlotSet, remote: u8, credits: u32) -> Channe
 }
 
 // The writes of a program that closes slots 0 and 4 of queue 0 and opens slots 1 and 6 of queue 8.
-const WRITES: [Write; 6] = [
+static WRITES: [Write; 6] = [
     Write::ClearSlot { ni: NI, slot: 0 },
     Write::ClearSlot { ni: NI, slot: 4 },
     Write::ClearRoute { ni: NI, queue: 0 },

@@ -14,7 +14,7 @@ use std::test::*;
 
 // The lag and the writes of each switch between the use cases, in the order of the one that is left
 // and of the one that is entered.
-const SPANS: [(u32, u32); 9] = [
+static SPANS: [(u32, u32); 9] = [
     (0, 0),
     (0, 4),
     (3, 9),
@@ -111,7 +111,7 @@ fn are_sessions(sessions: &[Session], told: &[Told]) -> bool {
 
 // A connection that is kept twice and then closed, and one that is closed and opened anew behind the
 // writes.
-const SESSIONS: [(u32, Side, &[Told]); 3] = [
+static SESSIONS: [(u32, Side, &[Told]); 3] = [
     (0, Side::Fwd, &[(0, Some((30, 35, 38)))]),
     (0, Side::Back, &[(0, Some((30, 35, 38)))]),
     (1, Side::Fwd, &[(0, Some((10, 10, 13))), (24, None)]),
@@ -119,7 +119,7 @@ const SESSIONS: [(u32, Side, &[Told]); 3] = [
 
 // The first connection that has other sessions.
 fn first_other_connection(timeline: &Timeline) -> Option<u32> {
-    for (conn, side, told) in SESSIONS {
+    for &(conn, side, told) in &SESSIONS {
         let channel = Channel {
             conn: ConnId(conn),
             side,

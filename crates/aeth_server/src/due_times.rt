@@ -13,7 +13,7 @@ use std::marker::Model;
 /// The due cycles of a session's words, one after the other, in constant time a word. A session has
 /// at most 1,000,000 words, which are offered in cycles up to 1,000,000.
 /// After the latency-rate server (Stiliadis and Varma, 1998), for whole words.
-#[derive(Debug, Drop)]
+#[derive(Drop)]
 pub struct Due {
     size: u32,
     rate: u32,

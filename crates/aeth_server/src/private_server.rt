@@ -17,7 +17,7 @@ const MEMORY: usize = MAX_PATH_DELAY as usize;
 
 /// One channel by itself: its private server from the first cycle on, in one session without a
 /// close. It remembers what is under way alone, for the greatest delay of a path each way.
-#[derive(Debug, Drop)]
+#[derive(Drop)]
 pub struct Alone {
     shape: ChannelShape,
     buffer: u32,

@@ -10,7 +10,7 @@ use aeth_base::{CREDITS_PER_FLIT, WORDS_PER_FLIT};
 use aeth_slots::SlotSet;
 
 /// What one channel is granted and asks for. Both slot sets have one table size.
-#[derive(Clone, Copy, Debug, PartialEq, Eq)]
+#[derive(Clone, Copy)]
 pub struct ChannelShape {
     /// The starts that are granted to it: at least as many as it needs.
     pub slots: SlotSet,

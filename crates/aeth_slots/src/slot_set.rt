@@ -14,7 +14,7 @@ type Mask = u128;
 ///
 /// A slot is one flit cycle of the table's period. All routers and network interfaces share one
 /// slot count modulo the table size, after Æthereal (2005).
-#[derive(Clone, Copy, Debug)]
+#[derive(Clone, Copy)]
 pub struct SlotSet {
     size: u32,
     mask: Mask,
