@@ -13,6 +13,7 @@ ghost use Rattle.aeth_schedule.specs.Schedule.{schedule_of};
 ghost use Rattle.aeth_schedule.specs.Values.{values_of};
 ghost use Rattle.aeth_stimuli.specs.Loaded.{no_lane};
 ghost use Rattle.aeth_network.specs.Brought.{CanBring, IsBrought};
+ghost use Rattle.aeth_running.specs.Network.{routed_components};
 ghost use Rattle.aeth_running.specs.Routing.{IsRoutingFor};
 ghost use Rattle.aeth_network.specs.First.{IsFirstState};
 ghost use Rattle.aeth_network.specs.Routes.{routing_in};
@@ -59,18 +60,17 @@ impl State {
         requires routed { IsRoutingFor inputs.now (routing_in tables.now) }
         ensures { IfOk result (IsFirstState inputs.now (routing_in tables.now)) }
     {
-        aeth_events::laws::stimuli_are_stimuli();
-        inputs.are_accepted();
-        let app = inputs.app();
-        let channels = 2 * app.connections() as usize;
-        let kind = kind_of(tables);
-        let mut components = loaded(alloc, inputs.chip(), app, inputs.words(), schedule, kind)?;
-        enter_first(tables, &mut components);
+        // The components come last: what owns them has no way out behind them.
+        let channels = 2 * inputs.app().connections() as usize;
+        let untils = vec![in alloc; 0; channels]?;
+        let outside = vec![in alloc; 0; channels]?;
+        let replaced = Vec::with_capacity(alloc, schedule.goings().len())?;
+        let components = routed_components(alloc, inputs, schedule, tables)?;
         Ok(State {
             components,
-            untils: vec![in alloc; 0; channels]?,
-            outside: vec![in alloc; 0; channels]?,
-            replaced: Vec::with_capacity(alloc, schedule.goings().len())?,
+            untils,
+            outside,
+            replaced,
         })
     }
 
@@ -108,6 +108,27 @@ pub(crate) fn run<L: Ledger>(
         ≤ steps.old + 2 * flits_on components.old.wires + 2 * flits_on components.new.wires }
 {
     components.step_counted(order, time, rows.events, steps);
+}
+
+// The components of a run before its first cycle, where the first rows have entered the tables of routers, if
+// these have any.
+fn routed_components(
+    alloc: Global,
+    inputs: &RunInputs,
+    schedule: &Schedule,
+    tables: &Option<UseTables>,
+) -> Result<Components, NoMemory>
+    requires schedule { schedule.now ≡ schedule_of inputs.now }
+    requires routed { IsRoutingFor inputs.now (routing_in tables.now) }
+    ensures { IfOk result (λ components. components
+        ≡ routed_components inputs.now (routing_in tables.now)) }
+{
+    aeth_events::laws::stimuli_are_stimuli();
+    inputs.are_accepted();
+    let (chip, app, words) = (inputs.chip(), inputs.app(), inputs.words());
+    let mut components = loaded(alloc, chip, app, words, schedule, kind_of(tables))?;
+    enter_first(tables, &mut components);
+    Ok(components)
 }
 
 // The components of a chip, once they are loaded. No rows have entered the tables of routers yet.
