@@ -6,5 +6,5 @@ use Rattle.std.specs.List.{position}
 use Rattle.std.specs.Str.{bytes_eq}
 
 -- Each name has the place at which it stands first in a list, and no other name has one.
-abbrev pub ArePlaced : {S : Type 0} → List (List ℕ) → HashMap (List ℕ) ℕ S → Type 0
-ArePlaced names places = (name : List ℕ) → get bytes_eq places name ≡ position (bytes_eq name) names
+abbrev pub HaveFirstPlaces : {S : Type 0} → List (List ℕ) → HashMap (List ℕ) ℕ S → Type 0
+HaveFirstPlaces names places = (name : List ℕ) → get bytes_eq places name ≡ position (bytes_eq name) names

@@ -2,7 +2,7 @@
 ghost use Rattle.std.specs.Prelude.{◌≡◌, ◌<◌, IfOk, Some, length, slice_get};
 ghost use Rattle.std.specs.List.{position};
 ghost use Rattle.std.specs.Str.{bytes_eq};
-ghost use Rattle.aeth_base.specs.Names.{ArePlaced};
+ghost use Rattle.aeth_base.specs.Names.{HaveFirstPlaces};
 
 use crate::memory::NoMemory;
 use crate::name::Name;
@@ -19,13 +19,13 @@ pub struct Names {
 
 impl Model for Names {
     ghost use Rattle.std.specs.Prelude.{List, ℕ};
-    ghost use Rattle.aeth_base.specs.Names.{ArePlaced};
+    ghost use Rattle.aeth_base.specs.Names.{HaveFirstPlaces};
 
     ghost Value = { List (List ℕ) };
 
     ghost view = { λ names. names.list.items };
 
-    ghost invariant = { λ names. ArePlaced names.list.items names.places };
+    ghost invariant = { λ names. HaveFirstPlaces names.list.items names.places };
 }
 
 impl Names {
@@ -62,7 +62,7 @@ impl Names {
 
 // The first place of each name: they are entered from the last one on, so that the first of two that are one stays.
 fn places_of(alloc: Global, list: &[Name]) -> Result<HashMap<Name, usize>, NoMemory>
-    ensures { IfOk result (ArePlaced list.now) }
+    ensures { IfOk result (HaveFirstPlaces list.now) }
 {
     let mut places = HashMap::with_capacity(alloc, list.len())?;
     for place in (0..list.len()).rev() {

@@ -1,7 +1,7 @@
 use Rattle.std.proofs.Common.{◌≡◌, ◌<◌, ◌+◌, ◌-◌, ◌∙◌, ℕ, Some, ap, arith, drop, length, slice_get, subst, sym}
 use Rattle.std.proofs.lemmas.Option.{slice_get-get_or}
 use Rattle.aeth_base.proofs.Lists.{drop-slice_get}
-use Rattle.aeth_base.proofs.NamesLemmas.{ArePlacedFrom, placed-all, placed-before}
+use Rattle.aeth_base.proofs.NamesLemmas.{HaveFirstPlacesFrom, placed-all, placed-before}
 use Rattle.aeth_base.proofs.names.places_of.Goals as goal
 
 -- One more name is entered, before those that are.
@@ -14,7 +14,7 @@ loop-place-preserved c =
     let within : first < length names = omega (arith, c.loop-place.auto.place, c.loop-place-test.true) in
     let at : slice_get names first ≡ Some name =
     slice_get-get_or names first name within ∙ ap Some (sym c.index-list-place.is) in
-    let behind = subst (λ (n : ℕ). ArePlacedFrom n (drop n names) c.loop-place.places) (sym some)
+    let behind = subst (λ (n : ℕ). HaveFirstPlacesFrom n (drop n names) c.loop-place.places) (sym some)
     c.loop-place.invariant in
     rw (drop-slice_get names first name at)
     (placed-before first name (drop (first + 1) names) c.loop-place.places c.insert.new.self behind
@@ -26,5 +26,5 @@ returns c =
     let names = c.args.list.now in
     let none : c.loop-place.place ≡ 0 = omega (arith, c.loop-place-test.false) in
     placed-all names c.loop-place.places
-    (subst (λ (n : ℕ). ArePlacedFrom n (drop n names) c.loop-place.places) none
+    (subst (λ (n : ℕ). HaveFirstPlacesFrom n (drop n names) c.loop-place.places) none
     c.loop-place.invariant)
