@@ -35,7 +35,7 @@ pub fn names_of(alloc: Global, texts: Texts<'_>) -> Result<Names, NoMemory>
 fn list_of(alloc: Global, texts: Texts<'_>) -> Result<Vec<Name>, NoMemory>
     ensures { IfOk result (λ list. list.items ≡ filter_map name_of (texts_in texts.entry)) }
 {
-    let mut list = Vec::with_capacity(alloc, texts.count_left())?;
+    let mut list = Vec::with_capacity(alloc, texts.values_left())?;
     for text in texts {
         if let Some(name) = Name::new(text.as_bytes()) {
             list.push(name)?;

@@ -105,6 +105,11 @@ impl<'a> Texts<'a> {
     {
         count_texts(self.values)
     }
+
+    // As many as there are texts left at most.
+    pub(crate) fn values_left(&self) -> usize {
+        self.values.len()
+    }
 }
 
 impl<'a> Iterator for Texts<'a> {
