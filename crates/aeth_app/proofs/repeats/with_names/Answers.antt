@@ -6,7 +6,7 @@ use Rattle.aeth_document.specs.Values.{text_at}
 use Rattle.aeth_document.specs.Walks.{repeats}
 use Rattle.aeth_document.proofs.WalkLemmas.{walked-ended}
 use Rattle.aeth_app.specs.Tables.{names_in}
-use Rattle.aeth_app.proofs.repeats.repeated_names.Goals as goal
+use Rattle.aeth_app.proofs.repeats.with_names.Goals as goal
 
 -- Where the walk has stopped, the tables that are left don't change it.
 pub returns-then-not-goes_on : goal.returns-then-not-goes_on
