@@ -5,6 +5,7 @@ ghost use Rattle.aeth_report.specs.RunLog.{log_of};
 ghost use Rattle.aeth_components.specs.Turns.{flits_on};
 ghost use Rattle.aeth_accepted.specs.Inputs.{Inputs, run_of};
 ghost use Rattle.aeth_stimuli.specs.Stimuli.{stimuli_of};
+ghost use Rattle.aeth_running.specs.FirstLog.{first_log};
 ghost use Rattle.aeth_running.specs.Network.{first_network, played, stepped};
 ghost use Rattle.aeth_running.specs.Routing.{ByHeaders, IsRoutingFor};
 ghost use Rattle.aeth_running.specs.Quiet.{AreStill, IsNextBusy};
@@ -336,33 +337,41 @@ fn with_given(alloc: Global, inputs: &RunInputs, given: Given) -> Result<RoutedN
     requires routed { IsRoutingFor inputs.now (routing_with given) }
     ensures { IfOk result (λ network. network ≡ first_network inputs.now (routing_with given)) }
 {
+    // The state comes last: what owns it has no way out behind it.
+    let log = log_before(alloc, inputs, &given)?;
     let state = State::of(alloc, inputs, &given.schedule, &given.tables)?;
-    with_state(alloc, inputs, given, state)
+    Ok(begun(inputs, given, state, log))
 }
 
-// That which is given this, and has this state.
-fn with_state(
-    alloc: Global,
-    inputs: &RunInputs,
-    given: Given,
-    state: State,
-) -> Result<RoutedNetwork, NoMemory>
-    requires given { stimuli_with given ≡ stimuli_of inputs.now }
-    requires routed { IsRoutingFor inputs.now (routing_with given) }
-    requires state { IsFirstState inputs.now (routing_with given) state }
-    ensures { IfOk result (λ network. network ≡ first_network inputs.now (routing_with given)) }
+// The log of accepted inputs that are given this, before their first cycle.
+fn log_before(alloc: Global, inputs: &RunInputs, given: &Given) -> Result<SimLog, NoMemory>
+    requires { stimuli_with given.now ≡ stimuli_of inputs.now }
+    ensures { IfOk result (λ log. log ≡ first_log inputs.now) }
 {
     aeth_events::laws::stimuli_are_stimuli();
     inputs.are_accepted();
-    let log = first_log(
+    first_log(
         alloc,
         inputs.chip(),
         inputs.app(),
         inputs.words(),
         given.schedule.goings(),
         inputs.cycles(),
-    )?;
-    Ok(RoutedNetwork {
+    )
+}
+
+// The network of accepted inputs that is given this, with its first state and the log before its first
+// cycle.
+fn begun(inputs: &RunInputs, given: Given, state: State, log: SimLog) -> RoutedNetwork
+    requires given { stimuli_with given ≡ stimuli_of inputs.now }
+    requires routed { IsRoutingFor inputs.now (routing_with given) }
+    requires state { IsFirstState inputs.now (routing_with given) state }
+    requires log { log ≡ first_log inputs.now }
+    ensures { result ≡ first_network inputs.now (routing_with given) }
+{
+    aeth_events::laws::stimuli_are_stimuli();
+    inputs.are_accepted();
+    RoutedNetwork {
         given,
         cursors: Cursors {
             event: 0,
@@ -376,5 +385,5 @@ fn with_state(
         state,
         log,
         time: 0,
-    })
+    }
 }
