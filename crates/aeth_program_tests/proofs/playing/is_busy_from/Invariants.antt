@@ -1,5 +1,5 @@
 use Rattle.std.proofs.Common.{◌≡◌, length}
-use Rattle.aeth_network_tests.proofs.playing.is_busy_from.Given as goal
+use Rattle.aeth_program_tests.proofs.playing.is_busy_from.Given as goal
 
 -- The order is of all components.
 abbrev pub invariant-loop-cycle : goal.invariant-loop-cycle

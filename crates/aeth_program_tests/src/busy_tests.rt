@@ -1,5 +1,5 @@
 // In which cycles a network is busy: these were worked out by hand from the rules.
-use crate::files::Texts;
+use crate::busy_files::Texts;
 use crate::playing::is_busy_in;
 use std::alloc::Global;
 use std::test::Fail;

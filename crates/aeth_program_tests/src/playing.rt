@@ -7,7 +7,7 @@ ghost use Rattle.aeth_base.specs.Limits.{max_cycles};
 ghost use Rattle.aeth_group.specs.Members.{groups_of};
 ghost use Rattle.aeth_playing.specs.RunInputs.{inputs_of};
 
-use crate::files::{Texts, names, shelf_of};
+use crate::busy_files::{Texts, names, shelf_of};
 use aeth_accepted::RunInputs;
 use aeth_base::NoMemory;
 use aeth_clocked::Order;

@@ -1,6 +1,6 @@
 use Rattle.std.proofs.Common.{◌∙◌, ◌+◌, ◌%◌, ap, length}
 use Rattle.std.proofs.lemmas.List.FromFn.{length-map-range_with_len}
-use Rattle.aeth_network_tests.proofs.playing.is_network_busy.Goals as goal
+use Rattle.aeth_program_tests.proofs.playing.is_network_busy.Goals as goal
 
 -- The order has a number for each component.
 pub is_busy_from-requires : goal.is_busy_from-requires
