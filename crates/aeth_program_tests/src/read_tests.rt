@@ -39,10 +39,8 @@ static READS: [(&str, u64, u64, &str); 20] = [
 #[test]
 fn a_failing_call_is_a_read_fault_of_its_file(rt: HostRuntime) -> Result<(), Fail> {
     for &(words, first, past, answer) in &READS {
-        for call in first..past {
-            let said = said_failing(rt.alloc(), words, 64, call)?;
-            assert_eq!(rt; said.as_str(), answer, "{words} {call}");
-        }
+        let other = other_call(rt.alloc(), words, 64, first, past, answer)?;
+        assert_eq!(rt; other, None, "{words}");
     }
     Ok(())
 }
@@ -61,10 +59,8 @@ static BYTES: [(u64, u64, &str); 7] = [
 #[test]
 fn a_fault_at_each_byte_is_one_of_its_file(rt: HostRuntime) -> Result<(), Fail> {
     for &(first, past, answer) in &BYTES {
-        for call in first..past {
-            let said = said_failing(rt.alloc(), RUN, 1, call)?;
-            assert_eq!(rt; said.as_str(), answer, "{call}");
-        }
+        let other = other_call(rt.alloc(), RUN, 1, first, past, answer)?;
+        assert_eq!(rt; other, None, "{answer}");
     }
     Ok(())
 }
@@ -75,16 +71,43 @@ static MOST: [usize; 3] = [1, 2, 4_096];
 #[test]
 fn short_reads_give_the_same_text(rt: HostRuntime) -> Result<(), Fail> {
     for &most in &MOST {
-        let said = said_failing(rt.alloc(), RUN, most, u64::MAX)?;
-        assert_eq!(rt; said.as_str(), LOG, "{most}");
+        assert!(rt;
+            is_said_failing(rt.alloc(), RUN, most, u64::MAX, LOG)?,
+            "{most}"
+        );
     }
     Ok(())
 }
 
-/// What a command says over a shelf that gives so many bytes a call, and of which this call fails.
-fn said_failing(alloc: Global, words: &str, most: usize, call: u64) -> Result<String, Fail> {
+/// The first of the calls from a number to before another one with whose failure a command says something else than
+/// this. A call gives so many bytes.
+fn other_call(
+    alloc: Global,
+    words: &str,
+    most: usize,
+    first: u64,
+    past: u64,
+    answer: &str,
+) -> Result<Option<u64>, Fail> {
+    for call in first..past {
+        if !is_said_failing(alloc, words, most, call, answer)? {
+            return Ok(Some(call));
+        }
+    }
+    Ok(None)
+}
+
+/// Whether a command says this over a shelf that gives so many bytes a call, and of which this call fails.
+fn is_said_failing(
+    alloc: Global,
+    words: &str,
+    most: usize,
+    call: u64,
+    answer: &str,
+) -> Result<bool, Fail> {
     let mut shelf = failing_shelf(alloc, &FILES, most, call)?;
-    said(alloc, words, &mut shelf)
+    let said = said(alloc, words, &mut shelf)?;
+    Ok(said.as_str() == answer)
 }
 
 /// Words, and how many calls of the shelf there are: two for each file that is read, and one for a
@@ -101,11 +124,16 @@ static CALLS_OF: [(&str, u64); 6] = [
 #[test]
 fn a_file_after_a_failure_is_not_read(rt: HostRuntime) -> Result<(), Fail> {
     for &(words, calls) in &CALLS_OF {
-        let mut shelf = shelf_of(rt.alloc(), &FILES)?;
-        let said = said(rt.alloc(), words, &mut shelf)?;
-        assert_eq!(rt; shelf.calls(), calls, "{words} says {said}");
+        assert_eq!(rt; calls_of(rt.alloc(), words)?, calls, "{words}");
     }
     Ok(())
+}
+
+/// How many calls on the shelf a command makes.
+fn calls_of(alloc: Global, words: &str) -> Result<u64, Fail> {
+    let mut shelf = shelf_of(alloc, &FILES)?;
+    let _said = said(alloc, words, &mut shelf)?;
+    Ok(shelf.calls())
 }
 
 /// The number of bytes of a chip file, each of them `#`, and what `chip` must answer: the longest
@@ -117,13 +145,21 @@ static LENGTHS: [(usize, &str); 2] = [
 
 #[test]
 fn a_file_is_too_long(rt: HostRuntime) -> Result<(), Fail> {
-    let alloc = rt.alloc();
     for &(length, answer) in &LENGTHS {
-        let file = vec![in alloc; b'#'; length]?;
-        let files = vec![in alloc; ("comment".to_string(alloc)?, file)]?;
-        let mut shelf = MemShelf::new(files, Vec::new(alloc));
-        let said = said(alloc, "chip comment", &mut shelf)?;
-        assert_eq!(rt; said.as_str(), answer, "{length}");
+        assert!(rt; is_said_of_comment(rt.alloc(), length, answer)?, "{length}");
     }
     Ok(())
+}
+
+/// Whether `chip` says this of a comment of so many bytes.
+fn is_said_of_comment(alloc: Global, length: usize, answer: &str) -> Result<bool, Fail> {
+    let mut shelf = shelf_with_comment(alloc, length)?;
+    let said = said(alloc, "chip comment", &mut shelf)?;
+    Ok(said.as_str() == answer)
+}
+
+fn shelf_with_comment(alloc: Global, length: usize) -> Result<MemShelf, Fail> {
+    let name = "comment".to_string(alloc)?;
+    let file = vec![in alloc; b'#'; length]?;
+    Ok(MemShelf::new(vec![in alloc; (name, file)]?, Vec::new(alloc)))
 }
