@@ -8,7 +8,7 @@ pub mod MarkLemmas
 pub mod MarkedLemmas
 mod MarkedMasks
 pub mod Members
-mod NameLemmas
+pub mod NameLemmas
 pub mod NamesLemmas
 mod NumberReading
 pub mod Numbers

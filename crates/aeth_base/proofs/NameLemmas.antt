@@ -1,12 +1,20 @@
 -- Laws of names: they lie padded in memory, and are equal where their bytes are.
-use Rattle.std.proofs.Common.{◌≡◌, ◌≤◌, ◌-◌, ◌++◌, ◌∙◌, ℕ, true, List, length, drop}
-use Rattle.std.proofs.Common.{arith}
+use Rattle.std.proofs.Common.{◌≡◌, ◌≤◌, ◌-◌, ◌++◌, ◌∙◌, ℕ, true, List, Some, length, drop}
+use Rattle.std.proofs.Common.{ap, arith, sym}
 use Rattle.std.specs.Prelude.{replicate}
 use Rattle.std.proofs.lemmas.List.{drop-replicate, length-append, length-replicate}
+use Rattle.std.proofs.lemmas.Option.{cond_some}
 use Rattle.std.proofs.Math.Seq.{drop-append_seam, take-append_seam}
 use Rattle.aeth_base.specs.Limits.{max_name_bytes}
-use Rattle.aeth_base.specs.Name.{is_name}
+use Rattle.aeth_base.specs.Name.{is_name, name_of}
 use Rattle.aeth_base.specs.NameBytes.{IsPadded}
+
+-- A text that is a name is this name.
+pub name_only : (word name : List ℕ) → name_of word ≡ Some name
+    → (name ≡ word) × (is_name name ≡ true)
+name_only word name e =
+    let (is, same) = cond_some (is_name word) word name e in
+    (sym same, ap is_name (sym same) ∙ is)
 
 -- A name that is written into zeros is padded.
 pub is_padded-written : (name zeros : List ℕ) → zeros ≡ replicate max_name_bytes 0

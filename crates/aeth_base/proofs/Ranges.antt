@@ -1,8 +1,10 @@
 -- Laws of the numbers from a first one on.
-use Rattle.std.proofs.Common.{◌≡◌, ◌<◌, ◌≤◌, ◌+◌, ◌-◌, ◌++◌, ◌∙◌, ℕ, zero, suc, [], ◌∷◌, refl, ap}
-use Rattle.std.proofs.Common.{arith}
+use Rattle.std.proofs.Common.{◌≡◌, ◌<◌, ◌≤◌, ◌+◌, ◌-◌, ◌++◌, ◌∙◌, ℕ, zero, suc, [], ◌∷◌, Some, refl, ap}
+use Rattle.std.proofs.Common.{arith, map, slice_get, sym}
 use Rattle.std.specs.List.{range_with_len, All, Contains}
 use Rattle.std.proofs.lemmas.List.FromFn.{length-range_with_len, get_or-range_with_len}
+use Rattle.std.proofs.lemmas.List.FromFn.{length-map-range_with_len, get_or-map-range_with_len}
+use Rattle.std.proofs.lemmas.Option.{same_Some, slice_get-get_or, slice_get_within}
 
 -- One more number is the next one behind those before.
 pub range_with_len-more : (start size last : ℕ) → start + size ≡ last
@@ -18,6 +20,19 @@ pub range_more : (i n : ℕ) → i < n
 range_more i n within =
     let more : n - i ≡ suc (n - (i + 1)) = omega arith in
     rw more refl
+
+-- What stands at a place of their images is the image of the number there.
+pub map-range-at : {X : Type 0} (f : ℕ → X) (start size i : ℕ) (x : X)
+    → slice_get (map f (range_with_len start size)) i ≡ Some x → (i < size) × (x ≡ f (start + i))
+map-range-at f start size i x at =
+    let images = map f (range_with_len start size) in
+    let within = slice_get_within images i x at in
+    let count = length-map-range_with_len f start size in
+    let low : i < size = omega (arith, within, count) in (
+      low,
+      same_Some x (f (start + i)) (sym at ∙ slice_get-get_or images i x within
+          ∙ ap Some (get_or-map-range_with_len f start size i (start + i) x low refl)),
+    )
 
 -- Each number from the first one on and below the end is one of them.
 pub Contains-range : (low size x : ℕ) → low ≤ x → x < low + size

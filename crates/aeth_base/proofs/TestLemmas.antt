@@ -1,7 +1,7 @@
 -- Laws of tests and of what they tell: of truth values, of options, and of an order turned round.
 use Rattle.std.proofs.Common.{◌≡◌, ◌≢◌, Bool, true, false, IsTrue, Option, Some, None, refl, rules}
 use Rattle.std.specs.Prelude.{is_some}
-use Rattle.std.specs.Ordering.{ordering_reverse}
+use Rattle.std.specs.Ordering.{ordering_reverse, ordering_then}
 use Rattle.std.specs.declared.cmp.Ordering.{Ordering}
 use Rattle.std.specs.declared.cmp.Ordering.TheVariants.{Equal, Greater, Less}
 
@@ -31,3 +31,9 @@ equal_from_turned Equal turned is not_before not_after = refl
 equal_from_turned Greater Less is not_before not_after = absurd (not_after refl)
 equal_from_turned Greater Equal is not_before not_after = cc
 equal_from_turned Greater Greater is not_before not_after = cc
+
+-- Where neither of two comparisons tells two apart, each doesn't.
+pub then-Equal : (o p : Ordering) → ordering_then o p ≡ Equal → (o ≡ Equal) × (p ≡ Equal)
+then-Equal Less p is = cc is
+then-Equal Equal p is = (refl, is)
+then-Equal Greater p is = cc is

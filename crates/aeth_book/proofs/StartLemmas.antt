@@ -1,14 +1,14 @@
 -- Laws of free starts: what the test of a path says, place by place.
 use Rattle.std.proofs.Common.{◌≡◌, ◌+◌, ◌%◌, ◌&&◌, ◌↔◌, ℕ, zero, suc, true, false}
-use Rattle.std.proofs.Common.{List, [], ◌∷◌, Contains, Some, slice_get, take, refl, arith}
+use Rattle.std.proofs.Common.{List, [], ◌∷◌, Contains, Some, slice_get, refl, arith}
 use Rattle.std.proofs.lemmas.Bool.{and_from, and_parts, both_ways, false_from_ne_true, not-true}
 use Rattle.std.proofs.lemmas.Bool.{not_from_false}
-use Rattle.std.proofs.lemmas.List.Sums.{sum_by-cons}
 use Rattle.std.proofs.lemmas.Option.{none-some, same_Some}
 use Rattle.aeth_base.specs.declared.ids.LinkId.{LinkId}
 use Rattle.aeth_base.specs.declared.ids.Unit.{Unit as GroupUnit}
 use Rattle.aeth_base.proofs.TestLemmas.{IsTrue_from_true, true_from_IsTrue}
 use Rattle.aeth_chip.specs.Paths.{delay_of, offset}
+use Rattle.aeth_chip.proofs.OffsetLemmas.{offset-behind}
 use Rattle.aeth_slots.proofs.TestLemmas.{Contains-where}
 use Rattle.aeth_book.specs.Book.{BookData}
 use Rattle.aeth_group.specs.Occupation.{occupies}
@@ -22,13 +22,6 @@ abbrev pub IsClear : BookData → GroupUnit → ℕ → List LinkId → ℕ → 
 IsClear book unit after path x = (place : ℕ) (link : LinkId) → slice_get path place ≡ Some link
     → is_taken book unit link.0 ((x + (after + offset book.links path place)) % book.size) ≡ false
 
--- The offset of a place behind a first link.
-behind : (book : BookData) (after : ℕ) (k : LinkId) (path : List LinkId) (place : ℕ)
-    → after + offset book.links (k ∷ path) (suc place)
-    ≡ (after + delay_of book.links k) + offset book.links path place
-behind book after k path place =
-    omega (arith, sum_by-cons (delay_of book.links) k (take place path))
-
 clear_from_open : (book : BookData) (unit : GroupUnit) (after : ℕ) (path : List LinkId) (x : ℕ)
     → is_open book unit after path x ≡ true → IsClear book unit after path x
 clear_from_open book unit after [] x opens place link at = absurd (none-some link at)
@@ -40,7 +33,7 @@ clear_from_open book unit after (k ∷ path) x opens zero link at =
 clear_from_open book unit after (k ∷ path) x opens (suc place) link at =
     let rest = clear_from_open book unit (after + delay_of book.links k) path x
     (and_parts _ _ opens).1 place link at in
-    rw (behind book after k path place) rest
+    rw (offset-behind book.links after k path place) rest
 
 open_from_clear : (book : BookData) (unit : GroupUnit) (after : ℕ) (path : List LinkId) (x : ℕ)
     → IsClear book unit after path x → is_open book unit after path x ≡ true
@@ -51,7 +44,7 @@ open_from_clear book unit after (k ∷ path) x clear =
     rw now at (clear 0 k refl) in
     and_from _ _ (not_from_false _ first)
     (open_from_clear book unit (after + delay_of book.links k) path x
-    (λ place link at. rw (behind book after k path place) at (clear (suc place) link at)))
+    (λ place link at. rw (offset-behind book.links after k path place) at (clear (suc place) link at)))
 
 -- The free starts of a path are those slots of the table.
 pub free_starts-each : (book : BookData) (unit : GroupUnit) (path : List LinkId) (start : ℕ)

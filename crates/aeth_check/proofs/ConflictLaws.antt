@@ -1,24 +1,25 @@
 -- Two grants pass the test of conflicts exactly where they conflict.
-use Rattle.std.proofs.Common.{◌≡◌, ◌∙◌, ◌<◌, ◌+◌, ◌%◌, ◌&&◌, ℕ, zero, suc, Bool, true}
+use Rattle.std.proofs.Common.{◌≡◌, ◌∙◌, ◌+◌, ◌%◌, ◌&&◌, ℕ, zero, suc, Bool, true}
 use Rattle.std.proofs.Common.{List, [], ◌∷◌, Contains, Some, length, slice_get, refl, sym, ap, inl}
-use Rattle.std.proofs.Common.{inr, arith, zero-add, take}
+use Rattle.std.proofs.Common.{inr, arith, zero-add}
 use Rattle.std.specs.Bool.{Decides}
 use Rattle.std.specs.List.{list_any, range_with_len}
 use Rattle.std.proofs.lemmas.Bool.{and_from, and_parts, false≢true, or_cases, or_left, or_right}
-use Rattle.std.proofs.lemmas.List.Sums.{sum_by-cons}
-use Rattle.std.proofs.lemmas.Option.{none-some, same_Some, slice_get_cases}
+use Rattle.std.proofs.lemmas.Option.{none-some, same_Some}
 use Rattle.aeth_base.specs.declared.ids.LinkId.{LinkId}
 use Rattle.aeth_chip.specs.Paths.{delay_of, offset}
 use Rattle.aeth_chip.specs.declared.node.Link.{Link}
+use Rattle.aeth_chip.proofs.OffsetLemmas.{offset-behind}
 use Rattle.aeth_slots.specs.SlotSet.{Slots}
 use Rattle.aeth_base.proofs.Ranges.{Contains-range}
 use Rattle.aeth_group.specs.Conflict.{Conflict}
-use Rattle.aeth_group.specs.Members.{GroupsData, has_unit, use_has}
+use Rattle.aeth_group.specs.Members.{GroupsData, has_unit}
 use Rattle.aeth_group.specs.Occupation.{holds_in}
 use Rattle.aeth_group.specs.declared.grant.Grant.{Grant}
 use Rattle.aeth_group.proofs.ConflictLemmas.{conflict-sym, conflict_from_held, held_from_conflict}
 use Rattle.aeth_group.proofs.ListLemmas.{any_from_passes, passes_from_any, same_tests}
 use Rattle.aeth_group.proofs.OccupationLemmas.{occupies-Decides}
+use Rattle.aeth_group.proofs.RowLemmas.{use_is_there}
 use Rattle.aeth_check.specs.Meetings.{conflicts, meets}
 
 -- A place of a path where flits enter a link in a slot that passes.
@@ -30,12 +31,6 @@ record Meeting (test : ℕ → ℕ → Bool) (starts : Slots) (links : List Link
   on_path : slice_get path place ≡ Some link
   starts_in : Contains starts.slots start
   passes : test link.0 ((start + (after + offset links path place)) % starts.size) ≡ true
-
-later : (links : List Link) (after : ℕ) (k : LinkId) (path : List LinkId) (place : ℕ)
-    → after + offset links (k ∷ path) (suc place)
-    ≡ (after + delay_of links k) + offset links path place
-later links after k path place =
-    let more = sum_by-cons (delay_of links) k (take place path) in omega (arith, more)
 
 meeting_from : (test : ℕ → ℕ → Bool) (starts : Slots) (links : List Link) (after : ℕ)
     (path : List LinkId) → meets test starts links after path ≡ true
@@ -63,7 +58,7 @@ meeting_from test starts links after (k ∷ path) found =
             start = rest.start;
             on_path = rest.on_path;
             starts_in = rest.starts_in;
-            passes = rw (later links after k path rest.place) rest.passes;
+            passes = rw (offset-behind links after k path rest.place) rest.passes;
           }
     ]
 
@@ -81,18 +76,8 @@ meets_from test starts links after (k ∷ path) zero start link on has passes =
 meets_from test starts links after (k ∷ path) (suc place) start link on has passes =
     or_right (list_any (λ x. test k.0 ((x + after) % starts.size)) starts.slots) _
     (meets_from test starts links (after + delay_of links k) path place start link on has
-    (ap (λ a. test link.0 ((start + a) % starts.size)) (sym (later links after k path place))
+    (ap (λ a. test link.0 ((start + a) % starts.size)) (sym (offset-behind links after k path place))
     ∙ passes))
-
--- Where a use case has a unit, there is such a use case.
-use_below : (groups : GroupsData) (a : Grant) (u : ℕ) → has_unit groups a.unit u ≡ true
-    → u < length groups.uses
-use_below groups a u has = elim ((slice_get_cases groups.uses u).1) [
-  | inl found ↦ found.1
-  | inr past ↦
-      let (one, group) = and_parts _ _ has in
-      absurd (false≢true (sym (ap (λ o. use_has o a.unit.conn.0) past.1) ∙ one))
-]
 
 -- The test decides.
 pub conflicts-Decides : (links : List Link) (groups : GroupsData) (a b : Grant)
@@ -132,7 +117,7 @@ conflicts-Decides links groups a b = (
       && meets (λ l s. holds_in groups links v l s b) a.slots links 0 a.path)
       (range_with_len 0 (length groups.uses)) u
       (Contains-range 0 (length groups.uses) u (omega arith)
-      (let below = use_below groups a u has in omega (arith, below)))
+      (let below = use_is_there groups a.unit u has in omega (arith, below)))
       (and_from _ _ has (meets_from (λ l s. holds_in groups links u l s b) a.slots links 0 a.path
       at.place at.start at.link at.on_path at.starts
       (ap (λ l. holds_in groups links u l ((at.start + (0 + offset links a.path at.place))

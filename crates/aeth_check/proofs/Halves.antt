@@ -33,7 +33,7 @@ for_parts unit side grant found =
     }
 
 -- A grant that is sought, with any path and slots.
-abbrev sought : GroupUnit → Side → Grant → Grant
+abbrev pub sought : GroupUnit → Side → Grant → Grant
 sought unit side grant =
     record { unit = unit; side = side; path = grant.path; slots = grant.slots }
 

@@ -17,4 +17,4 @@ mod ChannelLaws
 mod AcceptedLaws
 pub mod PlanParts
 mod GrantOrder
-mod Halves
+pub mod Halves

@@ -1,5 +1,4 @@
--- Laws of joined lists: one behind another, the first elements of one and those that follow; of
--- links that join a node to a node; and of open links.
+-- Laws of joined lists, of links that join a node to a node, and of open links.
 use Rattle.std.proofs.Common.{◌≡◌, ◌∙◌, ◌+◌, ◌++◌, ℕ, zero, suc, List, [], ◌∷◌, Some, length}
 use Rattle.std.proofs.Common.{map, slice_get, Contains, refl, sym, ap, subst, inl, inr}
 use Rattle.std.proofs.Common.{length-append}
@@ -18,20 +17,6 @@ use Rattle.aeth_chip.specs.declared.node.Node.TheVariants.{Router}
 -- ---- joined elements
 
 module _ {X N : Type 0} (Begins : X → N → Type 0) (to : X → N) where
-  -- Elements that are joined from where others end are joined behind them.
-  pub joined-append : (a : N) (front path : List X) → IsJoined Begins to a front
-      → IsJoined Begins to (end_of to a front) path → IsJoined Begins to a (front ++ path)
-  joined-append a [] path first onward = onward
-  joined-append a (x ∷ front) path first onward =
-      (first.0, joined-append (to x) front path first.1 onward)
-
-  -- The first of joined elements are joined, and those that follow are from where the first end.
-  pub joined-prefix : (a : N) (front path : List X) → IsJoined Begins to a (front ++ path)
-      → IsJoined Begins to a front × IsJoined Begins to (end_of to a front) path
-  joined-prefix a [] path joined = (tt, joined)
-  joined-prefix a (x ∷ front) path joined =
-      let parts = joined-prefix (to x) front path joined.1 in ((joined.0, parts.0), parts.1)
-
   -- Each of joined elements begins somewhere.
   pub joined-each : (a : N) (path : List X) → IsJoined Begins to a path → (x : X) → Contains path x
       → (from : N) × Begins x from

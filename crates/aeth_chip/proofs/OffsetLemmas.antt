@@ -23,6 +23,13 @@ path_delay-cons : (links : List Link) (l : LinkId) (path : List LinkId)
     → path_delay links (l ∷ path) ≡ delay_of links l + path_delay links path
 path_delay-cons links l path = sum_by-cons (delay_of links) l path
 
+-- The offset of a place behind a first link.
+pub offset-behind : (links : List Link) (after : ℕ) (first : LinkId) (path : List LinkId) (place : ℕ)
+    → after + offset links (first ∷ path) (suc place)
+    ≡ (after + delay_of links first) + offset links path place
+offset-behind links after first path place =
+    omega (arith, sum_by-cons (delay_of links) first (take place path))
+
 -- Each further offset adds the delay of the link before.
 pub offset-more : (links : List Link) (path : List LinkId) (i : ℕ) (l : LinkId)
     → slice_get path i ≡ Some l → offset links path (i + 1) ≡ offset links path i + delay_of links l

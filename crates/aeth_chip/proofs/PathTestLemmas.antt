@@ -24,7 +24,7 @@ use Rattle.aeth_chip.proofs.JoinedLaws.{joins-none, joins-one}
 use Rattle.aeth_chip.proofs.NodeLemmas.{same_node-refl, same_node-true}
 
 -- A link that passes is there.
-passing : (test : Link → Bool) (found : Option Link) → link_passes test found ≡ true
+pub passing : (test : Link → Bool) (found : Option Link) → link_passes test found ≡ true
     → (link : Link) × (found ≡ Some link) × (test link ≡ true)
 passing test None passes = absurd (false≢true passes)
 passing test (Some link) passes = (link, refl, passes)

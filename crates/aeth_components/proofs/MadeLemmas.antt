@@ -10,6 +10,7 @@ use Rattle.std.proofs.lemmas.List.{length-append, take_all}
 use Rattle.std.proofs.lemmas.List.FromFn.{length-map-range_with_len}
 use Rattle.std.proofs.lemmas.Option.{slice_get-get_or, slice_get-map, slice_get_within, same_Some}
 use Rattle.aeth_base.proofs.Lists.{item-at}
+use Rattle.aeth_base.proofs.Ranges.{map-range-at}
 use Rattle.aeth_chip.specs.Chip.{ChipData, IsChip, IsNode}
 use Rattle.aeth_chip.specs.Nodes.{begins_at, receives_on, same_node, sends_on}
 use Rattle.aeth_chip.specs.Wires.{HaveDelays, further_wires, wire_at, wires_of}
@@ -23,7 +24,7 @@ use Rattle.aeth_router.proofs.WireLemmas.{AreLinks-entering_wires}
 use Rattle.aeth_router.specs.Router.{is_among, last_wire}
 use Rattle.aeth_router.specs.declared.part.Part.{Part}
 use Rattle.aeth_components.proofs.FrameLemmas.{from-map}
-use Rattle.aeth_components.proofs.MadeParts.{StageAt, among-first, among-only, at-append, at-range}
+use Rattle.aeth_components.proofs.MadeParts.{StageAt, among-first, among-only, at-append}
 use Rattle.aeth_components.proofs.MadeParts.{length-made_stages}
 use Rattle.aeth_components.specs.Ends.{part_number}
 use Rattle.aeth_components.proofs.MadeParts.{part_number-below}
@@ -83,12 +84,14 @@ module _ (chip : ChipData) (rooms : List ℕ) where
       at) [
         | inl here ↦ elim (at-append interfaces routers i part here.1) [
           | inl first ↦
-              let one = at-range (made_interface chip rooms) 0 (length chip.nis) i part first.1 in
+              let one =
+              map-range-at (made_interface chip rooms) 0 (length chip.nis) i part first.1 in
               IsInterface one.0
               (one.1 ∙ ap (made_interface chip rooms) (let same : 0 + i ≡ i = omega arith in same))
           | inr second ↦
               let one =
-              at-range (made_router chip ByHeader) 0 (length chip.routers) second.0 part second.2 in
+              map-range-at (made_router chip ByHeader) 0 (length chip.routers) second.0 part
+              second.2 in
               let place = second.1 in
               IsRouter second.0 one.0 (omega arith)
               (one.1 ∙ ap (made_router chip ByHeader)

@@ -1,13 +1,12 @@
 -- Lists of components: ranges, nodes by their places, and the stages of links.
 use Rattle.std.proofs.Common.{ℕ, zero, suc, ◌≡◌, ◌<◌, ◌≤◌, ◌+◌, ◌-◌, refl, sym, ◌∙◌, ap, arith}
-use Rattle.std.proofs.Common.{List, [], ◌∷◌, ◌++◌, length, map, take, Some}
+use Rattle.std.proofs.Common.{List, [], ◌∷◌, ◌++◌, length, take, Some}
 use Rattle.std.proofs.Common.{slice_get, true, false, inl, inr, eqb-true}
 use Rattle.std.proofs.lemmas.Bool.{cases_Bool}
 use Rattle.std.specs.Prelude.{◌==◌, slice_index, ◌⊎◌}
 use Rattle.std.specs.List.{range_with_len}
 use Rattle.std.proofs.lemmas.List.{length-append}
 use Rattle.std.proofs.lemmas.List.FromFn.{length-map-range_with_len}
-use Rattle.std.proofs.lemmas.Option.{same_Some}
 use Rattle.aeth_chip.specs.Chip.{IsNode}
 use Rattle.aeth_chip.specs.Nodes.{same_node}
 use Rattle.aeth_chip.specs.Paths.{delay_of}
@@ -19,7 +18,7 @@ use Rattle.aeth_chip.proofs.WireLemmas.{sum_by-take_more}
 use Rattle.aeth_router.specs.Router.{is_among}
 use Rattle.aeth_router.specs.declared.part.Part.{Part}
 use Rattle.aeth_base.proofs.Lists.{item-at}
-use Rattle.aeth_base.proofs.Ranges.{range_with_len-more}
+use Rattle.aeth_base.proofs.Ranges.{map-range-at, range_with_len-more}
 use Rattle.std.proofs.lemmas.List.{flat_map_more}
 use Rattle.std.specs.List.{flat_map}
 use Rattle.aeth_components.specs.Ends.{part_number}
@@ -37,22 +36,6 @@ at-append (first ∷ xs) ys (suc i) x at =
       | inl here ↦ inl (let within = here.0 in omega arith, here.1)
       | inr later ↦ inr (later.0, let place = later.1 in omega arith, later.2)
     ]
-
--- An element of a mapped range is that of its number.
-pub at-range : {X : Type 0} (f : ℕ → X) (start size i : ℕ) (x : X)
-    → slice_get (map f (range_with_len start size)) i ≡ Some x → (i < size) × (x ≡ f (start + i))
-at-range f start zero i x at = absurd cc
-at-range f start (suc size) zero x at = (
-  omega arith,
-  sym (same_Some (f start) x at)
-      ∙ ap f (let same : start ≡ start + 0 = omega arith in same),
-)
-at-range f start (suc size) (suc i) x at =
-    let rest = at-range f (start + 1) size i x at in (
-      let within = rest.0 in omega arith,
-      rest.1
-          ∙ ap f (let same : start + 1 + i ≡ start + suc i = omega arith in same),
-    )
 
 -- One node is at one place.
 pub same_node-place : (count : ℕ) (some other : Node) → same_node some other ≡ true
@@ -140,7 +123,7 @@ module _ (links : List Link) where
         | inl here ↦ stage-at count (omega arith) number part here.1
         | inr later ↦
             let stages = delay_of links (record { 0 = count }) - 1 in
-            let one = at-range (made_stage links count) 0 stages later.0 part later.2 in
+            let one = map-range-at (made_stage links count) 0 stages later.0 part later.2 in
             let item = item-at links count (omega arith) in
             let place = later.1 in
             let short : later.0 < item.0.delay - 1 = rw item.1 at one.0 in

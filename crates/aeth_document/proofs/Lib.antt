@@ -4,5 +4,6 @@ mod TextLemmas
 pub mod Least
 pub mod WalkLemmas
 pub mod ChainLemmas
+pub mod Fronts
 mod KeysInOrder
 pub mod KeyLemmas

@@ -1,22 +1,15 @@
 -- A table's and an array's values, as lists.
-use Rattle.std.proofs.Common.{◌≡◌, ◌∙◌, sym, Bool, Some, List, [], ◌∷◌, map, refl, ap, String}
-use Rattle.std.proofs.Common.{Global, string_bytes}
+use Rattle.std.proofs.Common.{◌≡◌, ◌∙◌, sym, Bool, Some, List, [], ◌∷◌, map, refl, ap}
 use Rattle.std.specs.List.{list_all}
 use Rattle.std.proofs.lemmas.List.Folds.{list_all-map}
 use Rattle.toml.specs.Data.{Data, as_array}
-use Rattle.toml.specs.View.{view, items_view, members_view}
+use Rattle.toml.specs.View.{view, items_view}
 use Rattle.toml.specs.declared.value.Value.{Value}
-use Rattle.aeth_document.specs.Keys.{listed, entries_of, all_items}
+use Rattle.aeth_document.specs.Keys.{listed, all_items}
 
 pub listed-items_view : (vs : List Value) → listed (items_view vs) ≡ map view vs
 listed-items_view [] = refl
 listed-items_view (v ∷ vs) = ap (λ ds. view v ∷ ds) (listed-items_view vs)
-
-pub entries_of-members_view : (es : List (String Global × Value))
-    → entries_of (members_view es) ≡ map (λ e. (string_bytes e.0, view e.1)) es
-entries_of-members_view [] = refl
-entries_of-members_view (e ∷ es) =
-    ap (λ ds. (string_bytes e.0, view e.1) ∷ ds) (entries_of-members_view es)
 
 pub all_items-view : (p : Data → Bool) (d : Data) (vs : List Value)
     → Some (items_view vs) ≡ as_array d → list_all (λ v. p (view v)) vs ≡ all_items p (as_array d)

@@ -5,11 +5,6 @@ use Rattle.std.proofs.Common.{drop, get_or, length, map, refl, replicate, set, s
 use Rattle.aeth_network.specs.ByNumber.{each_by}
 
 module _ {X : Type 0} (f : ℕ → X → X) where
-  -- There are as many as before.
-  pub length-each : (m : ℕ) (xs : List X) → length (each_by f m xs) ≡ length xs
-  length-each m [] = refl
-  length-each m (x ∷ xs) = ap (λ n. suc n) (length-each (suc m) xs)
-
   -- Each one is changed.
   get_at : (m : ℕ) (xs : List X) (i : ℕ) (default : X) → i < length xs
       → get_or (each_by f m xs) i default ≡ f (m + i) (get_or xs i default)

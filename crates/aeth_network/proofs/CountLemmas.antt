@@ -1,25 +1,16 @@
 -- How many items of a list pass a test.
-use Rattle.std.proofs.Common.{◌≡◌, ◌≤◌, ◌+◌, ◌∙◌, ℕ, zero, suc, Bool, true, false, List, [], ◌∷◌, ap}
+use Rattle.std.proofs.Common.{◌≡◌, ◌≤◌, ◌+◌, ℕ, zero, suc, Bool, true, List, [], ◌∷◌}
 use Rattle.std.proofs.Common.{arith, cond, drop, inl, inr}
 use Rattle.std.specs.Prelude.{All, count_by}
 use Rattle.std.proofs.lemmas.Bool.{cases_Bool}
 use Rattle.std.proofs.lemmas.List.Elements.{All-head, All-tail}
 use Rattle.std.proofs.lemmas.List.Sums.{sum_by-cons}
+use Rattle.aeth_base.proofs.Lists.{count_by-no, count_by-yes}
 
 -- A word that passes a test counts once more.
 pub count-cons : {X : Type 0} (p : X → Bool) (x : X) (xs : List X)
     → count_by p (x ∷ xs) ≡ cond (p x) 1 0 + count_by p xs
 count-cons p x xs = sum_by-cons (λ y. cond (p y) 1 0) x xs
-
-pub count-yes : {X : Type 0} (p : X → Bool) (x : X) (xs : List X) → p x ≡ true
-    → count_by p (x ∷ xs) ≡ 1 + count_by p xs
-count-yes p x xs passes =
-    count-cons p x xs ∙ ap (λ test. cond test 1 0 + count_by p xs) passes
-
-pub count-no : {X : Type 0} (p : X → Bool) (x : X) (xs : List X) → p x ≡ false
-    → count_by p (x ∷ xs) ≡ 0 + count_by p xs
-count-no p x xs fails =
-    count-cons p x xs ∙ ap (λ test. cond test 1 0 + count_by p xs) fails
 
 -- A test that passes for no more rows than another counts no more.
 pub count-weaker : {X : Type 0} (p q : X → Bool) (xs : List X)
@@ -30,10 +21,10 @@ count-weaker p q (x ∷ xs) passes =
     let other = count-cons q x xs in
     elim (cases_Bool (p x)) [
       | inl here ↦
-          let more = count-yes p x xs here in
-          let fewer = count-yes q x xs (passes x here) in
+          let more = count_by-yes p x xs here in
+          let fewer = count_by-yes q x xs (passes x here) in
           omega arith
-      | inr not_here ↦ let more = count-no p x xs not_here in omega arith
+      | inr not_here ↦ let more = count_by-no p x xs not_here in omega arith
     ]
 
 -- Nor does it of the later rows.
@@ -48,10 +39,10 @@ count-behind {X} p q zero (x ∷ xs) passes =
     let first = All-head holds x xs passes in
     elim (cases_Bool (p x)) [
       | inl here ↦
-          let more = count-yes p x xs here in
-          let fewer = count-yes q x xs (first here) in
+          let more = count_by-yes p x xs here in
+          let fewer = count_by-yes q x xs (first here) in
           omega arith
-      | inr not_here ↦ let more = count-no p x xs not_here in omega arith
+      | inr not_here ↦ let more = count_by-no p x xs not_here in omega arith
     ]
 count-behind p q (suc k) (x ∷ xs) passes =
     let later = count-behind p q k xs passes in

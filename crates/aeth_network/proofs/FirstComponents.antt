@@ -1,8 +1,7 @@
 -- The components of a network before its first cycle, and the room of its channels.
 use Rattle.std.proofs.Common.{◌≡◌, ◌≤◌, ◌<◌, ◌+◌, ◌∙◌, ◌^◌, ℕ}
-use Rattle.std.proofs.Common.{Bool, false}
-use Rattle.std.proofs.Common.{List, [], ◌∷◌, None, ap, arith, length}
-use Rattle.std.proofs.Common.{map, refl, replicate, subst, sym}
+use Rattle.std.proofs.Common.{List, None, ap, arith, length}
+use Rattle.std.proofs.Common.{map, replicate, subst, sym}
 use Rattle.std.specs.Prelude.{count_by, slice_index}
 use Rattle.std.proofs.lemmas.Bool.Decides.{nat_tests}
 use Rattle.std.proofs.lemmas.List.{get_or-replicate, length-map}
@@ -22,12 +21,12 @@ use Rattle.aeth_components.specs.declared.event.Event.{Event}
 use Rattle.aeth_components.specs.declared.making.RouterKind.TheVariants.{ByHeader}
 use Rattle.aeth_components.proofs.MadeLemmas.{IsWired-new, length-new_parts}
 use Rattle.aeth_components.proofs.PartLemmas.{frames-switched}
+use Rattle.aeth_report.proofs.Sums.{count_by-never}
 use Rattle.aeth_running.proofs.PlayedTables.{frames-first}
 use Rattle.aeth_running.specs.Routing.{Routing, entered_first, kind_of}
 use Rattle.aeth_stimuli.specs.Loaded.{no_lane}
 use Rattle.aeth_stimuli.specs.Stimuli.{Offer}
 use Rattle.aeth_network.specs.Fits.{AreFit, HaveCounts, is_accepted}
-use Rattle.aeth_network.proofs.CountLemmas.{count-no}
 
 -- A channel of which no session has gone.
 pub IsLane-none : (words parts : ℕ) → 0 < parts → IsLane words parts no_lane
@@ -93,14 +92,6 @@ module _ (routing : Routing) (chip : ChipData) (is_chip : IsChip chip) (rooms : 
       let few = wires_of-few chip.links (have_delays chip is_chip) in
       omega arith
 
--- A test that fails counts none.
-count-none : {X : Type 0} (p : X → Bool) (xs : List X) → ((x : X) → p x ≡ false) → count_by p xs ≡ 0
-count-none p [] fails = refl
-count-none p (x ∷ xs) fails =
-    let one = count-no p x xs (fails x) in
-    let rest = count-none p xs fails in
-    omega arith
-
 -- Channels of which no session has gone accept none.
 pub AreFit-none : (words parts count : ℕ) (coming : List Offer) → 0 < parts
     → AreFit words parts (replicate count 0) coming (replicate count no_lane)
@@ -112,8 +103,8 @@ AreFit-none words parts count coming some number lane at =
     ∙ get_or-replicate count number no_lane no_lane (omega arith) in
     let until : slice_index (replicate count 0) number ≡ 0 =
     get_or-replicate count number 0 0 (omega arith) in
-    let none = count-none (is_accepted (replicate count 0) number) coming
-    (λ offer. grind (arith, nat_tests, until)) in
+    let none = count_by-never (is_accepted (replicate count 0) number) coming
+    (λ i offer at. grind (arith, nat_tests, until)) in
     let empty = IsLane-none words parts some in
     let fits : no_lane.first + no_lane.accepted
     + count_by (is_accepted (replicate count 0) number) coming ≤ words = omega arith in

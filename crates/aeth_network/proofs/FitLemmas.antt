@@ -19,7 +19,8 @@ use Rattle.aeth_stimuli.specs.Stimuli.{Offer, Take, is_over}
 use Rattle.aeth_schedule.specs.declared.going.Going.{Going}
 use Rattle.aeth_trace.specs.Channels.{channel_number}
 use Rattle.aeth_network.specs.Fits.{AreFit, HaveCounts, IsFit, is_accepted}
-use Rattle.aeth_network.proofs.CountLemmas.{count-cons, count-weaker, count-yes}
+use Rattle.aeth_base.proofs.Lists.{count_by-yes}
+use Rattle.aeth_network.proofs.CountLemmas.{count-cons, count-weaker}
 use Rattle.aeth_components.proofs.LaneLemmas.{each-with_lane, length-with_lane}
 
 module _ (words parts : ℕ) where
@@ -39,7 +40,7 @@ module _ (words parts : ℕ) where
             let room = is.room in
             let own : is_accepted untils k offer ≡ true =
             rw (now, same) (grind (arith, nat_tests)) in
-            let counts = count-yes (is_accepted untils k) offer coming own in
+            let counts = count_by-yes (is_accepted untils k) offer coming own in
             record {
               sound = record {
                 sender = sound.sender;

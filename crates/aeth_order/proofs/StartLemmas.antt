@@ -1,6 +1,6 @@
 -- The table of units of an application, in which all of them wait.
 use Rattle.std.proofs.Common.{◌≡◌, ◌<◌, ◌≤◌, ◌∙◌, ◌+◌, ◌*◌, ◌/◌, ◌%◌, ◌++◌, ◌&&◌, ℕ, zero, suc}
-use Rattle.std.proofs.Common.{Bool, false, eqb, List, [], ◌∷◌, Some, refl}
+use Rattle.std.proofs.Common.{Bool, false, eqb, List, [], ◌∷◌, refl}
 use Rattle.std.proofs.Common.{sym, ap, inl, inr, subst, arith, filter, length, map, slice_get}
 use Rattle.std.specs.Prelude.{All, flat_map}
 use Rattle.std.specs.List.{items_where_true, list_any, range_with_len}
@@ -10,13 +10,12 @@ use Rattle.std.proofs.lemmas.List.{flat_map_more, map-append}
 use Rattle.std.proofs.lemmas.List.Elements.{filter-append}
 use Rattle.std.proofs.lemmas.List.Sorted.{Contains-permutation, IsPermutation-sym}
 use Rattle.std.specs.List.Sorted.{IsPermutation}
-use Rattle.std.proofs.lemmas.List.FromFn.{get_or-map-range_with_len, length-map-range_with_len}
+use Rattle.std.proofs.lemmas.List.FromFn.{length-map-range_with_len}
 use Rattle.std.proofs.lemmas.Nat.{div-mul-add}
-use Rattle.std.proofs.lemmas.Option.{same_Some, slice_get-get_or, slice_get_within}
 use Rattle.std.proofs.lemmas.Simd.{map-map}
 use Rattle.aeth_base.specs.declared.ids.Unit.{Unit as GroupUnit}
 use Rattle.aeth_base.proofs.Lists.{item-at}
-use Rattle.aeth_base.proofs.Ranges.{range_with_len-more}
+use Rattle.aeth_base.proofs.Ranges.{map-range-at, range_with_len-more}
 use Rattle.aeth_app.specs.App.{AppData, IsApp, is_marked}
 use Rattle.aeth_app.specs.Limits.{max_uses}
 use Rattle.aeth_group.specs.Members.{GroupsData, IsGroups, UseGroupData, groups_of, is_member}
@@ -28,20 +27,6 @@ use Rattle.aeth_order.specs.Grid.{places, unit_at}
 use Rattle.aeth_order.specs.Units.{all_units, keys_by, keys_of}
 use Rattle.aeth_base.proofs.Filters.{filter-no, filter-yes}
 use Rattle.aeth_order.proofs.GridLemmas.{marked-at, marked-map}
-
--- ---- lists that are made number by number
-
--- What stands at a place of such a list.
-made-at : {X : Type 0} (f : ℕ → X) (n i : ℕ) (x : X)
-    → slice_get (map f (range_with_len 0 n)) i ≡ Some x → (i < n) × (x ≡ f i)
-made-at f n i x at =
-    let within = slice_get_within (map f (range_with_len 0 n)) i x at in
-    let size = length-map-range_with_len f 0 n in
-    let low : i < n = omega (arith, within, size) in (
-      low,
-      same_Some _ _ (sym at ∙ slice_get-get_or (map f (range_with_len 0 n)) i x within)
-          ∙ get_or-map-range_with_len f 0 n i i x low (omega arith),
-    )
 
 -- ---- each place has its own unit
 
@@ -66,9 +51,11 @@ grid-start app groups is are =
           ∙ sym (length-map-range_with_len (λ p. keys_of app (unit_at p)) 0
           (places (length app.connections)));
       placed = λ place a at.
-          let (low, keys) = made-at (λ p. keys_of app (unit_at p))
+          let (low, keys) = map-range-at (λ p. keys_of app (unit_at p)) 0
           (places (length app.connections)) place a at in
-          subst (λ b. IsPlaced place b) (sym keys) (keys-placed app place is low);
+          let same : 0 + place ≡ place = omega arith in
+          subst (λ b. IsPlaced place b) (sym (keys ∙ ap (λ p. keys_of app (unit_at p)) same))
+          (keys-placed app place is low);
     }
 
 -- All units wait, in their own order.

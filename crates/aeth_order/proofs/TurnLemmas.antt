@@ -8,6 +8,7 @@ use Rattle.std.specs.declared.cmp.Ordering.TheVariants.{Less, Equal, Greater}
 use Rattle.std.proofs.lemmas.Bool.{cases_Bool}
 use Rattle.std.proofs.lemmas.Cmp.{back_total, nat_cmp_total, on_total, then_total}
 use Rattle.std.proofs.lemmas.Map.Lookups.{exact_unsigned}
+use Rattle.aeth_base.proofs.TestLemmas.{then-Equal}
 use Rattle.aeth_seats.specs.Places.{Place}
 use Rattle.aeth_order.specs.declared.keys.UnitKeys.{UnitKeys}
 use Rattle.aeth_order.specs.Order.{is_seated, seat_key, turn_order, unit_order}
@@ -23,12 +24,6 @@ unit_total =
 
 pub turn_total : (places : List (Option Place)) → IsTotalOrder (turn_order places)
 turn_total places = then_total (on_total (seat_key places) nat_cmp_total) unit_total
-
--- Where neither of two comparisons tells two apart, each doesn't.
-then-Equal : (o p : Ordering) → ordering_then o p ≡ Equal → (o ≡ Equal) × (p ≡ Equal)
-then-Equal Less p is = cc is
-then-Equal Equal p is = (refl, is)
-then-Equal Greater p is = cc is
 
 -- Units that their order doesn't tell apart have one connection and one group.
 pub unit_order-exact : (a b : UnitKeys) → unit_order a b ≡ Equal

@@ -1,6 +1,6 @@
 -- The test of open lists decides: links that are joined and end at distinct routers, live unless
 -- there are none, and near enough to the goal.
-use Rattle.std.proofs.Common.{◌≡◌, ◌∙◌, ◌+◌, ◌++◌, ◌≤◌, ◌&&◌, ◌||◌, ℕ, Bool, true, false, List, []}
+use Rattle.std.proofs.Common.{◌≡◌, ◌∙◌, ◌+◌, ◌++◌, ◌≤◌, ◌&&◌, ◌||◌, ℕ, true, false, List, []}
 use Rattle.std.proofs.Common.{◌∷◌, Contains, Option, Some, None, length, map, not, refl, sym, ap}
 use Rattle.std.proofs.Common.{slice_get, subst, inl, inr}
 use Rattle.std.specs.Bool.{Decides}
@@ -18,6 +18,7 @@ use Rattle.aeth_chip.specs.declared.node.Link.{Link}
 use Rattle.aeth_chip.specs.declared.node.Node.{Node}
 use Rattle.aeth_chip.specs.declared.node.Node.TheVariants.{Ni, Router}
 use Rattle.aeth_chip.proofs.NodeLemmas.{same_node-refl, same_node-true}
+use Rattle.aeth_chip.proofs.PathTestLemmas.{passing}
 use Rattle.aeth_book.specs.Book.{BookData}
 use Rattle.aeth_paths.specs.declared.request.Request.{Request}
 use Rattle.aeth_paths.specs.Open.{is_near}
@@ -35,11 +36,6 @@ record GoesOn (links : List Link) (to : LinkId → Node) (node : Node) (path res
   ends : ends_of links rest ≡ map (λ r. Router r) routers
   distinct : AreDistinct routers
   new : (r : RouterId) → Contains routers r → passes to path (Router r) ≡ false
-
-there : (test : Link → Bool) (found : Option Link) → link_passes test found ≡ true
-    → (link : Link) × ((found ≡ Some link) × (test link ≡ true))
-there test None passes = absurd (false≢true passes)
-there test (Some link) passes = (link, (refl, passes))
 
 near-enough : (most : ℕ) (path : List LinkId) (least : Option ℕ) → is_near most path least ≡ true
     → (more : ℕ) × ((least ≡ Some more) × (length path + more ≤ most))
@@ -64,7 +60,7 @@ module _ (book : BookData) (prices : List ℕ) (ask : Request) (b : NiId) (most 
       let (both, onward) =
       and_parts (leaves_from book.links node l && is_new f path (f.to l)) _ found in
       let (leaves, new) = and_parts (leaves_from book.links node l) _ both in
-      let (link, (is, begins)) = there (begins_at node) (slice_get book.links l.0) leaves in
+      let (link, is, begins) = passing (begins_at node) (slice_get book.links l.0) leaves in
       let (router, fresh) = and_parts (is_router (f.to l)) _ new in
       let (r, is_r) = router-from (f.to l) router in
       let its = goes-joined (f.to l) (path ++ l ∷ []) rest onward in

@@ -2,14 +2,12 @@
 use Rattle.std.proofs.Common.{◌≡◌, ◌≢◌, ◌∙◌, ℕ, List, [], ◌∷◌, map}
 use Rattle.std.proofs.Common.{sym}
 use Rattle.std.proofs.Common.{refl, ap, subst, arith}
-use Rattle.std.specs.Ordering.{ordering_then}
-use Rattle.std.specs.declared.cmp.Ordering.{Ordering}
-use Rattle.std.specs.declared.cmp.Ordering.TheVariants.{Equal, Greater, Less}
+use Rattle.std.specs.declared.cmp.Ordering.TheVariants.{Less}
 use Rattle.std.proofs.lemmas.Map.Lookups.{exact_bytes}
 use Rattle.std.proofs.lemmas.Option.{same_Some}
 use Rattle.aeth_base.specs.declared.ids.LinkId.{LinkId}
 use Rattle.aeth_base.specs.declared.ids.NiId.{NiId}
-use Rattle.aeth_base.proofs.TestLemmas.{equal_from_turned}
+use Rattle.aeth_base.proofs.TestLemmas.{equal_from_turned, then-Equal}
 use Rattle.aeth_chip.specs.declared.node.Link.{Link}
 use Rattle.aeth_chip.specs.declared.node.Node.{Node}
 use Rattle.aeth_chip.specs.declared.node.Node.TheVariants.{Ni, Router}
@@ -21,11 +19,6 @@ use Rattle.aeth_paths.specs.declared.request.Request.{Request}
 use Rattle.aeth_paths.specs.Candidates.{IsFirst, link_cost, path_order, slots_of}
 use Rattle.aeth_paths.proofs.EndLemmas.{path-some}
 use Rattle.aeth_paths.proofs.FirstLemmas.{path_total}
-
-then-equal : (first second : Ordering) → ordering_then first second ≡ Equal → second ≡ Equal
-then-equal Less second is = absurd (cc is)
-then-equal Equal second is = is
-then-equal Greater second is = absurd (cc is)
 
 links-back : (path : List LinkId)
     → map (λ n. record { 0 = n }) (map (λ (link : LinkId). link.0) path) ≡ path
@@ -43,7 +36,7 @@ pub one-path : (cost : LinkId → ℕ) (path other : List LinkId)
 one-path cost path other not_before not_after =
     let equal = equal_from_turned (path_order cost path other) (path_order cost other path)
     ((path_total cost).antisymm path other) not_before not_after in
-    same-links path other (exact_bytes _ _ (then-equal _ _ (then-equal _ _ equal)))
+    same-links path other (exact_bytes _ _ (then-Equal _ _ (then-Equal _ _ equal).1).1)
 
 -- Interfaces that are one node are one.
 pub same-ni : (a b : NiId) → Ni a ≡ Ni b → a ≡ b

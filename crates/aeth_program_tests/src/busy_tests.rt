@@ -1,5 +1,6 @@
 // In which cycles a network is busy: these were worked out by hand from the rules.
 use crate::busy_files::Texts;
+use crate::designs::WORDS;
 use crate::playing::is_busy_in;
 use std::alloc::Global;
 use std::test::Fail;
@@ -10,15 +11,6 @@ struct Row {
     cycles: u32,
     busy: &'static [u32],
 }
-
-/// Five words that are offered in one cycle.
-const FIVE: &str = "connection,side,cycle,value
-c0,fwd,1,100
-c0,fwd,1,101
-c0,fwd,1,102
-c0,fwd,1,103
-c0,fwd,1,104
-";
 
 const NO_WORDS: &str = "connection,side,cycle,value\n";
 
@@ -64,7 +56,7 @@ static ROWS: [Row; 5] = [
     },
     Row {
         texts: Texts {
-            words: FIVE,
+            words: WORDS,
             receivers: NO_ROWS,
             switches: NO_SWITCH,
         },
@@ -73,7 +65,7 @@ static ROWS: [Row; 5] = [
     },
     Row {
         texts: Texts {
-            words: FIVE,
+            words: WORDS,
             receivers: STALLS,
             switches: NO_SWITCH,
         },
@@ -82,7 +74,7 @@ static ROWS: [Row; 5] = [
     },
     Row {
         texts: Texts {
-            words: FIVE,
+            words: WORDS,
             receivers: WAVERS,
             switches: NO_SWITCH,
         },

@@ -1,7 +1,7 @@
 // Files of the worked examples, and what commands say of them.
 
 /// Two routers, each with a network interface, and a link each way between them.
-const PAIR: &str = r#"version = 1
+pub(crate) const PAIR: &str = r#"version = 1
 slots = 8
 routers = ["r0", "r1"]
 nis = ["n0", "n1"]
@@ -13,7 +13,7 @@ link = [
 "#;
 
 /// Two cores on the pair, and a connection between them.
-const ONE: &str = r#"version = 1
+pub(crate) const ONE: &str = r#"version = 1
 detour = 0
 core = [{name = "cpu", ni = "n0"}, {name = "mem", ni = "n1"}]
 [[connection]]
@@ -56,8 +56,9 @@ name = "u1"
 connections = ["c0", "c1"]
 "#;
 
-/// A plan for the connection of `one`.
-const PLAN: &str = "plan 1 8
+/// A plan for the connection of `one`: its words go in slots 0 and 4, over three links, and their
+/// credits return in slot 0.
+pub(crate) const PLAN: &str = "plan 1 8
 seat cpu n0 0
 seat mem n1 0
 grant c0 0 fwd 0,4,3 0,4
@@ -66,7 +67,7 @@ end
 ";
 
 /// Five words that are offered in one cycle.
-const WORDS: &str = "connection,side,cycle,value
+pub(crate) const WORDS: &str = "connection,side,cycle,value
 c0,fwd,1,100
 c0,fwd,1,101
 c0,fwd,1,102

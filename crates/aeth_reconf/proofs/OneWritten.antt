@@ -30,6 +30,13 @@ module _ (groups : GroupsData) (spans : SpanData) where
         → switch.row.to.0 < length groups.uses
         → bound switch ≤ go_by spans switch + 1
 
+  -- Such is when a switch begins to clear: it has finished what it closes.
+  pub clears-between : IsBetween (clears_from spans)
+  clears-between = record {
+    finished = λ switch. omega arith;
+    going = λ switch left known. omega arith;
+  }
+
   -- So it rises over rows in time.
   pub rising : (bound : Switch → ℕ) → IsBetween bound → (u low before : ℕ) (rows : List SwitchRow)
       → u < length groups.uses → AreKnown groups rows → before ≤ low + 1 → AreInTime spans u low rows

@@ -17,19 +17,13 @@ use Rattle.aeth_report.proofs.StaysAlone.{at-Contains}
 use Rattle.aeth_reconf.specs.Rows.{RowOf}
 use Rattle.aeth_reconf.specs.Windows.{AreWritable, AreQueuesApart, IsHandedOn, IsOwned, IsStayAt}
 use Rattle.aeth_reconf.specs.Windows.{clears_from, set_of, since_of}
-use Rattle.aeth_reconf.proofs.OneWritten.{IsBetween, rising}
+use Rattle.aeth_reconf.proofs.OneWritten.{clears-between, rising}
 use Rattle.aeth_reconf.proofs.StayTurns.{AreInTurn, opened_at, stays-turn}
 
 module _ (groups : GroupsData) (row_of : RowOf) (spans : SpanData) where
   -- When a switch has finished what it closes.
   abbrev ends : Switch → ℕ
   ends = clears_from spans
-
-  ends-between : IsBetween groups spans ends
-  ends-between = record {
-    finished = λ switch. omega arith;
-    going = λ switch left known. omega arith;
-  }
 
   -- When the switch that opens a stay has finished what it closes.
   abbrev began_at : Option Switch → ℕ
@@ -42,7 +36,7 @@ module _ (groups : GroupsData) (row_of : RowOf) (spans : SpanData) where
   in_turn (first ∷ rows) may c =
       let later : AreKnown groups rows = All-tail (IsKnown groups) first rows may.known in
       stays-turn groups ends c first rows 0
-      (rising groups spans ends ends-between first.to.0 0 0 rows
+      (rising groups spans ends (clears-between groups spans) first.to.0 0 0 rows
       (All-head (IsKnown groups) first rows may.known) later (omega arith)
       (in_time spans first.to.0 0 2 rows may.apart))
 

@@ -43,7 +43,7 @@ module _ (groups : GroupsData) (spans : SpanData) where
   finish_by switch = (close_by spans switch).fin
 
   -- Rows in time finish one after the other.
-  rising : (u low before : ℕ) (rows : List SwitchRow) → before ≤ low → AreInTime spans u low rows
+  pub rising : (u low before : ℕ) (rows : List SwitchRow) → before ≤ low → AreInTime spans u low rows
       → AreRising groups finish_by u before rows
   rising u low before [] le times = tt
   rising u low before (row ∷ rows) le times =

@@ -54,7 +54,7 @@ count_by-none test (x ∷ xs) none = elim (cases_Bool (test x)) [
 ]
 
 -- Where it passes at no place, the count is 0.
-count_by-never : {X : Type 0} (test : X → Bool) (xs : List X)
+pub count_by-never : {X : Type 0} (test : X → Bool) (xs : List X)
     → ((i : ℕ) (x : X) → slice_get xs i ≡ Some x → test x ≡ false) → count_by test xs ≡ 0
 count_by-never test [] never = refl
 count_by-never test (x ∷ xs) never =

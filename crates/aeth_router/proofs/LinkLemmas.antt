@@ -1,5 +1,5 @@
 -- Laws of the lists of links of a router.
-use Rattle.std.proofs.Common.{◌≡◌, ◌<◌, ◌≤◌, ◌+◌, ℕ, zero, suc, refl, ap, inl, inr, arith}
+use Rattle.std.proofs.Common.{◌≡◌, ◌<◌, ◌+◌, ℕ, zero, suc, refl, ap, inl, inr, arith}
 use Rattle.std.proofs.Common.{length, Bool, true, List, [], ◌∷◌, Some, slice_get}
 use Rattle.std.proofs.Common.{None, get_or, take, ◌∙◌, ◌⊎◌}
 use Rattle.std.specs.Prelude.{◌==◌, count_by, position}
@@ -13,7 +13,7 @@ use Rattle.std.proofs.lemmas.Option.{get_or_from_slice_get}
 use Rattle.aeth_base.proofs.Members.{list_any-Contains, slice_get-Contains}
 use Rattle.aeth_chip.specs.declared.node.Link.{Link}
 use Rattle.aeth_chip.specs.Nodes.{numbers_from}
-use Rattle.aeth_chip.proofs.NodeLemmas.{numbers_from-at}
+use Rattle.aeth_chip.proofs.NodeLemmas.{numbers_from-at, numbers_from-found}
 use Rattle.aeth_clocked.specs.Wires.{AreLinks}
 use Rattle.aeth_router.specs.Router.{AreDistinctLinks, is_among}
 
@@ -33,31 +33,6 @@ AreDistinctLinks-cons first others above apart (suc i) zero link at there =
 AreDistinctLinks-cons first others above apart (suc i) (suc j) link at there =
     ap (λ (n : ℕ). suc n) (apart i j link at there)
 
--- Where all others come after the first link, each is the first or comes after it.
-least-cons : (first : ℕ) (others : List ℕ) (i link : ℕ)
-    → ((j other : ℕ) → slice_get others j ≡ Some other → first < other)
-    → slice_get (first ∷ others) i ≡ Some link → first ≤ link
-least-cons first others zero link above at =
-    let same : first ≡ link = same_Some first link at in omega arith
-least-cons first others (suc i) link above at =
-    let below = above i link at in omega arith
-
--- The numbers of links that pass a test begin at the first link's, or later.
-numbers_from-least : (number : ℕ) (test : Link → Bool) (links : List Link) (i link : ℕ)
-    → slice_get (numbers_from number test links) i ≡ Some link → number ≤ link
-numbers_from-least number test [] i link at = absurd (cc at)
-numbers_from-least number test (first ∷ links) i link at =
-    elim (cases_Bool (test first)) [
-      | inl passes ↦
-          least-cons number (numbers_from (number + 1) test links) i link
-          (λ j other there.
-          let below = numbers_from-least (number + 1) test links j other there in omega arith)
-          (rw passes at at)
-      | inr fails ↦
-          let rest = numbers_from-least (number + 1) test links i link (rw fails at at) in
-          omega arith
-    ]
-
 -- They are apart. So the links on which a node sends are, and those on which it receives.
 pub AreDistinctLinks-numbers_from : (number : ℕ) (test : Link → Bool) (links : List Link)
     → AreDistinctLinks (numbers_from number test links)
@@ -68,7 +43,7 @@ AreDistinctLinks-numbers_from number test (first ∷ links) =
     elim (cases_Bool (test first)) [
       | inl passes ↦
           rw passes (AreDistinctLinks-cons number others (λ j other there.
-          let below = numbers_from-least (number + 1) test links j other there in omega arith)
+          let below = (numbers_from-found test (number + 1) links j other there).0 in omega arith)
           rest)
       | inr fails ↦ rw fails rest
     ]

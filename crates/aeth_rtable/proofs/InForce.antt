@@ -8,9 +8,9 @@ use Rattle.aeth_group.specs.Members.{GroupsData, group_at, has_at, is_kept}
 use Rattle.aeth_trace.specs.Spans.{SpanData}
 use Rattle.aeth_trace.specs.Switches.{are_apart, is_first_at_zero}
 use Rattle.aeth_trace.specs.declared.switches.SwitchRow.{SwitchRow}
-use Rattle.aeth_report.specs.Sessions.{Stay, Switch, closing_in, go_by, opens, stays_behind}
+use Rattle.aeth_report.specs.Sessions.{Stay, Switch, closing_in, opens, stays_behind}
 use Rattle.aeth_report.specs.Sessions.{stays_from, stays_of}
-use Rattle.aeth_report.proofs.SessionMeetings.{AreInTime, IsInTables, finish_by, in_time}
+use Rattle.aeth_report.proofs.SessionMeetings.{IsInTables, finish_by, in_time, rising}
 use Rattle.aeth_report.proofs.StayMeetings.{AreRising, Covers, closed_before, from_row, kept_on}
 use Rattle.aeth_report.proofs.StayMeetings.{row_opens}
 use Rattle.aeth_report.proofs.Stays.{kept-is, opened, stay_with-cases, stay_with-here}
@@ -20,17 +20,6 @@ use Rattle.aeth_rtable.specs.InForce.{use_from, use_in_force}
 module _ (groups : GroupsData) (spans : SpanData) where
   abbrev bound : Switch → ℕ
   bound switch = finish_by groups spans switch
-
-  -- Rows in time finish one after the other.
-  rising : (u low before : ℕ) (rows : List SwitchRow) → before ≤ low → AreInTime spans u low rows
-      → AreRising groups bound u before rows
-  rising u low before [] le times = tt
-  rising u low before (row ∷ rows) le times =
-      let first = times.0 in
-      let switch = switch_of u row in (
-        omega arith,
-        rising row.to.0 (go_by spans switch) (bound switch) rows (omega arith) times.1,
-      )
 
   -- The use case in force before the finish of a row, and from then on.
   use-before : (t u : ℕ) (row : SwitchRow) (rows : List SwitchRow) → t < bound (switch_of u row)
@@ -233,7 +222,7 @@ module _ (groups : GroupsData) (spans : SpanData) where
   stay-used [] c t apart s has covers = Contains-nil has
   stay-used (first ∷ rows) c t apart s has covers =
       covers-in_force rows first.to.0 0 c None t
-      (rising first.to.0 0 0 rows (omega arith) (in_time spans first.to.0 0 2 rows apart)) s has
+      (rising groups spans first.to.0 0 0 rows (omega arith) (in_time spans first.to.0 0 2 rows apart)) s has
       covers
 
   pub used-covered : (rows : List SwitchRow) (c t : ℕ) → are_apart spans rows ≡ Ok tt
@@ -242,4 +231,4 @@ module _ (groups : GroupsData) (spans : SpanData) where
   used-covered [] c t apart first has = absurd (cc first)
   used-covered (first ∷ rows) c t apart is_first has =
       in_force-covered rows first.to.0 0 c None t
-      (rising first.to.0 0 0 rows (omega arith) (in_time spans first.to.0 0 2 rows apart)) tt has
+      (rising groups spans first.to.0 0 0 rows (omega arith) (in_time spans first.to.0 0 2 rows apart)) tt has

@@ -7,7 +7,7 @@ use Rattle.aeth_base.specs.declared.ids.Channel.{Channel}
 use Rattle.aeth_base.specs.declared.ids.Side.{Side}
 use Rattle.aeth_base.specs.declared.ids.Side.TheVariants.{Back, Fwd}
 use Rattle.aeth_trace.specs.Channels.{channel_number, is_channel, side_number}
-use Rattle.aeth_trace.proofs.IndexLemmas.{same_sides}
+use Rattle.aeth_stimuli.proofs.ChannelLists.{same_numbers}
 
 -- A side has one of two numbers, and no other side has it.
 side-small : (side : Side) → side_number side < 2
@@ -68,4 +68,4 @@ pub numbers-tell : (channel other : Channel)
 numbers-tell channel other =
     let either : (channel_number other == channel_number channel)
     ≡ (channel_number channel == channel_number other) = grind (arith, nat_tests) in
-    either ∙ same_sides channel.conn.0 other.conn.0 channel.side other.side
+    either ∙ same_numbers channel other

@@ -1,10 +1,8 @@
 -- The network of accepted inputs before the first cycle: its components run, and no channel has a
 -- session.
-use Rattle.std.proofs.Common.{◌≡◌, ◌≤◌, ◌<◌, ◌∙◌, ◌*◌, ℕ, List, [], ◌∷◌, Some, Option, None, get_or}
+use Rattle.std.proofs.Common.{◌≡◌, ◌≤◌, ◌<◌, ◌∙◌, ◌*◌, ℕ, List, Some, Option, None, get_or}
 use Rattle.std.proofs.Common.{length, replicate}
-use Rattle.std.proofs.Common.{All, filter, map, slice_get, refl, subst, sym, ap, arith}
-use Rattle.std.specs.Prelude.{nat_lt}
-use Rattle.std.proofs.lemmas.Bool.{le-ltb}
+use Rattle.std.proofs.Common.{All, map, slice_get, refl, subst, sym, ap, arith}
 use Rattle.std.proofs.lemmas.List.{get_or-replicate, length-map, length-replicate}
 use Rattle.std.proofs.lemmas.List.Elements.{All-replicate}
 use Rattle.std.proofs.lemmas.Option.{same_Some, slice_get-get_or, slice_get_within}
@@ -51,6 +49,7 @@ use Rattle.aeth_stimuli.specs.Loaded.{loaded_components, no_lane}
 use Rattle.aeth_stimuli.specs.OnChip.{HaveRooms, IsOver}
 use Rattle.aeth_running.specs.Running.{IsRunning}
 use Rattle.aeth_stimuli.specs.Sessions.{channel_of}
+use Rattle.aeth_stimuli.proofs.WordWindows.{below-none}
 
 -- What stands at a place of a list of one item.
 replicate-at : {X : Type 0} (size i : ℕ) (x y : X) → slice_get (replicate size x) i ≡ Some y → x ≡ y
@@ -67,11 +66,6 @@ at-replicate size i x within =
     let count = length-replicate size x in
     slice_get-get_or (replicate size x) i x (omega (arith, within, count))
     ∙ ap (λ y. Some y) (get_or-replicate size i x x within)
-
--- There are no rows before the first cycle.
-none-below : {X : Type 0} (n : X → ℕ) (xs : List X) → filter (λ x. nat_lt (n x) 0) xs ≡ []
-none-below n [] = refl
-none-below n (x ∷ xs) = rw (le-ltb (n x) 0 (omega arith)) (none-below n xs)
 
 module _ (inputs : Inputs) where
   abbrev lanes : List Lane
@@ -202,8 +196,8 @@ module _ (inputs : Inputs) where
                   within;
               until_at = at-replicate (2 * length inputs.app.connections) (channel_number channel) 0
                   within;
-              pull_is = ap (last_pull usual_pull) (sym (none-below (λ (row : PullRow). row.cycle)
-                  (pulls_on inputs.pulls channel)));
+              pull_is = ap (last_pull usual_pull) (sym (below-none (λ (row : PullRow). row.cycle) 0
+                  (pulls_on inputs.pulls channel) (λ k row within. omega arith)));
               stands = Unused (λ c h on soon. absurd (omega (arith, soon))) refl;
             };
       }

@@ -25,8 +25,8 @@ use Rattle.aeth_schedule.specs.Values.{before_of}
 use Rattle.aeth_schedule.specs.declared.going.Going.{Going}
 use Rattle.aeth_running.specs.FirstLog.{first_row, rows_of}
 use Rattle.aeth_stimuli.specs.Sessions.{SessionGoing, as_going, going_of}
+use Rattle.aeth_stimuli.proofs.WordWindows.{below-none}
 use Rattle.aeth_running.proofs.InOrder.{below, below-both, below-first, between-are, between-count}
-use Rattle.aeth_running.proofs.InOrder.{none-below}
 
 -- The first i words are done as they are by themselves.
 finish-first : (size rate latency n : ℕ) (arrivals : List ℕ) (i : ℕ) → i ≤ n
@@ -54,7 +54,7 @@ module _ (words : List WordRow) (channel : Channel) where
   -- So many of a channel's words are offered before a cycle.
   pub before-is : (t : ℕ) → before_of words channel t
       ≡ length (filter (below cycle_of t) (words_on words channel))
-  before-is zero = sym (ap length (none-below cycle_of 0 own (λ k d within. omega arith)))
+  before-is zero = sym (ap length (below-none cycle_of 0 own (λ k d within. omega arith)))
   before-is (suc t) = λ q. length (filter (λ (row : WordRow). at-most row.cycle t q) own)
 
 module _ (inputs : Inputs) (accepted_are : AreAccepted inputs) (channel : Channel)

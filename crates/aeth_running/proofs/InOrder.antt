@@ -1,6 +1,6 @@
 -- Lists in the order of a number: what is below a number comes first.
 use Rattle.std.proofs.Common.{◌≡◌, ◌≤◌, ◌∙◌, ℕ, suc, ◌+◌, ◌-◌, Bool, true, List, []}
-use Rattle.std.proofs.Common.{◌∷◌, ◌++◌, All, Some, drop, filter, length, map, min, slice_get, take}
+use Rattle.std.proofs.Common.{◌∷◌, ◌++◌, Some, drop, filter, length, map, min, slice_get, take}
 use Rattle.std.proofs.Common.{refl, sym, ap, inl, inr, arith}
 use Rattle.std.specs.Prelude.{◌==◌, ◌&&◌, nat_le, nat_lt}
 use Rattle.std.specs.List.Sorted.{IsNonDecreasingBy}
@@ -10,6 +10,7 @@ use Rattle.std.proofs.lemmas.Bool.{ne_eqb}
 use Rattle.std.proofs.lemmas.List.Elements.{filter_passes}
 use Rattle.std.proofs.lemmas.List.Kept.{IsNonDecreasingBy-filter}
 use Rattle.std.proofs.lemmas.Option.{get_or_from_slice_get, slice_get_within}
+use Rattle.aeth_stimuli.proofs.WordWindows.{below-none}
 use Rattle.aeth_trace.proofs.OrderLemmas.{first_least, later_rise}
 
 -- What a filter keeps passes the test.
@@ -37,13 +38,6 @@ module _ {X : Type 0} (number : X → ℕ) where
   abbrev pub below : ℕ → X → Bool
   below t x = nat_lt (number x) t
 
-  -- Where all are at least a number, none is below it.
-  pub none-below : (t : ℕ) (xs : List X) → All (λ y. t ≤ number y) xs → filter (below t) xs ≡ []
-  none-below t [] all = refl
-  none-below t (x ∷ xs) all =
-      let here = all 0 x (omega arith) in
-      rw (le-ltb (number x) t here) (none-below t xs (λ k d within. all (suc k) d (omega arith)))
-
   -- What is below the next number.
   pub below-next : (t : ℕ) (xs : List X) → IsNonDecreasingBy number xs
       → filter (below (t + 1)) xs ≡ filter (below t) xs ++ filter (λ x. number x == t) xs
@@ -53,7 +47,7 @@ module _ {X : Type 0} (number : X → ℕ) where
       elim (cases_order (number x) t) [
         | inl same ↦
             let least = first_least number x xs order in
-            let none = none-below t xs (λ k d within. let up = least k d within in omega arith) in
+            let none = below-none number t xs (λ k d within. let up = least k d within in omega arith) in
             let here = filter (λ y. number y == t) xs in
             rw (
               lt-ltb (number x) (t + 1) (omega arith),
@@ -101,7 +95,7 @@ module _ {X : Type 0} (number : X → ℕ) where
         let least = first_least number x xs order in
         rw (
           le-ltb (number x) t more,
-          none-below t xs (λ k d within. let up = least k d within in omega arith),
+          below-none number t xs (λ k d within. let up = least k d within in omega arith),
         ) refl
   ]
 
@@ -114,7 +108,7 @@ module _ {X : Type 0} (number : X → ℕ) where
         (rest-behind t xs (later_rise number x xs order))
     | inr more ↦
         let least = first_least number x xs order in
-        let none = none-below t xs (λ k d within. let up = least k d within in omega arith) in
+        let none = below-none number t xs (λ k d within. let up = least k d within in omega arith) in
         let rest = rest-behind t xs (later_rise number x xs order) in
         rw (le-ltb (number x) t more, le-leb t (number x) more, none)
         (ap (λ (ys : List X). x ∷ ys) (rest ∙ ap (λ (ys : List X). drop (length ys) xs) none))

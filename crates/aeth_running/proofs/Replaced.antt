@@ -15,10 +15,11 @@ use Rattle.aeth_stimuli.specs.Stimuli.{goings_over}
 use Rattle.aeth_running.specs.Network.{first_network, played}
 use Rattle.aeth_stimuli.specs.Loaded.{no_lane}
 use Rattle.aeth_stimuli.specs.Stimuli.{is_over}
+use Rattle.aeth_stimuli.proofs.WordWindows.{below-none}
 use Rattle.aeth_running.specs.Told.{last_lanes}
 use Rattle.aeth_running.proofs.Accepting.{shown-beside}
 use Rattle.aeth_base.proofs.Filters.{filter-again}
-use Rattle.aeth_running.proofs.InOrder.{below, below-next, map-kept, none-below}
+use Rattle.aeth_running.proofs.InOrder.{below, below-next, map-kept}
 use Rattle.aeth_running.proofs.Played.{played-stimuli, replaced-first, replaced-next}
 use Rattle.aeth_running.specs.Routing.{Routing}
 
@@ -46,7 +47,7 @@ module _ (inputs : Inputs) (routing : Routing) where
     replaced-before zero =
         replaced-first inputs routing
         ∙ ap (λ (list : List Going). map lane_before list)
-        (sym (none-below go_of 0 (goings_of inputs) (λ k d within. omega arith)))
+        (sym (below-none go_of 0 (goings_of inputs) (λ k d within. omega arith)))
     replaced-before (suc t) =
         let next : suc t ≡ t + 1 = omega arith in
         let all = goings_of inputs in

@@ -5,6 +5,7 @@ use Rattle.std.specs.List.{range_with_len}
 use Rattle.std.proofs.lemmas.List.{set-get_or}
 use Rattle.std.proofs.lemmas.Option.{get_or_from_slice_get}
 use Rattle.aeth_clocked.specs.Wires.{flit_on}
+use Rattle.aeth_clocked.proofs.ClearLemmas.{all-empty}
 use Rattle.aeth_clocked.specs.declared.flit.Flit.{Flit}
 use Rattle.aeth_router.specs.Part.{absorb_of, after_of}
 use Rattle.aeth_router.specs.declared.part.Part.{Part}
@@ -58,19 +59,12 @@ flits_counted-rests (wire ∷ wires) (count ∷ counts) empty =
     ∙ ap (λ (others : List ℕ). count ∷ others)
     (flits_counted-rests wires counts (λ l. empty (suc l)))
 
--- Wires that are all empty are as many empty ones.
-empty-wires : (wires : List (Option Flit)) → ((l : ℕ) → flit_on wires l ≡ None)
-    → wires ≡ replicate (length wires) None
-empty-wires [] empty = refl
-empty-wires (wire ∷ wires) empty =
-    ap (λ (one : Option Flit). one ∷ wires) (empty 0)
-    ∙ ap (λ (others : List (Option Flit)). None ∷ others)
-    (empty-wires wires (λ l. empty (suc l)))
-
+-- Wires that are all empty are one, where they are as many.
 pub both-empty : (one other : List (Option Flit)) → length one ≡ length other
     → ((l : ℕ) → flit_on one l ≡ None) → ((l : ℕ) → flit_on other l ≡ None) → one ≡ other
 both-empty one other size first second =
-    empty-wires one first ∙ ap (λ n. replicate n None) size ∙ sym (empty-wires other second)
+    all-empty one (λ l within. first l) ∙ ap (λ n. replicate n None) size
+    ∙ sym (all-empty other (λ l within. second l))
 
 module _ (all : ComponentsState) (cycle : ℕ) (empty : (l : ℕ) → flit_on all.wires l ≡ None)
     (hands : (number : ℕ) (lane : Lane) → slice_get all.lanes number ≡ Some lane

@@ -29,9 +29,10 @@ use Rattle.aeth_components.specs.declared.event.Event.{Event}
 use Rattle.aeth_components.specs.declared.making.RouterKind.{RouterKind}
 use Rattle.aeth_components.specs.declared.making.RouterKind.TheVariants.{ByHeader, ByTable}
 use Rattle.aeth_accepted.specs.Inputs.{Inputs}
+use Rattle.aeth_stimuli.proofs.WordWindows.{below-none}
 use Rattle.aeth_invariant.proofs.Routed.{table-there, tables-kept, tables-switched}
 use Rattle.aeth_invariant.specs.Routed.{table_in, without_table}
-use Rattle.aeth_running.proofs.InOrder.{below-next, none-below}
+use Rattle.aeth_running.proofs.InOrder.{below-next}
 use Rattle.aeth_running.specs.Routing.{ByHeaders, ByTables, Entering, IsRoutingFor, Routing}
 use Rattle.aeth_running.specs.Routing.{entered_first, entered_with, enterings_in, kind_of, rows_at}
 use Rattle.aeth_running.specs.Routing.{rows_before}
@@ -181,7 +182,7 @@ tables-behind chip kind rows events t old new cycle =
 
 -- Nothing has entered by then.
 none-early : (later : List Entering) → filter (λ entering. nat_lt entering.cycle 0) later ≡ []
-none-early later = none-below (λ (entering : Entering). entering.cycle) 0 later
+none-early later = below-none (λ (entering : Entering). entering.cycle) 0 later
     (λ k default within. omega arith)
 
 -- A fresh router with a table has no entries.

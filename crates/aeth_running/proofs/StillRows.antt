@@ -1,11 +1,12 @@
 -- Cycles in which no row of a trace falls: no word is offered, no later session goes, and no switch does
 -- anything.
 use Rattle.std.proofs.Common.{◌≡◌, ◌<◌, ◌∙◌, ℕ, All, Bool, true, Contains, List, []}
-use Rattle.std.proofs.Common.{◌∷◌, ap, arith, filter, inl, inr, map, refl, subst}
+use Rattle.std.proofs.Common.{ap, arith, filter, map, subst}
 use Rattle.std.specs.Prelude.{◌==◌, nat_lt}
-use Rattle.std.proofs.lemmas.Bool.{cases_Bool, eq-eqb, eqb-true, lt-ltb}
-use Rattle.aeth_base.proofs.Members.{Contains-filter, Contains-here, Contains-map, Contains-nil}
-use Rattle.aeth_base.proofs.Members.{Contains-slice_get, Contains-there, filter-Contains, map-Contains}
+use Rattle.std.proofs.lemmas.Bool.{eq-eqb, eqb-true, false_from_ne_true, lt-ltb}
+use Rattle.aeth_base.proofs.Filters.{filter-all_fail}
+use Rattle.aeth_base.proofs.Members.{Contains-filter, Contains-map, Contains-nil}
+use Rattle.aeth_base.proofs.Members.{Contains-slice_get, filter-Contains, map-Contains}
 use Rattle.aeth_tables.proofs.ListLaws.{all_from_places, all_has}
 use Rattle.aeth_trace.specs.declared.words.WordRow.{WordRow}
 use Rattle.aeth_report.specs.Sessions.{Switch}
@@ -20,11 +21,8 @@ use Rattle.aeth_running.specs.Network.{offers_in}
 -- A list none of whose items passes a test keeps none, and the other way round.
 pub none-kept : {X : Type 0} (test : X → Bool) (xs : List X)
     → ((x : X) → Contains xs x → test x ≡ true → ⊥) → filter test xs ≡ []
-none-kept test [] none = refl
-none-kept test (x ∷ xs) none = elim (cases_Bool (test x)) [
-  | inl passes ↦ absurd (none x (Contains-here x xs) passes)
-  | inr fails ↦ rw fails (none-kept test xs (λ y has. none y (Contains-there x xs y has)))
-]
+none-kept test xs none =
+    filter-all_fail test xs (λ x has. false_from_ne_true (test x) (none x has))
 
 pub kept-none : {X : Type 0} (test : X → Bool) (xs : List X) → filter test xs ≡ [] → (x : X)
     → Contains xs x → test x ≡ true → ⊥

@@ -22,9 +22,10 @@ use Rattle.aeth_stimuli.specs.Stimuli.{goings_over}
 use Rattle.aeth_running.specs.Network.{first_network, played, until_with, untils_in}
 use Rattle.aeth_stimuli.specs.Sessions.{SessionGoing, as_going, going_of}
 use Rattle.aeth_stimuli.specs.Stimuli.{is_over, stimuli_of}
+use Rattle.aeth_stimuli.proofs.WordWindows.{below-none}
 use Rattle.aeth_running.proofs.Accepting.{accepts, last-accepts, last_until, written-last}
 use Rattle.aeth_base.proofs.Filters.{filter-map, filter-swap}
-use Rattle.aeth_running.proofs.InOrder.{below, below-next, below-wider, none-below}
+use Rattle.aeth_running.proofs.InOrder.{below, below-next, below-wider}
 use Rattle.aeth_running.proofs.Played.{untils-first, untils-next}
 use Rattle.aeth_running.proofs.Replaced.{go_of}
 use Rattle.aeth_running.specs.Routing.{Routing}
@@ -52,7 +53,7 @@ module _ (inputs : Inputs) (routing : Routing) (ordered : IsNonDecreasingBy (λ 
     untils-are zero =
         untils-first inputs routing
         ∙ ap (λ (list : List Going). fold until_with zeros list)
-        (sym (none-below go_of 0 (goings_of inputs) (λ k d within. omega arith)))
+        (sym (below-none go_of 0 (goings_of inputs) (λ k d within. omega arith)))
     untils-are (suc t) =
         let next : suc t ≡ t + 1 = omega arith in
         let here = filter (λ (going : Going). going.lane.go == t) (goings_of inputs) in

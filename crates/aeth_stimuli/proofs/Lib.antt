@@ -1,11 +1,11 @@
 pub mod ChipFrames
 pub mod ChipBegins
-mod ChannelLists
+pub mod ChannelLists
 pub mod SessionOrder
 mod UseLines
 mod SessionGoings
 mod GoingLists
-mod WordWindows
+pub mod WordWindows
 mod ChannelPlaces
 mod WordPlaces
 mod OfferedWords

@@ -17,7 +17,7 @@ use Rattle.aeth_report.proofs.SessionOrder.{stays-after}
 use Rattle.aeth_report.proofs.Stays.{AreKnown, IsKnown}
 use Rattle.aeth_report.proofs.StaysAlone.{at-Contains}
 use Rattle.aeth_reconf.specs.Windows.{clears_from}
-use Rattle.aeth_reconf.proofs.OneWritten.{IsBetween, rising}
+use Rattle.aeth_reconf.proofs.OneWritten.{clears-between, rising}
 use Rattle.aeth_reconf.proofs.StayTurns.{opened_at, stays-turn}
 use Rattle.aeth_accepted.specs.Inputs.{AreAccepted, Inputs, run_of}
 use Rattle.aeth_schedule.proofs.ScheduleLemmas.{rows-are}
@@ -31,14 +31,7 @@ pub record Precedes (spans : SpanData) (s e : Stay) : Type 0 where
   pub order : (close_by spans switch).fin ≤ go_of spans e.opening
 
 module _ (groups : GroupsData) (spans : SpanData) where
-  -- What a switch closes is finished before a later one closes anything.
-  ends-between : IsBetween groups spans (clears_from spans)
-  ends-between = record {
-    finished = λ switch. omega arith;
-    going = λ switch left known. omega arith;
-  }
-
-  -- So each stay precedes a later one.
+  -- Each stay precedes a later one: what a switch closes is finished before a later one closes anything.
   pub stays-apart : (rows : List SwitchRow) → AreKnown groups rows → are_apart spans rows ≡ Ok tt
       → (c i j : ℕ) (s e : Stay) → i < j → slice_get (stays_of groups c rows) i ≡ Some s
       → slice_get (stays_of groups c rows) j ≡ Some e → Precedes spans s e
@@ -46,7 +39,7 @@ module _ (groups : GroupsData) (spans : SpanData) where
   stays-apart (first ∷ rows) known apart c i j s e less at_s at_e =
       let later : AreKnown groups rows = All-tail (IsKnown groups) first rows known in
       let turns = stays-turn groups (clears_from spans) c first rows 0
-      (rising groups spans (clears_from spans) ends-between first.to.0 0 0 rows
+      (rising groups spans (clears_from spans) (clears-between groups spans) first.to.0 0 0 rows
       (All-head (IsKnown groups) first rows known) later (omega arith)
       (in_time spans first.to.0 0 2 rows apart)) in
       let before = turns i j s e less at_s at_e in

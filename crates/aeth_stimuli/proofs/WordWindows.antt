@@ -25,7 +25,7 @@ module _ {X : Type 0} (n : X → ℕ) where
   between go until xs = filter (λ x. nat_le go (n x) && nat_lt (n x) until) xs
 
   -- No item is before a number that all reach, and none in between.
-  below-none : (t : ℕ) (xs : List X) → All (λ x. t ≤ n x) xs → below t xs ≡ []
+  pub below-none : (t : ℕ) (xs : List X) → All (λ x. t ≤ n x) xs → below t xs ≡ []
   below-none t [] all = refl
   below-none t (x ∷ xs) all =
       let here : t ≤ n x = All-head (λ y. t ≤ n y) x xs all in

@@ -13,9 +13,9 @@ use Rattle.aeth_trace.specs.declared.switches.SwitchRow.{SwitchRow}
 use Rattle.aeth_report.proofs.SessionMeetings.{AreInTime, in_time}
 use Rattle.aeth_report.specs.Sessions.{Switch, close_by, go_by}
 use Rattle.aeth_rtable.specs.InForce.{use_from, use_in_force}
-use Rattle.aeth_running.proofs.InOrder.{none-below}
 use Rattle.aeth_running.specs.Routing.{Entering, later_rows, rows_at}
 use Rattle.aeth_schedule.specs.Switching.{switches_from}
+use Rattle.aeth_stimuli.proofs.WordWindows.{below-none}
 use Rattle.aeth_network.specs.Routes.{entered_by, entering_of, routing_by}
 
 module _ (spans : SpanData) (rows_of : ℕ → List RouterRow) where
@@ -68,7 +68,7 @@ module _ (spans : SpanData) (rows_of : ℕ → List RouterRow) where
             (entering_of rows_of (entered_by spans switch)) (entering_from v rows) (omega arith)
             (enter-late (t + 1) v (go_by spans switch) rows (omega arith) times.1) in
             ap (fold rows_with (rows_of u))
-            (none-below (λ (entering : Entering). entering.cycle) (t + 1)
+            (below-none (λ (entering : Entering). entering.cycle) (t + 1)
             (entering_from u (row ∷ rows)) late)
             ∙ sym (ap (λ (b : Bool). rows_of (cond b u rest)) (lt-ltb t fin before))
         | inr past ↦

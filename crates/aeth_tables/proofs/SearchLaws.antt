@@ -19,6 +19,7 @@ use Rattle.aeth_text.specs.Order.{Rises, RisesAfter}
 use Rattle.aeth_plan.specs.Plan.{grant_before, seat_before}
 use Rattle.aeth_plan.proofs.MadePlans.{before_trans, same_number, side_before-itself}
 use Rattle.aeth_check.specs.Channels.{is_before, is_for}
+use Rattle.aeth_check.proofs.Halves.{sought}
 use Rattle.aeth_tables.specs.Granted.{grant_of, line_of}
 use Rattle.aeth_tables.proofs.FindLaws.{find-at, find-none}
 
@@ -157,11 +158,6 @@ module _ (seats : List SeatLine) (rises : Rises seat_before seats) (core : CoreI
         n point
 
 -- ---- Grants
-
--- A grant that is sought, with any path and slots.
-abbrev sought : GroupUnit → Side → Grant → Grant
-sought unit side grant =
-    record { unit = unit; side = side; path = grant.path; slots = grant.slots }
 
 module _ (unit : GroupUnit) (side : Side) where
   level-grants : (a x : Grant) → is_for unit side x ≡ true → grant_before a x ≡ is_before unit side a

@@ -10,7 +10,7 @@ use Rattle.std.proofs.lemmas.Str.Parse.{digit_from_value}
 use Rattle.std.proofs.lemmas.Bool.Decides.{nat_tests}
 use Rattle.std.proofs.lemmas.Bool.{and_parts, cond-true, le-leb, leb-true, ltb-true}
 use Rattle.std.proofs.lemmas.List.{length-map}
-use Rattle.std.proofs.lemmas.Option.{cond_some, none-some, same_Some}
+use Rattle.std.proofs.lemmas.Option.{none-some, same_Some}
 use Rattle.std.proofs.lemmas.Slice.Eq.{bytes_eq-Decides}
 use Rattle.aeth_base.specs.Limits.{min_path_links}
 use Rattle.aeth_base.specs.Name.{is_name, is_name_byte, name_of}
@@ -18,6 +18,7 @@ use Rattle.aeth_base.specs.Number.{number_of}
 use Rattle.aeth_base.specs.declared.ids.LinkId.{LinkId}
 use Rattle.aeth_base.specs.declared.ids.Side.{Side}
 use Rattle.aeth_base.specs.declared.ids.Side.TheVariants.{Fwd, Back}
+use Rattle.aeth_base.proofs.NameLemmas.{name_only}
 use Rattle.aeth_base.proofs.Numbers.{number_of-decimal, number_of-some}
 use Rattle.aeth_text.specs.Fields.{are_ascending, ascending_in, is_path, link_in, links_in}
 use Rattle.aeth_text.specs.Fields.{number_in, side_in}
@@ -33,12 +34,6 @@ use Rattle.aeth_text.proofs.PartLaws.{reads_parts}
 
 name_again : (name : List ℕ) → is_name name ≡ true → name_of name ≡ Some name
 name_again name is = cond-true (is_name name) (Some name) None is
-
-name_only : (word name : List ℕ) → name_of word ≡ Some name
-    → (name ≡ word) × (is_name name ≡ true)
-name_only word name e =
-    let (is, same) = cond_some (is_name word) word name e in
-    (sym same, ap is_name (sym same) ∙ is)
 
 name_byte : (byte : ℕ) → is_name_byte byte ≡ true → comma < byte
 name_byte byte is = grind (arith, nat_tests)

@@ -1,7 +1,7 @@
 use Rattle.std.proofs.Common.{◌≡◌}
 use Rattle.aeth_records.specs.Left.{IsReading, left}
 use Rattle.aeth_trace.specs.Rules.{rows_from}
-use Rattle.aeth_trace.proofs.RowLemmas.{with_front}
+use Rattle.aeth_document.proofs.Fronts.{with_front}
 use Rattle.aeth_audit.specs.LinkLog.{link_row_in}
 use Rattle.aeth_audit.proofs.reading.rows_of.Given as goal
 

@@ -3,7 +3,8 @@ use Rattle.std.proofs.lemmas.List.{drop_more}
 use Rattle.aeth_group.specs.declared.grant.Grant.{Grant}
 use Rattle.aeth_plan.specs.Lines.{GrantWords}
 use Rattle.aeth_plan.specs.Rules.{each, known_grant}
-use Rattle.aeth_plan.proofs.Fronts.{front_more, front_none, lines_front}
+use Rattle.aeth_document.proofs.Fronts.{front_none, with_front}
+use Rattle.aeth_plan.proofs.Fronts.{front_more}
 use Rattle.aeth_plan.proofs.known.known_grants.Goals as goal
 
 -- No line was looked at.
@@ -12,7 +13,7 @@ loop-text-init c =
     let f = known_grant c.args.chip.now c.args.app.now c.args.groups.now in
     let all = each f c.args.first c.args.texts.now in
     record {
-      grants = ap (λ (gs : List Grant). lines_front gs all) c.in_ok-grants.ensures.items
+      grants = ap (λ (gs : List Grant). with_front gs all) c.in_ok-grants.ensures.items
           ∙ front_none all;
       last = tt;
     }
@@ -31,12 +32,12 @@ loop-text-preserved c =
     let front : List Grant = c.loop-text.grants.items in
     let one : Grant = c.in_ok-known_grant.field-0 in
     record {
-      grants = ap (λ (gs : List Grant). lines_front gs (each f c.line_after-line.result rest))
+      grants = ap (λ (gs : List Grant). with_front gs (each f c.line_after-line.result rest))
           c.in_ok-push.ensures.items
-          ∙ ap (λ (n : ℕ). lines_front (front ++ one ∷ []) (each f n rest)) c.line_after-line.ensures
+          ∙ ap (λ (n : ℕ). with_front (front ++ one ∷ []) (each f n rest)) c.line_after-line.ensures
           ∙ front_more f c.loop-text.line c.text-item.result rest front one
           c.in_ok-known_grant.ensures.grant
-          ∙ ap (λ (xs : List GrantWords). lines_front front (each f c.loop-text.line xs))
+          ∙ ap (λ (xs : List GrantWords). with_front front (each f c.loop-text.line xs))
           (sym (drop_more texts i c.text-item.result
           (omega (arith, c.loop-text-test.true, c.loop-text.auto.text-index-end))
           ∙ ap (λ (x : GrantWords). x ∷ rest) (sym c.text-item.is)))

@@ -2,13 +2,13 @@ use Rattle.std.proofs.Common.{◌≡◌, drop}
 use Rattle.std.specs.Prelude.{IfSome}
 use Rattle.aeth_plan.specs.Known.{IsNamed}
 use Rattle.aeth_plan.specs.Rules.{each, known_grant}
-use Rattle.aeth_plan.proofs.Fronts.{lines_front}
+use Rattle.aeth_document.proofs.Fronts.{with_front}
 use Rattle.aeth_plan.proofs.known.known_grants.Given as goal
 
 -- The grants so far and those of the lines that are left; the connection that was found last.
 abbrev pub invariant-loop-text : goal.invariant-loop-text
 invariant-loop-text l = record {
-  grants : lines_front l.grants.items
+  grants : with_front l.grants.items
       (each (known_grant l.chip l.app l.groups) l.line (drop l.text-index l.texts))
       ≡ each (known_grant l.chip l.app l.groups) l.first l.texts;
   last : IfSome l.last (IsNamed l.app);

@@ -3,7 +3,7 @@ use Rattle.aeth_trace.specs.Found.{AreFound}
 use Rattle.aeth_records.specs.Left.{IsReading, left}
 use Rattle.aeth_trace.specs.Rules.{rows_from}
 use Rattle.aeth_trace.specs.Words.{connection_names}
-use Rattle.aeth_trace.proofs.RowLemmas.{with_front}
+use Rattle.aeth_document.proofs.Fronts.{with_front}
 use Rattle.aeth_trace.proofs.table.rows_of.Given as goal
 
 -- The rows that were read, and behind them those of the records that are left, are all rows.
