@@ -99,7 +99,7 @@ class Server:
 
     def rows(self, cycles, name):
         """The lines of the session."""
-        ended, landed = self.finish <= cycles, len(self.landings)
+        ended, landed = self.finish < cycles, len(self.landings)
         offered = sum(1 for cycle, _ in self.words if cycle < min(cycles, self.finish))
         state = "ended" if ended else "running"
         yield f"chan {name} {self.go} {state} {offered} {landed} {self.taken}"
@@ -164,6 +164,7 @@ class Run:
                 1
                 for of, cycle, _ in self.words
                 if of == (connection, side)
+                and cycle < self.cycles
                 and not any(it[0] <= cycle < it[1] for it in sessions)
             )
             if outside:
