@@ -22,6 +22,8 @@ mod names;
 #[cfg(test)]
 mod numbers;
 #[cfg(test)]
+mod paths;
+#[cfg(test)]
 mod server;
 #[cfg(test)]
 mod shelves;
