@@ -1,8 +1,8 @@
-// Ports, wires and offsets of a pair.
+// The parts, the ports, the wires and the offsets of a pair.
 ghost use Rattle.std.specs.Prelude.{◌<◌, All, length};
 
-use aeth_base::{LinkId, Path, RouterId};
-use aeth_chip::{Chip, read_chip};
+use aeth_base::{LinkId, Name, NiId, Path, RouterId};
+use aeth_chip::{Chip, Node, read_chip};
 use std::alloc::Global;
 
 /// Two routers, each with a network interface, and a link each way between them. Three links take
@@ -20,6 +20,75 @@ link = [
 
 fn pair(alloc: Global) -> Option<Chip> {
     read_chip(alloc, PAIR.as_bytes()).ok()
+}
+
+// The size of the slot table, and the numbers of routers, interfaces, links and wires.
+fn numbers_of(chip: &Chip) -> [u32; 5] {
+    [
+        chip.slots(),
+        chip.routers(),
+        chip.nis(),
+        chip.links(),
+        chip.wires(),
+    ]
+}
+
+// Whether the fifth link leads from the first router to the second in two cycles.
+fn has_its_fifth_link(chip: &Chip) -> bool {
+    if chip.links() < 5 {
+        return false;
+    }
+    let link = chip.link(LinkId(4));
+    link.begins_at(Node::Router(RouterId(0)))
+        && link.ends_at(Node::Router(RouterId(1)))
+        && link.delay == 2
+}
+
+// Whether the second interface has these links and its name.
+fn has_its_second_interface(chip: &Chip) -> bool {
+    chip.nis() == 2
+        && chip.leaving(NiId(1)) == LinkId(2)
+        && chip.entering(NiId(1)) == LinkId(3)
+        && chip.ni_name(NiId(1)).as_bytes() == b"n1".as_slice()
+}
+
+/// Names, and the interfaces that have them.
+static NAMES: [(&str, Option<NiId>); 3] = [("n1", Some(NiId(1))), ("n2", None), ("r1", None)];
+
+// The first of these names that another interface has.
+fn wrong_name(chip: &Chip) -> Option<&'static str> {
+    for &(text, ni) in &NAMES {
+        match Name::new(text.as_bytes()) {
+            Some(name) if chip.find_ni(&name) == ni => {}
+            _ => return Some(text),
+        }
+    }
+    None
+}
+
+// What a chip has: its numbers, whether the link and the interface are right, and the first wrong name.
+type Parts = ([u32; 5], bool, bool, Option<&'static str>);
+
+fn parts_of(chip: &Chip) -> Parts {
+    (
+        numbers_of(chip),
+        has_its_fifth_link(chip),
+        has_its_second_interface(chip),
+        wrong_name(chip),
+    )
+}
+
+fn parts_of_pair(alloc: Global) -> Option<Parts> {
+    let chip = pair(alloc)?;
+    Some(parts_of(&chip))
+}
+
+#[test]
+fn parts_are_those_of_the_file(rt: HostRuntime) {
+    assert_eq!(rt;
+        parts_of_pair(rt.alloc()),
+        Some(([128, 2, 2, 6, 12], true, true, None))
+    );
 }
 
 /// Routers and ports, and the links that these lead to.

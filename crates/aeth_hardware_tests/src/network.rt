@@ -32,22 +32,30 @@ const RECEIVER: ChannelEnd = ChannelEnd {
     queue: 0,
 };
 
-// A session of five words, from cycle 1 on, of which the receiver takes none.
-const SESSION: Lane = Lane {
+// A session of five words, from cycle 1 on.
+const FORTH: Lane = Lane {
     sender: SENDER,
     receiver: RECEIVER,
     go: 1,
     fin: 1_000_000,
     first: 0,
     accepted: 5,
-    pull: 0,
+    pull: 2,
     handed: 0,
     landed: 0,
     taken: 0,
 };
 
-// The sender's tables: slots 0 and 4, by way of both routers.
-static TABLES: [Event; 3] = [
+// One of no words, the other way, whose flits carry credits alone.
+const BACK: Lane = Lane {
+    sender: RECEIVER,
+    receiver: SENDER,
+    accepted: 0,
+    ..FORTH
+};
+
+// The tables of both, by way of both routers: slots 0 and 4 forth, slot 0 back.
+static TABLES: [Event; 5] = [
     Event::Change(Write::SetRoute {
         ni: NiId(0),
         queue: 0,
@@ -65,9 +73,21 @@ static TABLES: [Event; 3] = [
         slot: 4,
         queue: 0,
     }),
+    Event::Change(Write::SetRoute {
+        ni: NiId(1),
+        queue: 0,
+        route: 1,
+        remote: 0,
+        credits: 9,
+    }),
+    Event::Change(Write::SetSlot {
+        ni: NiId(1),
+        slot: 0,
+        queue: 0,
+    }),
 ];
 
-// The pair with one channel, whose tables are written. The receiver is the second component, and
+// The pair with both channels, whose tables are written. The receiver is the second component, and
 // router `r0` the third.
 fn pair_of(alloc: Global, chip: &Chip) -> Option<Components>
     requires nis { length chip.now.nis ≡ 2 }
@@ -76,7 +96,7 @@ fn pair_of(alloc: Global, chip: &Chip) -> Option<Components>
     ensures { IfSome result (λ pair.
         slice_get (frames_of pair) 2 ≡ Some (frame_of (made_router chip.now ByHeader 0))) }
 {
-    let lanes = [SESSION].to_vec(alloc).ok()?;
+    let lanes = [FORTH, BACK].to_vec(alloc).ok()?;
     let words = [100, 101, 102, 103, 104].to_vec(alloc).ok()?;
     let rooms = [9; 2 * QUEUES_OF_INTERFACE];
     let mut pair = Components::new(alloc, chip, RouterKind::ByHeader, &rooms, lanes, words).ok()?;
@@ -110,21 +130,21 @@ fn played(alloc: Global, pair: &mut Components, from: u32, to: u32) -> bool
     true
 }
 
-// The router sends on to the other in a slot what comes from its interface, if it can have such an
-// entry.
-fn with_entry(router: TableRouter, slot: u32) -> Option<TableRouter>
+// The router sends on by a port in a slot what comes from a link, if it can have such an entry.
+fn with_entry(router: TableRouter, port: u8, slot: u32, from: LinkId) -> Option<TableRouter>
     ensures { IfSome result (λ now. RouterFrame now.incoming now.outgoing
         ≡ RouterFrame router.incoming router.outgoing) }
 {
     let mut router = router;
-    if !router.can_set(1, slot, Some(LinkId(0))) {
+    if !router.can_set(port, slot, Some(from)) {
         return None;
     }
-    router.set(1, slot, Some(LinkId(0)));
+    router.set(port, slot, Some(from));
     Some(router)
 }
 
-// The router `r0` with a table for the channel.
+// The router `r0` with a table for both channels: what comes from its interface goes on to the other router, and what
+// comes from that one to the interface.
 fn table_router(alloc: Global, chip: &Chip) -> Option<TableRouter>
     ensures { IfSome result (λ router. RouterFrame router.incoming router.outgoing
         ≡ frame_of (made_router chip.now ByHeader 0)) }
@@ -132,11 +152,12 @@ fn table_router(alloc: Global, chip: &Chip) -> Option<TableRouter>
     let Ok(router) = TableRouter::new(alloc, chip, RouterId(0)) else {
         return None;
     };
-    let router = with_entry(router, 1)?;
-    with_entry(router, 5)
+    let once = with_entry(router, 1, 1, LinkId(0))?;
+    let twice = with_entry(once, 1, 5, LinkId(0))?;
+    with_entry(twice, 0, 2, LinkId(5))
 }
 
-// The router `r0` as it is at first: it reads headers, or has a table for the channel.
+// The router `r0` as it is at first: it reads headers, or has a table for both channels.
 fn fresh_router(alloc: Global, chip: &Chip, by_table: bool) -> Option<Part>
     ensures { IfSome result (λ router. frame_of router
         ≡ frame_of (made_router chip.now ByHeader 0)) }
@@ -177,6 +198,9 @@ fn carry(alloc: Global, chip: &Chip, pair: &mut Components, by_table: bool) -> b
     played(alloc, pair, 5, 20)
 }
 
+// The cycles in which the words landed, and the flits on each link.
+type Log = ([u32; 5], [u32; 6]);
+
 fn landings_of(pair: &Components) -> Option<[u32; 5]> {
     match pair.landings() {
         [a, b, c, d, e] => Some([*a, *b, *c, *d, *e]),
@@ -184,19 +208,30 @@ fn landings_of(pair: &Components) -> Option<[u32; 5]> {
     }
 }
 
-fn carried(alloc: Global, chip: &Chip, pair: &mut Components, by_table: bool) -> Option<[u32; 5]>
+fn flits_of(pair: &Components) -> Option<[u32; 6]> {
+    match pair.flits() {
+        [a, b, c, d, e, f] => Some([*a, *b, *c, *d, *e, *f]),
+        _ => None,
+    }
+}
+
+fn log_of(pair: &Components) -> Option<Log> {
+    Some((landings_of(pair)?, flits_of(pair)?))
+}
+
+fn carried(alloc: Global, chip: &Chip, pair: &mut Components, by_table: bool) -> Option<Log>
     requires { slice_get (frames_of pair.old) 2
         ≡ Some (frame_of (made_router chip.now ByHeader 0)) }
 {
     if carry(alloc, chip, pair, by_table) {
-        landings_of(pair)
+        log_of(pair)
     } else {
         None
     }
 }
 
-// The cycles in which the words landed.
-fn landed_on(alloc: Global, chip: &Chip, by_table: bool) -> Option<[u32; 5]>
+// The log of the pair after 20 cycles.
+fn logged_on(alloc: Global, chip: &Chip, by_table: bool) -> Option<Log>
     requires nis { length chip.now.nis ≡ 2 }
     requires routers { length chip.now.routers ≡ 2 }
     requires slots { chip.now.slots ≡ 8 }
@@ -206,29 +241,32 @@ fn landed_on(alloc: Global, chip: &Chip, by_table: bool) -> Option<[u32; 5]>
 }
 
 // The same on a chip that may be another.
-fn landed_there(alloc: Global, chip: &Chip, by_table: bool) -> Option<[u32; 5]> {
+fn logged_there(alloc: Global, chip: &Chip, by_table: bool) -> Option<Log> {
     if chip.nis() == 2 && chip.routers() == 2 && chip.slots() == 8 {
-        landed_on(alloc, chip, by_table)
+        logged_on(alloc, chip, by_table)
     } else {
         None
     }
 }
 
-fn landed(alloc: Global, by_table: bool) -> Option<[u32; 5]> {
+fn logged(alloc: Global, by_table: bool) -> Option<Log> {
     let chip = read_chip(alloc, PAIR.as_bytes()).ok()?;
-    landed_there(alloc, &chip, by_table)
+    logged_there(alloc, &chip, by_table)
 }
+
+// What is lost isn't on the links behind `r0`; credits come back for the words that landed.
+const LOST: Log = ([11, 11, 15, 0, 0], [3, 1, 1, 2, 2, 1]);
 
 // Flits leave in cycles 4, 8 and 12, and land 3 cycles later. The first with its two words is lost: it doesn't
 // land in cycle 7, and of five words three land. A network that told its log from anything but its components would
 // still note five.
 #[test]
 fn parts_carry_the_words(rt: HostRuntime) {
-    assert_eq!(rt; landed(rt.alloc(), false), Some([11, 11, 15, 0, 0]));
+    assert_eq!(rt; logged(rt.alloc(), false), Some(LOST));
 }
 
 // The same where the router looks a table up.
 #[test]
 fn tables_carry_the_words(rt: HostRuntime) {
-    assert_eq!(rt; landed(rt.alloc(), true), Some([11, 11, 15, 0, 0]));
+    assert_eq!(rt; logged(rt.alloc(), true), Some(LOST));
 }

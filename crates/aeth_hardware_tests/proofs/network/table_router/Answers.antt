@@ -7,7 +7,7 @@ use Rattle.aeth_components.specs.Frames.{RouterFrame}
 -- Entries change no wires.
 pub returns : goal.returns
 returns c =
-    IfSome_then c.with_entry-2.result c.with_entry-2.ensures (λ router same.
-    same ∙ c.in_ok-router.ensures
+    IfSome_then c.with_entry-3.result c.with_entry-3.ensures (λ router same.
+    same ∙ c.in_ok-twice.ensures ∙ c.in_ok-once.ensures
     ∙ ap (λ (router : TableRouterState). RouterFrame router.incoming router.outgoing)
     c.in-Ok.ensures)
