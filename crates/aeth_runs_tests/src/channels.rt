@@ -79,7 +79,7 @@ fn push_offered(
     Ok(())
 }
 
-/// Pushes what a channel's receiver takes in each of the first ten cycles.
+/// Pushes what a channel's receiver takes in each of the first ten cycles, and in the last of all.
 fn push_pulls(
     alloc: Global,
     text: &mut String,
@@ -89,10 +89,10 @@ fn push_pulls(
     for cycle in 0..10 {
         push_number(alloc, text, pull(receivers, channel, cycle) as usize)?;
     }
-    Ok(())
+    push_number(alloc, text, pull(receivers, channel, 1_000_000) as usize)
 }
 
-/// The same, as a run asks from cycle to cycle.
+/// Pushes what it takes in each of the first ten cycles, as a run asks from cycle to cycle.
 fn push_next_pulls(
     alloc: Global,
     text: &mut String,
@@ -139,10 +139,10 @@ fn is_told(
 
 /// What is told of each channel.
 static CHANNELS: [(u32, Side, &str); 4] = [
-    (0, Side::Fwd, "579 222233 0000077744 0000077744"),
-    (0, Side::Back, "8 000111 2229999999 2229999999"),
-    (1, Side::Fwd, " 000000 2222221111 2222221111"),
-    (1, Side::Back, "6 111111 2222222222 2222222222"),
+    (0, Side::Fwd, "579 222233 00000777444 0000077744"),
+    (0, Side::Back, "8 000111 22299999999 2229999999"),
+    (1, Side::Fwd, " 000000 22222211111 2222221111"),
+    (1, Side::Back, "6 111111 22222222222 2222222222"),
 ];
 
 /// The answer of the first channel of which another is told.

@@ -10,6 +10,8 @@ mod channels;
 mod designs;
 #[cfg(test)]
 mod programs;
+#[cfg(test)]
+mod rows;
 pub mod texts;
 #[cfg(test)]
 mod timelines;
