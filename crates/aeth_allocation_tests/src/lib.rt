@@ -1,4 +1,5 @@
-//! Tests of books, first paths, allocations and plans, above the libraries that have them.
+//! Tests of applications, groups, books, first paths, allocations, plans and the spans of switches, above the libraries that
+//! have them.
 #![tactic(auto)]
 
 #[cfg(test)]
@@ -15,6 +16,8 @@ mod grants;
 #[cfg(test)]
 mod outcomes;
 #[cfg(test)]
+mod parts;
+#[cfg(test)]
 mod paths;
 #[cfg(test)]
 mod plans;
@@ -23,4 +26,8 @@ mod searches;
 #[cfg(test)]
 mod setups;
 #[cfg(test)]
+mod spans;
+#[cfg(test)]
 mod texts;
+#[cfg(test)]
+mod told;

@@ -6,6 +6,7 @@ ghost use Rattle.std.specs.Prelude.{◌≡◌};
 
 use crate::grants::{AskedOfBook, is_book_right};
 use crate::outcomes::{AskedOfAllocation, is_allocation_right};
+use crate::parts::{AskedOfApp, AskedOfGroups, are_groups_right, is_app_right};
 use crate::texts::{AskedOfPlan, is_plan_right};
 use aeth_app::{App, read_app};
 use aeth_chip::{Chip, read_chip};
@@ -15,6 +16,10 @@ use std::alloc::Global;
 /// What is asked, with the answer.
 #[derive(Clone, Copy)]
 pub(crate) enum Question {
+    /// Of the application.
+    OfApp(AskedOfApp),
+    /// Of its groups.
+    OfGroups(AskedOfGroups),
     /// After grants over links 0, 4 and 3, each a connection of the first group and the mask of its
     /// slots.
     OfBook(&'static [(u32, u64)], AskedOfBook),
@@ -72,6 +77,8 @@ fn is_right_in(
     requires groups { groups.now ≡ groups_of app.now }
 {
     match question {
+        Question::OfApp(asked) => Some(is_app_right(app, asked)),
+        Question::OfGroups(asked) => Some(are_groups_right(groups, asked)),
         Question::OfBook(grants, asked) => is_book_right(alloc, chip, app, groups, grants, asked),
         Question::OfAllocation(asked) => is_allocation_right(alloc, chip, app, groups, asked),
         Question::OfPlan(text, asked) => is_plan_right(alloc, chip, app, groups, text, asked),

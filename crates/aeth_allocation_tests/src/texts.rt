@@ -5,6 +5,7 @@ ghost use Rattle.aeth_plan.specs.Making.{AreApart};
 ghost use Rattle.aeth_plan.specs.Plan.{IsPlanOf};
 ghost use Rattle.std.specs.Prelude.{◌≡◌, AllPairs};
 
+use crate::spans::are_spans;
 use aeth_app::App;
 use aeth_chip::Chip;
 use aeth_group::{Grant, Groups};
@@ -19,6 +20,8 @@ pub(crate) enum AskedOfPlan {
     Text,
     /// The table size, the seats and the grants of the plan that the first seats and its grants make.
     Made(u32, usize, usize),
+    /// The lag and the writes of all switches, in the order of the use case that is left, and then of the one that is entered.
+    Spans(&'static [(u32, u32)]),
 }
 
 /// Whether the answer is right.
@@ -52,6 +55,7 @@ fn is_right_of(
     asked: &AskedOfPlan,
 ) -> Option<bool>
     requires app { IsAppOf chip.now app.now }
+    requires groups { groups.now ≡ groups_of app.now }
     requires plan { IsPlanOf chip.now app.now groups.now plan.now }
 {
     match asked {
@@ -59,6 +63,7 @@ fn is_right_of(
         AskedOfPlan::Made(slots, seats, grants) => {
             is_made(alloc, chip, app, plan.grants(), (*slots, *seats, *grants))
         }
+        AskedOfPlan::Spans(wanted) => are_spans(alloc, chip, app, groups, plan, wanted),
     }
 }
 
