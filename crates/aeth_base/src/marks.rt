@@ -1,6 +1,6 @@
 // Which of some numbers are marked, as masks of 64 numbers each.
 
-ghost use Rattle.std.specs.Prelude.{◌≡◌, ◌≢◌, ◌<◌, ◌≤◌, ◌*◌, ◌^◌, ◌⊎◌, ◌↔◌, ℕ, IfOk, IsTrue, length};
+ghost use Rattle.std.specs.Prelude.{◌≡◌, ◌≢◌, ◌<◌, ◌≤◌, ◌+◌, ◌*◌, ◌/◌, ◌^◌, ◌⊎◌, ◌↔◌, ℕ, IfOk, IsTrue, length};
 ghost use Rattle.aeth_base.specs.Marks.{bit_of, marked_from, numbers_of_mask, room_of};
 
 use crate::marked::Marked;
@@ -35,6 +35,7 @@ impl Model for Marks {
 impl Marks {
     /// Marks with room for the numbers up to `last`, all of them marked.
     pub fn all(alloc: Global, last: usize) -> Result<Marks, NoMemory>
+        ensures masks { IfOk result (λ marks. length marks ≡ last / numbers_of_mask + 1) }
         ensures room { IfOk result (λ marks. last < room_of marks) }
         ensures marked { IfOk result (λ marks. (number : ℕ) → number < room_of marks
             → bit_of marks number ≡ 1) }
@@ -46,6 +47,7 @@ impl Marks {
 
     /// Marks with room for the numbers up to `last`, none of them marked.
     pub fn none(alloc: Global, last: usize) -> Result<Marks, NoMemory>
+        ensures masks { IfOk result (λ marks. length marks ≡ last / numbers_of_mask + 1) }
         ensures room { IfOk result (λ marks. last < room_of marks) }
         ensures unmarked { IfOk result (λ marks. (number : ℕ) → bit_of marks number ≡ 0) }
     {

@@ -1,5 +1,5 @@
 -- Laws of meetings: slots that a mask and turned starts have in common, and paths link by link.
-use Rattle.std.proofs.Common.{◌≡◌, ◌∙◌, ◌<◌, ◌+◌, ◌*◌, ◌-◌, ◌%◌, ◌||◌, ℕ, Bool, true, false}
+use Rattle.std.proofs.Common.{◌≡◌, ◌∙◌, ◌<◌, ◌+◌, ◌*◌, ◌%◌, ◌||◌, ℕ, Bool, true, false}
 use Rattle.std.proofs.Common.{List, [], ◌∷◌, Contains, length, Some, slice_get, drop, refl, sym, ap}
 use Rattle.std.proofs.Common.{arith, get_or}
 use Rattle.std.specs.Prelude.{nat_lt}

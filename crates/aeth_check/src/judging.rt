@@ -79,32 +79,27 @@ fn judge_seated(
         return Ok(verdict);
     }
     let distances = Distances::of(alloc, chip)?;
-    judge_paths(alloc, chip, app, groups, &distances, seating, plan)
+    if let Some(verdict) = stray_path(chip, app, &distances, seating, plan) {
+        return Ok(verdict);
+    }
+    judge_slots(alloc, chip, app, groups, plan)
 }
 
-/// The first rule from 5 on that a plan breaks, or that it is accepted.
-fn judge_paths(
+/// The first rule from 6 on that a plan breaks, or that it is accepted.
+fn judge_slots(
     alloc: Global,
     chip: &Chip,
     app: &App,
     groups: &Groups,
-    distances: &Distances,
-    seating: &Seating,
     plan: &Plan,
 ) -> Result<Verdict, NoMemory>
     requires chip { IsChip chip.now }
     requires within { All (IsWithin chip.now app.now) plan.now.grants }
     requires placed { All (IsPlaced chip.now) plan.now.grants }
-    requires distances { distances.now ≡ chip.now.links }
-    requires seating { seating.now ≡ plan.now.seats }
     ensures { IfOk result (λ verdict. verdict
-        ≡ unwrap_or (option_or (stray_path chip.now app.now plan.now)
-        (option_or (unfit_slots chip.now app.now plan.now)
-        (conflict chip.now groups.now plan.now))) Verdict.Accepted) }
+        ≡ unwrap_or (option_or (unfit_slots chip.now app.now plan.now)
+        (conflict chip.now groups.now plan.now)) Verdict.Accepted) }
 {
-    if let Some(verdict) = stray_path(chip, app, distances, seating, plan) {
-        return Ok(verdict);
-    }
     if let Some(verdict) = unfit_slots(chip, app, plan) {
         return Ok(verdict);
     }

@@ -59,7 +59,7 @@ flits_counted-rests (wire ∷ wires) (count ∷ counts) empty =
     ∙ ap (λ (others : List ℕ). count ∷ others)
     (flits_counted-rests wires counts (λ l. empty (suc l)))
 
--- Wires that are all empty are one, where they are as many.
+-- Two lists of wires that are all empty are one list, where they are as long.
 pub both-empty : (one other : List (Option Flit)) → length one ≡ length other
     → ((l : ℕ) → flit_on one l ≡ None) → ((l : ℕ) → flit_on other l ≡ None) → one ≡ other
 both-empty one other size first second =

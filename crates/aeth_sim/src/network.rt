@@ -168,6 +168,7 @@ impl Network {
         requires still { AreStill (to - self.old.time) self.old }
         ensures played { self.new ≡ played (to - self.old.time) self.old }
         ensures parts { length self.new.components.parts ≡ length self.old.components.parts }
+        ensures wires { self.new.components.wires ≡ self.old.components.wires }
         ensures run { (inputs : Inputs) → IsNetworkOf inputs self.old
             → IsNetworkOf inputs self.new }
     {
