@@ -5,6 +5,7 @@ import sys
 
 sys.path.insert(0, str(Path(__file__).resolve().parent.parent / "draw.d"))
 import toml_lines  # noqa: E402: its folder is told above
+from design import group_of  # noqa: E402, F401
 
 
 def read(path):

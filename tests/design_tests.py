@@ -168,6 +168,26 @@ class Traces(Designs):
         self.assertGreater(len(landings), 500)
         self.assertEqual([row for row in landings if row[2] > row[3]], [])
 
+    def test_words_go_with_switches(self):
+        """Connections that `menu` keeps go on; what `record` opens goes when the drain is over."""
+        switches = self.made("of.csv", "switches", *self.FILES, "3000", "decode", "menu", "record", "--drain", "40")
+        status, text, errors = self.run_script("design", "words", *self.FILES, switches, "3000")
+        self.assertEqual(status, 0, errors)
+        cycles = {}
+        for row in rows(text):
+            cycles.setdefault(row["connection"], []).append(int(row["cycle"]))
+        self.assertEqual(cycles["scal_disp"], list(range(0, 2000, 4)))
+        self.assertEqual(cycles["mem_dec"], list(range(0, 1000, 8)))
+        self.assertEqual(cycles["cam_mem"], list(range(2040, 3000, 8)))
+        self.assertEqual(cycles["vin_mem"], [*range(0, 1000, 8), *range(2040, 3000, 8)])
+        status, text, _ = self.run_script("design", "receivers", *self.FILES, switches, "3000", "--stall", "cam_mem,fwd,9")
+        self.assertEqual((status, text), (0, "connection,side,cycle,pull\ncam_mem,fwd,9,0\n"))
+
+    def test_switches_behind_the_run_count_for_nothing(self):
+        switches = self.file("two.csv", "cycle,use,drain\n0,menu,0\n960,decode,9\n")
+        ran = [self.run_script("design", "words", *self.FILES, use, "960") for use in (switches, "menu")]
+        self.assertEqual(*ran)
+
     def test_a_stalled_receiver_takes_nothing(self):
         status, text, _ = self.run_script("design", "receivers", *self.FILES, "decode", "100", "--stall", "cpu_mem,fwd,7")
         self.assertEqual((status, text), (0, "connection,side,cycle,pull\ncpu_mem,fwd,7,0\n"))
@@ -194,10 +214,23 @@ class Traces(Designs):
             (("switches", *self.FILES, "90", "decode", "menu", "record", "--drain", "31"),
              "these switches are 30 cycles apart, and each takes its drain of 31 and more"),
             (("words", *self.FILES, "decode", "1000001"), "a run has 1 to 1,000,000 cycles"),
-            (("receivers", *self.FILES, "menu", "9", "--stall", "vin_mem,fwd,0"), "menu has no channel vin_mem fwd"),
+            (("receivers", *self.FILES, "menu", "9", "--stall", "vin_mem,fwd,0"), "no channel vin_mem fwd is in menu"),
+            (("words", *self.FILES, "./none", "9"), "./none: No such file or directory"),
         ):
             with self.subTest(words=words):
                 self.assertEqual(self.run_script("design", *words), (1, "", f"design: {tells}\n"))
+
+    def test_what_is_no_file_of_switches(self):
+        wrong = "must have the columns cycle,use,drain, and cycles that rise from 0"
+        none = "no use case has the name play: they are decode, menu, record"
+        head = "cycle,use,drain\n"
+        for text in ("", head, "cycle,use\n0,menu\n", head + "1,menu,0\n", head + "0,menu,0\n0,menu,0\n", head + "0,menu,x\n"):
+            with self.subTest(text=text):
+                path = self.file("wrong.csv", text)
+                ran = self.run_script("design", "words", *self.FILES, path, "9")
+                self.assertEqual(ran, (1, "", f"design: {path} {wrong}\n"))
+        path = self.file("play.csv", head + "0,play,0\n")
+        self.assertEqual(self.run_script("design", "words", *self.FILES, path, "9"), (1, "", f"design: {none}\n"))
 
 
 class Help(Designs):
