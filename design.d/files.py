@@ -5,7 +5,8 @@ import sys
 
 sys.path.insert(0, str(Path(__file__).resolve().parent.parent / "draw.d"))
 import toml_lines  # noqa: E402: its folder is told above
-from design import group_of  # noqa: E402, F401
+from design import group_of  # noqa: E402
+from runs import Switching  # noqa: E402, F401
 
 
 def read(path):
@@ -30,6 +31,11 @@ def text_of(root):
         else:
             lines.append(f"{key} = {spelled(value)}\n")
     return "".join(lines)
+
+
+def groups_of(app):
+    """The number of each use case's group."""
+    return {case["name"]: group_of(case["name"], app) for case in app["use"]}
 
 
 def rows_of(text, word):

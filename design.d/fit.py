@@ -39,7 +39,7 @@ def changed(chip, app, slots, detour, price):
 
 def fullest_link(chip, app, grants):
     """The greatest number of used slots of a link in one use case."""
-    smooth = groups(app)
+    smooth = files.groups_of(app)
     most = 0
     for case in app["use"]:
         used = Counter()
@@ -49,18 +49,6 @@ def fullest_link(chip, app, grants):
                     used[link] += starts.count(",") + 1
         most = max(most, *used.values()) if used else most
     return most
-
-
-def groups(app):
-    """The number of each use case's group: smooth pairs join use cases, and groups count by their first one."""
-    names = [case["name"] for case in app["use"]]
-    first = {name: place for place, name in enumerate(names)}
-    for _ in names:
-        for case in app["use"]:
-            for other in case.get("smooth", []):
-                first[case["name"]] = first[other] = min(first[case["name"]], first[other])
-    order = sorted(set(first.values()))
-    return {name: order.index(place) for name, place in first.items()}
 
 
 def greatest_latency(folder, app):
@@ -93,7 +81,7 @@ def tried(chip, app, slots, detour, price):
 
 def all_tries(chip, app, sizes, detours, prices):
     """Each choice, several at once, with a line of progress on a terminal."""
-    choices = list(product(sizes, detours, prices))
+    choices = list(product(*map(dict.fromkeys, (sizes, detours, prices))))
     done, results = 0, []
     shows = sys.stderr.isatty()
     with ThreadPoolExecutor(os.cpu_count() or 1) as pool:
@@ -137,4 +125,7 @@ def fit(chip_path, app_path, sizes=SIZES, detours=DETOURS, prices=PRICES):
     for detour in detours:
         if not 0 <= detour <= MOST_DETOUR:
             raise Refused(f"a detour is 0 to {MOST_DETOUR} links")
+    for price in prices:
+        if price not in PRICES:
+            raise Refused(f"a cost is {' or '.join(PRICES)}")
     return table_of(all_tries(files.read(chip_path), files.read(app_path), sizes, detours, prices))

@@ -1,67 +1,125 @@
 """Traces for a run: words at the rates that channels wish, receivers that take late or stall, switches."""
-from pathlib import Path
+from dataclasses import dataclass, replace
 import csv
 import io
 import random
 import re
 
-from files import group_of
+from aeth import run_aeth
+from files import Switching, groups_of, read
 from shapes import Refused
 
+MOST_BYTES = 33_554_432
 MOST_CYCLES = 1_000_000
 MOST_ROWS = 1_000_000
 MOST_SWITCHES = 1_024
 ALL = 255  # the greatest pull: a receiver takes all that has landed
 
 KINDS = ("periodic", "greedy", "random")
+TOO_MANY_WORDS = f"these are more than {MOST_ROWS:,} words: take fewer cycles or less load"
+TOO_MANY_ROWS = f"these are more than {MOST_ROWS:,} rows: take fewer cycles"
 
 
-def known_use(use, app):
+@dataclass(frozen=True)
+class Switch:
+    """A switch of a run, and the cycle from which what it opens has words."""
+
+    cycle: int
+    use: str
+    drain: int
+    opens: int
+
+
+def cycle_of(text):
+    """The number of a cycle or of a drain, as files have it, or none."""
+    number = int(text) if re.fullmatch("0|[1-9][0-9]{0,6}", text, re.ASCII) else MOST_CYCLES + 1
+    return number if number <= MOST_CYCLES else None
+
+
+def known_use(use, app, more=""):
     """The name of a use case of the application."""
     names = [case["name"] for case in app["use"]]
     if use not in names:
-        raise Refused(f"no use case has the name {use}: they are {', '.join(names)}")
+        raise Refused(f"no use case has the name {use}: they are {', '.join(names)}{more}")
     return use
 
 
-def switches_of(word, app, cycles):
-    """The switches of a run, each with its cycle, its use case and its drain: those of a file, or one use case alone."""
-    if re.fullmatch("[a-z0-9_]+", word):
-        return [(0, known_use(word, app), 0)]
+def rows_of_file(path):
+    """The rows of a file in CSV, but for those without a field."""
     try:
-        header, *rows = filter(None, csv.reader(io.StringIO(Path(word).read_text(encoding="utf-8-sig"), newline="")))
-        switches = [(int(cycle), known_use(use, app), int(drain)) for cycle, use, drain in rows]
-    except OSError as error:
-        raise Refused(f"{word}: {error.strerror}") from None
-    except (csv.Error, ValueError):
-        header, switches = [], []
-    starts = [cycle for cycle, _, _ in switches]
-    if header != ["cycle", "use", "drain"] or starts[:1] != [0] or starts != sorted(set(starts)):
-        raise Refused(f"{word} must have the columns cycle,use,drain, and cycles that rise from 0")
-    return [switch for switch in switches if switch[0] < cycles]
+        with open(path, "rb") as file:
+            data = file.read(MOST_BYTES + 1)
+    except (OSError, ValueError) as error:
+        raise Refused(f"{path}: {getattr(error, 'strerror', error)}") from None
+    if len(data) > MOST_BYTES:
+        raise Refused(f"{path} has more than {MOST_BYTES:,} bytes")
+    try:
+        return list(filter(None, csv.reader(io.StringIO(data.decode("utf-8-sig", "replace"), newline=""))))
+    except csv.Error as error:
+        raise Refused(f"{path}: {error}") from None
 
 
-def spans_of(connection, cases, switches, cycles):
-    """From which cycle to which a connection runs: from a switch that opens it, when that has drained, up to one that
-    doesn't keep it. Of each use case there are its group and its connections."""
-    ends = [cycle for cycle, _, _ in switches[1:]] + [cycles]
+def switch_of(row, place, app):
+    """The switch of a row."""
+    numbers = [cycle_of(text) for text in row[::2]]
+    if len(row) != 3 or None in numbers:
+        raise Refused(f"{place}: there must be a cycle, a use case and a drain, numbers of 0 to {MOST_CYCLES:,}")
+    try:
+        return Switch(numbers[0], known_use(row[1], app), numbers[1], sum(numbers))
+    except Refused as refused:
+        raise Refused(f"{place}: {refused}") from None
+
+
+def switches_of(word, app, cycles):
+    """The switches of a run: those of a file, or one use case alone."""
+    if "." not in word and "/" not in word:
+        return [Switch(0, known_use(word, app, "; the path of a file of switches has a dot or a slash"), 0, 0)]
+    header, *rows = rows_of_file(word) or [[]]
+    if header != ["cycle", "use", "drain"]:
+        raise Refused(f"{word}: the columns must be cycle,use,drain")
+    switches = [switch_of(row, f"{word}, row {number}", app) for number, row in enumerate(rows, 1)]
+    starts = [switch.cycle for switch in switches]
+    if not switches or (switches[0].cycle, switches[0].drain) != (0, 0):
+        raise Refused(f"{word}: the first switch must be in cycle 0, with a drain of 0")
+    if starts != sorted(set(starts)):
+        raise Refused(f"{word}: the cycles of switches must rise")
+    if len(switches) > MOST_SWITCHES:
+        raise Refused(f"a run has at most {MOST_SWITCHES:,} rows of switches")
+    return [switch for switch in switches if switch.cycle < cycles]
+
+
+def by_plan(switches, chip, app, plan):
+    """The same, where what a switch opens has words from the cycle on in which its sessions begin by an accepted plan."""
+    status, _, errors = run_aeth("check", chip, app, plan)
+    if status:
+        raise Refused(errors.strip(), status)
+    with open(plan, encoding="ascii") as file:
+        switching = Switching(read(chip), read(app), file.read())
+    return switches[:1] + [
+        replace(new, opens=switching.switch(new.cycle, old.use, new.use, new.drain).over)
+        for old, new in zip(switches, switches[1:])
+    ]
+
+
+def spans_of(connection, groups, members, switches, cycles):
+    """From which cycle to which a connection has words: from a switch that opens it up to one that doesn't keep it."""
+    ends = [switch.cycle for switch in switches[1:]] + [cycles]
     spans, before = [], None
-    for (cycle, use, drain), end in zip(switches, ends):
-        group, members = cases[use]
-        now = group if connection in members else None
+    for switch, end in zip(switches, ends):
+        now = groups[switch.use] if connection in members[switch.use] else None
         if now is not None and now == before:
             spans[-1] = spans[-1][0], end
         elif now is not None:
-            spans.append((min(cycle + drain, end), end))
+            spans.append((min(switch.opens, end), end))
         before = now
     return spans
 
 
 def channels_of(app, switches, cycles):
     """The channels of a run, by connection in file order and side, each with its wish and the spans in which it runs."""
-    cases = {case["name"]: (group_of(case["name"], app), set(case["connections"])) for case in app["use"]}
+    groups, members = groups_of(app), {case["name"]: set(case["connections"]) for case in app["use"]}
     for connection in app["connection"]:
-        spans = spans_of(connection["name"], cases, switches, cycles)
+        spans = spans_of(connection["name"], groups, members, switches, cycles)
         if spans:
             yield connection["name"], "fwd", connection["fwd"], spans
             yield connection["name"], "back", connection["back"], spans
@@ -97,9 +155,11 @@ def words_rows(app, switches, cycles, kind="periodic", seed=0, load=100):
         chance = random.Random(f"{seed} {connection} {side}")
         for start, end in spans:
             if len(rows) + (end - start) * wish["words"] * load // (100 * wish["per"]) > MOST_ROWS:
-                raise Refused(f"these are more than {MOST_ROWS:,} words: take fewer cycles or less load")
+                raise Refused(TOO_MANY_WORDS)
             made = MAKERS[kind](wish, load, end - start, chance)
             rows += [(start + cycle, place, connection, side) for cycle in made if cycle < end - start]
+    if len(rows) > MOST_ROWS:
+        raise Refused(TOO_MANY_WORDS)
     return [(name, side, cycle, value) for value, (cycle, _, name, side) in enumerate(sorted(rows))]
 
 
@@ -113,6 +173,8 @@ def late_rows(app, switches, cycles):
     rows = []
     for connection, side, wish, _ in channels_of(app, switches, cycles):
         delay = wish["delay"]
+        if delay and len(rows) + 2 * -(-cycles // (delay + 1)) > MOST_ROWS:
+            raise Refused(TOO_MANY_ROWS)
         for start in range(0, cycles, delay + 1) if delay else ():
             rows += [(start, connection, side, 0), (min(start + delay, MOST_CYCLES), connection, side, ALL)]
     return rows
@@ -124,12 +186,12 @@ def receivers_text(app, switches, cycles, late, stalls):
     known = {(connection, side) for connection, side, _, _ in channels_of(app, switches, cycles)}
     for connection, side, start in stalls:
         if (connection, side) not in known:
-            uses = dict.fromkeys(use for _, use, _ in switches)
+            uses = dict.fromkeys(switch.use for switch in switches)
             raise Refused(f"no channel {connection} {side} is in {', '.join(uses)}")
         rows = [row for row in rows if row[1:3] != (connection, side) or row[0] < start]
         rows.append((start, connection, side, 0))
     if len(rows) > MOST_ROWS:
-        raise Refused(f"these are more than {MOST_ROWS:,} rows: take fewer cycles")
+        raise Refused(TOO_MANY_ROWS)
     rows.sort(key=lambda row: row[0])
     return "connection,side,cycle,pull\n" + "".join(f"{c},{s},{t},{p}\n" for t, c, s, p in rows)
 
@@ -137,6 +199,8 @@ def receivers_text(app, switches, cycles, late, stalls):
 def switches_text(app, cycles, uses, drain):
     """A switch to each named use case after the first, evenly over the run."""
     uses = [known_use(use, app) for use in uses]
+    if not 0 <= drain <= MOST_CYCLES:
+        raise Refused(f"a drain is 0 to {MOST_CYCLES:,} cycles")
     if len(uses) > MOST_SWITCHES:
         raise Refused(f"a run has at most {MOST_SWITCHES:,} rows of switches")
     rows = [(place * cycles // len(uses), use, drain if place else 0) for place, use in enumerate(uses)]

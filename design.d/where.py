@@ -5,7 +5,7 @@ from pathlib import Path
 import math
 
 from aeth import run_aeth
-from files import read, toml_lines
+from files import groups_of, read, toml_lines
 from paths import why_none
 from places import WALKS, row_line
 from plans import why_broken
@@ -32,8 +32,9 @@ SECTIONS = {
     "words": "Trace files", "receivers": "Trace files", "switches": "Trace files", "log": "Logs of links",
 }
 HELP = (
-    "More slots, a greater detour, a lower rate or a greater latency may help: `./design fit` tries tables and detours, and "
-    "`./aeth explain` tells which links were too full."
+    "More slots, a greater detour, a lower rate or a greater latency may help, or cores without an `ni` of their own: "
+    "`./design fit` tries tables and detours, and `./aeth explain` tells which links were too full, or `./draw refusal` shows "
+    "them."
 )
 MOST_BYTES = 33_554_432
 MOST_DEPTH = 80  # of arrays and inline tables, one within another
@@ -205,10 +206,18 @@ def refusal(file, rule, name, place, value, paths):
 read_once = cache(read)
 
 
+def group_named(group, paths):
+    """A group by its number, with the names of its use cases where the application can be read again."""
+    if not ("app" in paths and Path(paths["app"]).is_file()):
+        return f"group {group}"
+    uses = [use for use, number in groups_of(read_once(paths["app"])).items() if number == int(group)]
+    return f"group {group} ({', '.join(uses)})"
+
+
 def refused_unit(connection, group, side, turn, paths):
     """A refused unit in words, with why no path suits where the files tell it, or else with what may help."""
     refused = (
-        f"Connection `{connection}` in group {group}: in turn {turn} its channel {side} had no admissible path with a "
+        f"Connection `{connection}` in {group_named(group, paths)}: in turn {turn} its channel {side} had no admissible path with a "
         "suitable set of free slots."
     )
     tells_why = "app" in paths and all(Path(paths[file]).is_file() for file in ("chip", "app"))
@@ -254,7 +263,7 @@ def told(line, paths):
     if word == "broken":
         return broken_plan(*rest, paths)
     if word == "missing":
-        return [f"The plan has no grant for channel {rest[2]} of connection `{rest[0]}` in group {rest[1]}."]
+        return [f"The plan has no grant for channel {rest[2]} of connection `{rest[0]}` in {group_named(rest[1], paths)}."]
     if word == "fault":
         return fault(*rest, paths)
     if line.startswith("not dead "):

@@ -209,7 +209,12 @@ class Traces(Designs):
     def test_what_makes_no_trace(self):
         none = "no use case has the name play: they are decode, menu, record"
         for words, tells in (
-            (("words", *self.FILES, "play", "10"), none),
+            (("words", *self.FILES, "play", "10"), none + "; the path of a file of switches has a dot or a slash"),
+            (("switches", *self.FILES, "10", "menu", "--drain", "1000001"), "a drain is 0 to 1,000,000 cycles"),
+            (("receivers", *self.FILES, "menu", "9", "--stall", "cpu_mem,fwd,-5"),
+             "argument --stall: this must be CONN,SIDE,CYCLE, with a cycle of 0 to 1,000,000"),
+            (("fit", *self.FILES, "--slots", "a"), "argument --slots: these must be numbers with commas"),
+            (("fit", *self.FILES, "--costs", "foo"), "a cost is hops or pressure"),
             (("switches", *self.FILES, "10", "play"), none),
             (("switches", *self.FILES, "90", "decode", "menu", "record", "--drain", "31"),
              "these switches are 30 cycles apart, and each takes its drain of 31 and more"),
@@ -221,16 +226,48 @@ class Traces(Designs):
                 self.assertEqual(self.run_script("design", *words), (1, "", f"design: {tells}\n"))
 
     def test_what_is_no_file_of_switches(self):
-        wrong = "must have the columns cycle,use,drain, and cycles that rise from 0"
-        none = "no use case has the name play: they are decode, menu, record"
-        head = "cycle,use,drain\n"
-        for text in ("", head, "cycle,use\n0,menu\n", head + "1,menu,0\n", head + "0,menu,0\n0,menu,0\n", head + "0,menu,x\n"):
-            with self.subTest(text=text):
+        head, row = "cycle,use,drain\n", "there must be a cycle, a use case and a drain, numbers of 0 to 1,000,000"
+        for text, tells in (
+            ("", ": the columns must be cycle,use,drain"),
+            ("cycle,use\n0,menu\n", ": the columns must be cycle,use,drain"),
+            (head, ": the first switch must be in cycle 0, with a drain of 0"),
+            (head + "1,menu,0\n", ": the first switch must be in cycle 0, with a drain of 0"),
+            (head + "0,menu,1\n", ": the first switch must be in cycle 0, with a drain of 0"),
+            (head + "0,menu,0\n5,decode,0\n5,menu,0\n", ": the cycles of switches must rise"),
+            (head + "0,menu,0\n5,decode,-1\n", f", row 2: {row}"),
+            (head + "0,menu,0\n1_0,decode,0\n", f", row 2: {row}"),
+            (head + "0,menu,0\n5,decode\n", f", row 2: {row}"),
+            (head + "0,play,0\n", ", row 1: no use case has the name play: they are decode, menu, record"),
+            (head + "".join(f"{cycle},menu,0\n" for cycle in range(1025)), None),
+        ):
+            with self.subTest(text=text[:60]):
                 path = self.file("wrong.csv", text)
-                ran = self.run_script("design", "words", *self.FILES, path, "9")
-                self.assertEqual(ran, (1, "", f"design: {path} {wrong}\n"))
-        path = self.file("play.csv", head + "0,play,0\n")
-        self.assertEqual(self.run_script("design", "words", *self.FILES, path, "9"), (1, "", f"design: {none}\n"))
+                tells = f"{path}{tells}" if tells else "a run has at most 1,024 rows of switches"
+                self.assertEqual(self.run_script("design", "words", *self.FILES, path, "9"), (1, "", f"design: {tells}\n"))
+
+    def test_with_a_plan_no_word_is_outside(self):
+        """Those of a whole period in its first cycle, in the sessions that the switches open."""
+        plan = self.made("of.plan", *("where", "allocate"), *self.FILES)
+        switches = self.made("of.csv", "switches", *self.FILES, "3000", "decode", "record", "menu", "decode", "record")
+        receivers = self.made("of.receivers.csv", "receivers", *self.FILES, switches, "3000")
+        outside = []
+        for more in ((), ("--plan", plan)):
+            words = self.made("of.words.csv", "words", *self.FILES, switches, "3000", "--kind", "greedy", *more)
+            status, log, errors = self.run_script("aeth", "simulate", *self.FILES, plan, words, receivers, switches, "3000")
+            self.assertEqual(status, 0, errors)
+            outside.append(sum(int(line.split(" ")[3]) for line in log.splitlines() if line.startswith("outside ")))
+        self.assertGreater(outside[0], 0)
+        self.assertEqual(outside[1], 0)
+        refused = self.run_script("design", "words", *self.FILES, switches, "9", "--plan", EXAMPLES / "one.plan")
+        self.assertEqual(refused[0], 2)
+
+    def test_words_are_counted_as_they_are_made(self):
+        """A rate that isn't whole gives a word more than its part of the cycles."""
+        app = (EXAMPLES / "one.toml").read_text(encoding="utf-8").replace("words = 1, per = 2", "words = 1999997, per = 1000000")
+        pair = self.file("wide.toml", (EXAMPLES / "pair.toml").read_text(encoding="utf-8"))
+        status, text, errors = self.run_script("design", "words", pair, self.file("fast.toml", app), "main", "500001")
+        self.assertEqual((status, text), (1, ""))
+        self.assertIn("these are more than 1,000,000 words", errors)
 
 
 class Help(Designs):
@@ -244,7 +281,7 @@ class Help(Designs):
         page = self.run_script("design", "help")[1]
         for command, text in re.findall(r"^design (\w+) (.*?)^$", page, re.M | re.S):
             defaults = re.findall(r"--\w+ [\w,]*\w", "".join(re.findall(r"Without th\w+ words?: (.*)", text)))
-            optional = set(re.findall(r"\[(--\w+) ", text)) - {"--at", "--stall"}
+            optional = set(re.findall(r"\[(--\w+) ", text)) - {"--at", "--plan", "--stall"}
             self.assertEqual({default.split(" ")[0] for default in defaults}, optional, command)
             if command in self.WORDS:
                 made = [self.run_script("design", command, *self.WORDS[command], *more)[1]
