@@ -10,6 +10,16 @@ def counted(number, thing):
     return f"{number:,} {thing}" if number == 1 else f"{number:,} {thing}s"
 
 
+def outside_of(run):
+    """How many words came outside of all sessions, with the three channels that had most of them."""
+    channels = sorted((channel for channel in run.channels if channel.outside), key=lambda channel: -channel.outside)
+    if not channels:
+        return ""
+    names = [f"{channel.connection} {channel.side}" for channel in channels[:3]] + [".."] * (len(channels) > 3)
+    words = counted(sum(channel.outside for channel in channels), "word")
+    return f"; {words} came outside of all sessions, of {', '.join(names)}"
+
+
 def verdict_of(lines, refused, run):
     """One line: whether everything is granted and, for a run, how many words were late or overdue."""
     channels = counted(len(lines), "channel")
@@ -23,24 +33,23 @@ def verdict_of(lines, refused, run):
     tells += f" In {counted(run.cycles, 'cycle')} {counted(landed, 'word')} landed, {late:,} late"
     tells += f", {overdue:,} overdue" if overdue else ""
     tells += f"; {counted(dropped, 'word')} dropped in switches" if dropped else ""
-    outside = sum(channel.outside for channel in run.channels)
-    tells += f"; {counted(outside, 'word')} came outside of all sessions" if outside else ""
-    return tells + ".", not (late or overdue)
+    return f"{tells}{outside_of(run)}.", not (late or overdue)
 
 
-def refusal(line):
-    """A line `refused unit ..`, in words."""
+def refusal(line, groups):
+    """A line `refused unit ..`, in words, with the use cases of its group."""
     connection, group, side, turn = line.split(" ")[2:]
+    uses = ", ".join(use for use, number in groups.items() if number == int(group))
     return (
-        f"Connection {connection} in group {group}: its channel {side} had no admissible path with a suitable set of free "
+        f"Connection {connection} in group {group} ({uses}): its channel {side} had no admissible path with a suitable set of free "
         f"slots, in turn {turn}."
     )
 
 
 def refused_report(title, chip, app, errors):
     """The report of a design of which units are refused: what was refused, and what is wished."""
-    lines, _ = lines_of(read_toml(chip), read_toml(app))
-    refused = [refusal(line) for line in errors.splitlines() if line.startswith("refused unit ")]
+    lines, groups = lines_of(read_toml(chip), read_toml(app))
+    refused = [refusal(line, groups) for line in errors.splitlines() if line.startswith("refused unit ")]
     verdict, is_good = verdict_of(list(lines.values()), refused, None)
     return page(title, verdict, is_good, refused, list(lines.values()), [], False)
 

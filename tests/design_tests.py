@@ -616,11 +616,18 @@ class Reports(Designs):
         self.assertRegex(text, r"Everything is granted: 18 channels\. In 1,000 cycles \d+ words landed, 0 late\.")
         self.assertEqual(text.count("<figure>"), 3)
 
+    def test_words_outside_are_told_with_their_channel(self):
+        files_ = EXAMPLES / "pair.toml", EXAMPLES / "two.toml"
+        plan = self.file("plan", self.run_script("aeth", "allocate", *files_)[1])
+        traces = [EXAMPLES / f"two.{kind}.csv" for kind in ("words", "receivers", "switches")]
+        text = self.report(*files_, plan, *traces, "24")
+        self.assertIn("6 words landed, 0 late; 1 word came outside of all sessions, of c1 fwd.", text)
+
     def test_refused_units(self):
         app = self.file("app", (EXAMPLES / "one.toml").read_text(encoding="utf-8").replace("latency = 6", "latency = 2"))
         text = self.report(EXAMPLES / "pair.toml", app, self.file("plan", ""))
         self.assertIn("Not everything is granted: 1 unit refused.", text)
-        self.assertIn("Connection c0 in group 0: its channel fwd had no admissible path", text)
+        self.assertIn("Connection c0 in group 0 (main): its channel fwd had no admissible path", text)
 
     def test_a_plan_that_is_refused(self):
         words = (EXAMPLES / "pair.toml", EXAMPLES / "one.toml", self.file("plan", "plan 1 9\nend\n"))
