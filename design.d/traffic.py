@@ -196,15 +196,28 @@ def receivers_text(app, switches, cycles, late, stalls):
     return "connection,side,cycle,pull\n" + "".join(f"{c},{s},{t},{p}\n" for t, c, s, p in rows)
 
 
-def switches_text(app, cycles, uses, drain):
+def switches_over(app, cycles, uses, drain):
     """A switch to each named use case after the first, evenly over the run."""
     uses = [known_use(use, app) for use in uses]
     if not 0 <= drain <= MOST_CYCLES:
         raise Refused(f"a drain is 0 to {MOST_CYCLES:,} cycles")
     if len(uses) > MOST_SWITCHES:
         raise Refused(f"a run has at most {MOST_SWITCHES:,} rows of switches")
-    rows = [(place * cycles // len(uses), use, drain if place else 0) for place, use in enumerate(uses)]
-    apart = min((after[0] - row[0] for row, after in zip(rows[1:], rows[2:])), default=drain)
+    starts = [place * cycles // len(uses) for place in range(len(uses))]
+    apart = min((after - start for start, after in zip(starts[1:], starts[2:])), default=drain)
     if apart < drain:
         raise Refused(f"these switches are {apart:,} cycles apart, and each takes its drain of {drain:,} and more")
-    return "cycle,use,drain\n" + "".join(f"{cycle},{use},{rest}\n" for cycle, use, rest in rows)
+    drains = [0] + [drain] * (len(uses) - 1)
+    return [Switch(start, use, rest, start + rest) for start, use, rest in zip(starts, uses, drains)]
+
+
+def refuse_overlaps(switches, cycles):
+    """Refuses switches that aren't over by the next one, or by the end of the run."""
+    for switch, end in zip(switches, [later.cycle for later in switches[1:]] + [cycles]):
+        if switch.opens > end:
+            takes = f"the switch to {switch.use} in cycle {switch.cycle:,} takes up to cycle {switch.opens:,}"
+            raise Refused(f"{takes}, and must be over by cycle {end:,}")
+
+
+def switches_text(switches):
+    return "cycle,use,drain\n" + "".join(f"{switch.cycle},{switch.use},{switch.drain}\n" for switch in switches)

@@ -206,6 +206,19 @@ class Traces(Designs):
         status, text, _ = self.run_script("design", "switches", *self.FILES, "3000", "decode", "menu", "record", "--drain", "9")
         self.assertEqual((status, text), (0, "cycle,use,drain\n0,decode,0\n1000,menu,9\n2000,record,9\n"))
 
+    def test_with_a_plan_each_switch_is_over_by_the_next(self):
+        """Without `--plan` this file is made, and `aeth` refuses it."""
+        plan = self.made("of.plan", *("where", "allocate"), *self.FILES)
+        uses = ("300", "decode", "menu", "record", "--drain", "90")
+        self.assertEqual(self.run_script("design", "switches", *self.FILES, "3000", *uses[1:], "--plan", plan)[0], 0)
+        switches = self.made("near.csv", "switches", *self.FILES, *uses)
+        traces = [self.made(f"none.{kind}", kind, *self.FILES, "decode", "1") for kind in ("words", "receivers")]
+        refused = self.run_script("aeth", "simulate", *self.FILES, plan, *traces, switches, "300")[2]
+        over = re.fullmatch(r"refused switches 4 Overlap 3 (\d+)\n", refused)[1]
+        status, text, errors = self.run_script("design", "switches", *self.FILES, *uses, "--plan", plan)
+        tells = f"design: the switch to menu in cycle 100 takes up to cycle {over}, and must be over by cycle 200\n"
+        self.assertEqual((status, text, errors), (1, "", tells))
+
     def test_what_makes_no_trace(self):
         none = "no use case has the name play: they are decode, menu, record"
         for words, tells in (
