@@ -41,8 +41,8 @@ def refusal(line, groups):
     connection, group, side, turn = line.split(" ")[2:]
     uses = ", ".join(use for use, number in groups.items() if number == int(group))
     return (
-        f"Connection {connection} in group {group} ({uses}): its channel {side} had no admissible path with a suitable set of free "
-        f"slots, in turn {turn}."
+        f"Connection {connection} in group {group} ({uses}): its channel {side} had no admissible path with a suitable set of "
+        f"free slots, in turn {turn}."
     )
 
 

@@ -208,7 +208,7 @@ class Traces(Designs):
 
     def test_with_a_plan_each_switch_is_over_by_the_next(self):
         """Without `--plan` this file is made, and `aeth` refuses it."""
-        plan = self.made("of.plan", *("where", "allocate"), *self.FILES)
+        plan = self.file("of.plan", self.run_script("aeth", "allocate", *self.FILES)[1])
         uses = ("300", "decode", "menu", "record", "--drain", "90")
         self.assertEqual(self.run_script("design", "switches", *self.FILES, "3000", *uses[1:], "--plan", plan)[0], 0)
         switches = self.made("near.csv", "switches", *self.FILES, *uses)
@@ -260,7 +260,7 @@ class Traces(Designs):
 
     def test_with_a_plan_no_word_is_outside(self):
         """Those of a whole period in its first cycle, in the sessions that the switches open."""
-        plan = self.made("of.plan", *("where", "allocate"), *self.FILES)
+        plan = self.file("of.plan", self.run_script("aeth", "allocate", *self.FILES)[1])
         switches = self.made("of.csv", "switches", *self.FILES, "3000", "decode", "record", "menu", "decode", "record")
         receivers = self.made("of.receivers.csv", "receivers", *self.FILES, switches, "3000")
         outside = []
@@ -277,8 +277,8 @@ class Traces(Designs):
     def test_words_are_counted_as_they_are_made(self):
         """A rate that isn't whole gives a word more than its part of the cycles."""
         app = (EXAMPLES / "one.toml").read_text(encoding="utf-8").replace("words = 1, per = 2", "words = 1999997, per = 1000000")
-        pair = self.file("wide.toml", (EXAMPLES / "pair.toml").read_text(encoding="utf-8"))
-        status, text, errors = self.run_script("design", "words", pair, self.file("fast.toml", app), "main", "500001")
+        files_ = EXAMPLES / "pair.toml", self.file("fast.toml", app)
+        status, text, errors = self.run_script("design", "words", *files_, "main", "500001")
         self.assertEqual((status, text), (1, ""))
         self.assertIn("these are more than 1,000,000 words", errors)
 
