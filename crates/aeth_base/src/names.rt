@@ -1,20 +1,21 @@
 // Names in an order, with their places.
-ghost use Rattle.std.specs.Prelude.{◌≡◌, ◌<◌, IfOk, Some, length, slice_get};
+ghost use Rattle.std.specs.Prelude.{◌≡◌, ◌<◌, ◌++◌, ◌∷◌, [], ℕ, List, length, slice_get};
+ghost use Rattle.std.specs.Prelude.{IfOk, OnOk, Some};
 ghost use Rattle.std.specs.List.{position};
 ghost use Rattle.std.specs.Str.{bytes_eq};
 ghost use Rattle.aeth_base.specs.Names.{HaveFirstPlaces};
 
 use crate::memory::NoMemory;
 use crate::name::Name;
+use indexmap::IndexMap;
 use std::alloc::Global;
-use std::collections::HashMap;
 use std::marker::Model;
 
 /// Names in an order, with the place at which each stands first. They are seen as the list of names.
 #[derive(Drop)]
 pub struct Names {
     list: Vec<Name>,
-    places: HashMap<Name, usize>,
+    places: IndexMap<Name, usize>,
 }
 
 impl Model for Names {
@@ -60,13 +61,24 @@ impl Names {
     }
 }
 
-// The first place of each name: they are entered from the last one on, so that the first of two that are one stays.
-fn places_of(alloc: Global, list: &[Name]) -> Result<HashMap<Name, usize>, NoMemory>
+// The first place of each name, in the order of the list.
+fn places_of(alloc: Global, list: &[Name]) -> Result<IndexMap<Name, usize>, NoMemory>
     ensures { IfOk result (HaveFirstPlaces list.now) }
 {
-    let mut places = HashMap::with_capacity(alloc, list.len())?;
-    for place in (0..list.len()).rev() {
-        places.insert(list[place], place)?;
+    let mut places = IndexMap::with_capacity(alloc, list.len())?;
+    for place in 0..list.len() {
+        enter(&mut places, list[place], place)?;
     }
     Ok(places)
+}
+
+// Puts a name with its place at the map's end, unless it is there: so the first of two that are one stays.
+fn enter(places: &mut IndexMap<Name, usize>, name: Name, place: usize) -> Result<(), NoMemory>
+    ensures { OnOk result ((before : List (List ℕ)) → length before ≡ place
+        → HaveFirstPlaces before places.old → HaveFirstPlaces (before ++ name ∷ []) places.new) }
+{
+    if !places.contains_key(&name) {
+        places.insert(name, place)?;
+    }
+    Ok(())
 }
