@@ -2,21 +2,15 @@
 -- This project's own.
 use Rattle.std.specs.Prelude.{codes, Option, Some, None}
 use Rattle.aeth_base.specs.Faults.{BrokenRule, broken_as}
-use Rattle.aeth_base.specs.declared.shown.Broken.{Broken}
-use Rattle.aeth_base.specs.declared.shown.Shown.TheVariants.{Nothing}
 use Rattle.aeth_app.specs.declared.fault.AppFault.{AppFault}
 use Rattle.aeth_app.specs.declared.fault.AppFault.TheVariants.{BadToml, CoreToItself, CoreTooBusy}
 use Rattle.aeth_app.specs.declared.fault.AppFault.TheVariants.{Memory, NameTwice, OutOfRange}
 use Rattle.aeth_app.specs.declared.fault.AppFault.TheVariants.{RateTooHigh, SeatsOverfull}
 use Rattle.aeth_app.specs.declared.fault.AppFault.TheVariants.{TooFewSeats, UnknownName, WrongKey}
 
--- A rule without a place and a value.
-abbrev pub nowhere : Broken
-nowhere = record { place = 0; value = Nothing }
-
 -- The rule that a fault shows; want of memory shows none.
 abbrev pub rule_of : AppFault → Option BrokenRule
-rule_of BadToml = Some (broken_as 1 (codes "BadToml") nowhere)
+rule_of (BadToml broken) = Some (broken_as 1 (codes "BadToml") broken)
 rule_of (WrongKey broken) = Some (broken_as 2 (codes "WrongKey") broken)
 rule_of (OutOfRange broken) = Some (broken_as 3 (codes "OutOfRange") broken)
 rule_of (NameTwice broken) = Some (broken_as 4 (codes "NameTwice") broken)

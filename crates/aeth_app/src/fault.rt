@@ -3,14 +3,14 @@ ghost use Rattle.std.specs.Prelude.{◌≡◌};
 ghost use Rattle.aeth_app.specs.Fault.{rule_of};
 ghost use Rattle.aeth_app.specs.declared.fault.AppFault.TheVariants.{Memory};
 
-use aeth_base::{Broken, BrokenRule, Fault, NoMemory, Shown};
+use aeth_base::{Broken, BrokenRule, Fault, NoMemory};
 
 /// The first rule that an application file breaks, with the first place in its walk where it is
 /// broken, and the value there.
 #[derive(Clone, Copy)]
 pub enum AppFault {
-    /// The bytes are no UTF-8 or no TOML. It has the place 0 and no value.
-    BadToml,
+    /// The bytes are no UTF-8 or no TOML. The place is 0, and there is no value.
+    BadToml(Broken),
     /// A key is missing, unknown or of another type. The root is place 0; the cores follow, then
     /// each connection's own table, its `fwd` and its `back`, then the use cases. In a table it is
     /// the least such key in byte order. The value is the key.
@@ -43,18 +43,12 @@ pub enum AppFault {
     Memory,
 }
 
-/// Where a rule without a place and a value is broken.
-const NOWHERE: Broken = Broken {
-    place: 0,
-    value: Shown::Nothing,
-};
-
 impl Fault for AppFault {
     ghost rule = { rule_of };
 
     fn broken_rule(&self) -> Option<BrokenRule> {
         match self {
-            AppFault::BadToml => Some(NOWHERE.breaks(1, "BadToml")),
+            AppFault::BadToml(broken) => Some(broken.breaks(1, "BadToml")),
             AppFault::WrongKey(broken) => Some(broken.breaks(2, "WrongKey")),
             AppFault::OutOfRange(broken) => Some(broken.breaks(3, "OutOfRange")),
             AppFault::NameTwice(broken) => Some(broken.breaks(4, "NameTwice")),

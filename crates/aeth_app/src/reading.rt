@@ -23,7 +23,7 @@ use crate::parts::{connections_of, cores_of, told_price, uses_of};
 use crate::ranges::out_of_range;
 use crate::repeats::name_twice;
 use crate::unknown::unknown_name;
-use aeth_base::NoMemory;
+use aeth_base::{Broken, NoMemory, Shown};
 use aeth_chip::Chip;
 use aeth_document::{integer_at, read_document, size, tables_at, text_if};
 use std::alloc::Global;
@@ -124,7 +124,10 @@ pub fn read_app(alloc: Global, bytes: &[u8], chip: &Chip) -> Result<App, AppFaul
     ensures chip { IfOk result (IsAppOf chip.now) }
 {
     match read_document(alloc, bytes)? {
-        None => Err(AppFault::BadToml),
+        None => Err(AppFault::BadToml(Broken {
+            place: 0,
+            value: Shown::Nothing,
+        })),
         Some(root) => app_in(alloc, chip, &root),
     }
 }
