@@ -16,3 +16,6 @@ mod WalkLemmas
 mod BelowLemmas
 pub mod ReadLemmas
 mod StepLemmas
+mod OrderLemmas
+mod CompareLemmas
+pub mod LeastLemmas

@@ -3,11 +3,13 @@
 use Rattle.std.proofs.Common.{◌+◌, drop}
 use Rattle.std.proofs.Common.{◌≡◌, ◌∙◌, ◌&&◌, ◌↔◌, ℕ, Bool, true, false, not}
 use Rattle.std.proofs.Common.{List, [], ◌∷◌, Option, None, Some, Contains, length, slice_get}
-use Rattle.std.proofs.Common.{refl, sym, ap, subst, get_or, leb}
+use Rattle.std.proofs.Common.{filter, refl, sym, ap, subst, get_or, leb}
 use Rattle.std.specs.Bool.{Decides}
 use Rattle.std.specs.List.{list_any}
+use Rattle.std.specs.List.Sorted.{IsPermutation}
 use Rattle.std.specs.Prelude.{position}
 use Rattle.std.proofs.lemmas.List.Elements.{Contains-get_or}
+use Rattle.std.proofs.lemmas.List.Sorted.{list_any-IsPermutation}
 use Rattle.std.proofs.lemmas.Bool.{and_from, and_parts, both_ways, false≢true}
 use Rattle.std.proofs.lemmas.Bool.{le-leb, leb-true, not-false, not-true}
 use Rattle.std.proofs.lemmas.Option.{same_Some}
@@ -225,3 +227,13 @@ module _ (chip : ChipData) (groups : GroupsData) (trial : TrialData) (cuts : Lis
   verdict-open path at some =
       by-one path (open_paths chip trial cuts) some
       ∙ sym (ap (λ o. by_cut o (open_paths chip trial cuts)) at)
+
+-- ---- the same lists in another order
+
+-- Which paths are open rests on which lists there are, and not on their order.
+pub open-reordered : (chip : ChipData) (trial : TrialData) (cuts index : List (List LinkId))
+    → IsPermutation cuts index → open_paths chip trial index ≡ open_paths chip trial cuts
+open-reordered chip trial cuts index same =
+    let covered : (path : List LinkId) → is_covered index path ≡ is_covered cuts path =
+    λ path. sym (list_any-IsPermutation (λ cut. begins_with cut path) cuts index same) in
+    λ i. filter (λ path. may_take chip trial path && not (covered path i)) (leaving_lists chip trial.from)

@@ -1,4 +1,5 @@
 pub mod Limits
+pub mod Order
 pub mod TryPaths
 pub mod Cuts
 pub mod Certificate

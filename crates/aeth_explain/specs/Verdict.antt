@@ -1,19 +1,33 @@
 -- What is found of a certificate. This project's own.
 --
---   is_covered, is_open, open_paths      paths that begin with none of its cuts
+--   IsOpen, IsLeastOpen      a path that begins with none of its cuts, and the least one
+--   is_covered, is_open, open_paths      the same as tests, and all such paths
 --   by_open, by_cut, verdict_of      the first list that is no cut, else the least open path, else
 --                                    that the lists are complete
-use Rattle.std.specs.Prelude.{◌+◌, ◌&&◌, ℕ, Bool, not, List, [], ◌∷◌, Option, Some, None, filter}
-use Rattle.std.specs.Prelude.{position}
+use Rattle.std.specs.Prelude.{◌≡◌, ◌≢◌, ◌+◌, ◌&&◌, ℕ, Bool, false, not, List, [], ◌∷◌, Contains, Option}
+use Rattle.std.specs.Prelude.{Some, None, filter, position}
 use Rattle.std.specs.List.{list_any}
+use Rattle.std.specs.declared.cmp.Ordering.TheVariants.{Less}
 use Rattle.aeth_base.specs.declared.ids.LinkId.{LinkId}
 use Rattle.aeth_chip.specs.Chip.{ChipData}
 use Rattle.aeth_group.specs.Members.{GroupsData}
 use Rattle.aeth_paths.specs.Trials.{TrialData}
 use Rattle.aeth_explain.specs.Cuts.{begins_with, is_cut}
-use Rattle.aeth_explain.specs.TryPaths.{leaving_lists, may_take}
+use Rattle.aeth_explain.specs.Order.{dictionary}
+use Rattle.aeth_explain.specs.TryPaths.{MayTake, leaving_lists, may_take}
 use Rattle.aeth_explain.specs.declared.verdict.CutVerdict.{CutVerdict}
 use Rattle.aeth_explain.specs.declared.verdict.CutVerdict.TheVariants.{Complete, NotDead, Open}
+
+module _ (chip : ChipData) (trial : TrialData) (cuts : List (List LinkId)) where
+  -- An open path: the try may take it, and it begins with none of the lists.
+  pub record IsOpen (path : List LinkId) : Type 0 where
+    pub may_take : MayTake chip trial path
+    pub bare : (cut : List LinkId) → Contains cuts cut → begins_with cut path ≡ false
+
+  -- The least one: it comes before each other.
+  pub record IsLeastOpen (path : List LinkId) : Type 0 where
+    pub is_open : IsOpen path
+    pub least : (other : List LinkId) → IsOpen other → other ≢ path → dictionary path other ≡ Less
 
 -- Whether a path begins with one of some lists.
 abbrev pub is_covered : List (List LinkId) → List LinkId → Bool

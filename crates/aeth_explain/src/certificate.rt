@@ -1,7 +1,8 @@
 // Making a certificate.
-ghost use Rattle.std.specs.Prelude.{◌≡◌, IfOk, MatchOption};
+ghost use Rattle.std.specs.Prelude.{◌≡◌, IfOk, IfSome, MatchOption};
 ghost use Rattle.aeth_explain.specs.Certificate.{certificate_of};
 ghost use Rattle.aeth_explain.specs.Cuts.{HasCandidate, IsCertificate};
+ghost use Rattle.aeth_explain.specs.Order.{Ascend};
 ghost use Rattle.aeth_explain.specs.Walks.{IsTried};
 ghost use Rattle.aeth_paths.specs.Trials.{IsTrialOf};
 
@@ -9,6 +10,7 @@ use crate::cuts::Cuts;
 use crate::open_paths::Listed;
 use crate::try_judge::TryJudge;
 use crate::walks::walk_all;
+use aeth_app::App;
 use aeth_base::NoMemory;
 use aeth_chip::{Chip, Distances};
 use aeth_group::Groups;
@@ -45,6 +47,7 @@ pub fn certify_with(
     ensures is { IfOk result (λ cuts. MatchOption cuts
         (HasCandidate chip.now groups.now trial.now)
         (IsCertificate chip.now groups.now trial.now)) }
+    ensures order { IfOk result (λ cuts. IfSome cuts Ascend) }
 {
     let _slots = chip.slots();
     let judge = TryJudge::new(alloc, chip, groups, trial)?;
@@ -59,10 +62,11 @@ pub fn certify_with(
 }
 
 /// The certificate of a try with the shortest cuts, in the order of a dictionary; `None` exactly where the
-/// try has a candidate. `Err` where there was no memory.
+/// try has a candidate. The groups say all of the application that it rests on. `Err` where there was no memory.
 pub fn certify(
     alloc: Global,
     chip: &Chip,
+    _app: &App,
     groups: &Groups,
     trial: &Trial,
 ) -> Result<Option<Cuts>, NoMemory>
@@ -72,6 +76,7 @@ pub fn certify(
     ensures is { IfOk result (λ cuts. MatchOption cuts
         (HasCandidate chip.now groups.now trial.now)
         (IsCertificate chip.now groups.now trial.now)) }
+    ensures order { IfOk result (λ cuts. IfSome cuts Ascend) }
 {
     let far = Distances::of(alloc, chip)?;
     certify_with(alloc, chip, &far, groups, trial)

@@ -1,7 +1,10 @@
 // The cuts that a certificate lists for a try.
-ghost use Rattle.std.specs.Prelude.{◌≡◌, ◌≤◌, ◌++◌, ◌∷◌, [], OnErr, OnOk, length};
+ghost use Rattle.std.specs.List.Sorted.{IsPermutation, IsSorted};
+ghost use Rattle.std.specs.Prelude.{◌≡◌, ◌≤◌, ◌++◌, ◌∷◌, [], IfOk, OnErr, OnOk, length};
 ghost use Rattle.aeth_explain.specs.Limits.{max_cuts};
+ghost use Rattle.aeth_explain.specs.Order.{dictionary};
 
+use crate::order::dictionary;
 use aeth_base::{NoMemory, Path};
 use std::alloc::Global;
 use std::marker::Model;
@@ -64,5 +67,15 @@ impl Cuts {
         ensures most { length self.now ≤ max_cuts }
     {
         &self.paths
+    }
+
+    /// The same lists in the order of a dictionary, equal ones beside each other. `Err` where there was no memory.
+    pub(crate) fn in_order(&self, alloc: Global) -> Result<Cuts, NoMemory>
+        ensures same { IfOk result (λ sorted. IsPermutation self.now sorted) }
+        ensures order { IfOk result (IsSorted dictionary) }
+    {
+        let mut paths = Vec::from_slice(alloc, &self.paths)?;
+        paths.sort_unstable_by(|a, b| dictionary(a, b));
+        Ok(Cuts { paths })
     }
 }

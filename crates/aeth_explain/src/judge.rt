@@ -1,14 +1,16 @@
 // Judging a certificate.
-ghost use Rattle.std.specs.Prelude.{◌≡◌, ◌<◌, ◌↔◌, All, IfOk, length};
+ghost use Rattle.std.specs.Prelude.{◌≡◌, ◌<◌, ◌↔◌, All, IfOk, List, length};
+ghost use Rattle.aeth_base.specs.declared.ids.LinkId.{LinkId};
 ghost use Rattle.aeth_explain.specs.Cuts.{IsCertificate};
-ghost use Rattle.aeth_explain.specs.Verdict.{verdict_of};
-ghost use Rattle.aeth_explain.specs.declared.verdict.CutVerdict.TheVariants.{Complete};
+ghost use Rattle.aeth_explain.specs.Verdict.{IsLeastOpen, verdict_of};
+ghost use Rattle.aeth_explain.specs.declared.verdict.CutVerdict.TheVariants.{Complete, Open};
 ghost use Rattle.aeth_paths.specs.Trials.{IsTrialOf};
 
 use crate::cuts::Cuts;
 use crate::open_paths::{Listed, first_open};
 use crate::try_judge::TryJudge;
 use crate::verdict::CutVerdict;
+use aeth_app::App;
 use aeth_base::NoMemory;
 use aeth_chip::{Chip, Distances};
 use aeth_group::Groups;
@@ -32,17 +34,20 @@ pub fn verify_with(
         verdict ≡ verdict_of chip.now groups.now trial.now cuts.now) }
     ensures complete { IfOk result (λ verdict. (verdict ≡ Complete)
         ↔ IsCertificate chip.now groups.now trial.now cuts.now) }
+    ensures least { IfOk result (λ verdict. (path : List LinkId) → verdict ≡ Open path
+        → IsLeastOpen chip.now trial.now cuts.now path) }
 {
     let _slots = chip.slots();
     let judge = TryJudge::new(alloc, chip, groups, trial)?;
     if let Some(place) = judge.first_no_cut(cuts) {
         return Ok(CutVerdict::NotDead { cut: place + 1 });
     }
+    let index = cuts.in_order(alloc)?;
     let listed = Listed {
         chip,
         far,
         trial,
-        cuts,
+        cuts: &index,
     };
     match first_open(alloc, &listed)? {
         None => Ok(CutVerdict::Complete),
@@ -50,10 +55,12 @@ pub fn verify_with(
     }
 }
 
-/// What is found of a certificate for a try. `Err` where there was no memory.
+/// What is found of a certificate for a try. The groups say all of the application that it rests on. `Err` where there
+/// was no memory.
 pub fn verify(
     alloc: Global,
     chip: &Chip,
+    _app: &App,
     groups: &Groups,
     trial: &Trial,
     cuts: &Cuts,
@@ -64,6 +71,8 @@ pub fn verify(
         verdict ≡ verdict_of chip.now groups.now trial.now cuts.now) }
     ensures complete { IfOk result (λ verdict. (verdict ≡ Complete)
         ↔ IsCertificate chip.now groups.now trial.now cuts.now) }
+    ensures least { IfOk result (λ verdict. (path : List LinkId) → verdict ≡ Open path
+        → IsLeastOpen chip.now trial.now cuts.now path) }
 {
     let far = Distances::of(alloc, chip)?;
     verify_with(alloc, chip, &far, groups, trial, cuts)

@@ -6,9 +6,10 @@ ghost use Rattle.aeth_group.specs.Members.{GroupsData};
 ghost use Rattle.aeth_paths.specs.Trials.{TrialData};
 ghost use Rattle.aeth_explain.specs.Certificate.{IsFirstCut, certificate_of, cuts_of};
 ghost use Rattle.aeth_explain.specs.Cuts.{HasCandidate, IsCertificate};
+ghost use Rattle.aeth_explain.specs.Order.{Ascend};
 ghost use Rattle.aeth_explain.specs.TryPaths.{is_dead};
-ghost use Rattle.aeth_explain.specs.Verdict.{verdict_of};
-ghost use Rattle.aeth_explain.specs.declared.verdict.CutVerdict.TheVariants.{Complete};
+ghost use Rattle.aeth_explain.specs.Verdict.{IsLeastOpen, verdict_of};
+ghost use Rattle.aeth_explain.specs.declared.verdict.CutVerdict.TheVariants.{Complete, Open};
 
 /// A dead list rules out every list that begins with it: links that are dead stay so, however they go
 /// on. Each further link can only take free starts away, and leaves a narrower gap, since it takes
@@ -46,4 +47,14 @@ pub fn verdicts()
     ensures { (chip : ChipData) (groups : GroupsData) (trial : TrialData) → IsChip chip
         → (cuts : List (List LinkId))
         → (verdict_of chip groups trial cuts ≡ Complete) ↔ IsCertificate chip groups trial cuts }
+{}
+
+/// The cuts that `cuts_of` lists are in the order of a dictionary, none twice. And the path that a verdict names is the
+/// least of those that the try may take and that begin with none of the lists.
+pub fn orders()
+    ensures cuts { (chip : ChipData) (groups : GroupsData) (trial : TrialData)
+        → Ascend (cuts_of chip groups trial) }
+    ensures open { (chip : ChipData) (groups : GroupsData) (trial : TrialData) → IsChip chip
+        → (cuts : List (List LinkId)) (path : List LinkId)
+        → verdict_of chip groups trial cuts ≡ Open path → IsLeastOpen chip trial cuts path }
 {}

@@ -8,6 +8,7 @@ mod judge;
 mod known_lines;
 pub mod laws;
 mod open_paths;
+mod order;
 mod places;
 mod reading;
 mod senders;
