@@ -11,7 +11,7 @@ use Rattle.aeth_chip.proofs.LeastDistanceLemmas.{IsLeast-unique}
 use Rattle.std.proofs.Common.{◌≡◌, ◌∙◌, ◌≤◌, ◌+◌, ◌&&◌, ℕ, Bool, true, false, not, List, Option, None, Some}
 use Rattle.std.proofs.Common.{Contains, length, cond, eqb, refl, sym, ap, subst, arith}
 use Rattle.std.specs.List.{list_any}
-use Rattle.std.proofs.lemmas.Bool.{and_from, and_parts, eq-eqb, eqb-true, not-true}
+use Rattle.std.proofs.lemmas.Bool.{and_from, and_parts, eq-eqb, not-true}
 use Rattle.aeth_base.specs.Limits.{max_path_links}
 use Rattle.aeth_base.specs.declared.ids.LinkId.{LinkId}
 use Rattle.aeth_base.specs.declared.ids.NiId.{NiId}
@@ -20,12 +20,13 @@ use Rattle.aeth_chip.specs.LeastDistance.{least_distance}
 use Rattle.aeth_chip.specs.Paths.{IsDistance, IsPath}
 use Rattle.aeth_chip.proofs.LeastDistanceLemmas.{distance_is_least_distance}
 use Rattle.aeth_chip.proofs.LeastDistanceLemmas.{least_distance_is_distance}
-use Rattle.aeth_group.proofs.ListLemmas.{any_from_passes, passes_from_any}
+use Rattle.aeth_group.proofs.ListLemmas.{any_from_passes}
 use Rattle.aeth_paths.specs.Open.{is_crowded}
 use Rattle.aeth_paths.specs.Trials.{TrialData}
 use Rattle.aeth_paths.proofs.CandidateLemmas.{from-room, room-from}
 use Rattle.aeth_explain.specs.Senders.{most_by, most_to}
 use Rattle.aeth_explain.specs.TryPaths.{MayTake}
+use Rattle.aeth_explain.proofs.FirstLemmas.{from-among}
 
 -- Whether an interface is one of some, and a pair isn't one crowded interface.
 abbrev is_pair : TrialData → NiId → NiId → Bool
@@ -68,6 +69,12 @@ module _ (chip : ChipData) (trial : TrialData) (is_chip : IsChip chip) where
   pair-by a b count true pair some few = (refl, few)
   pair-by a b count false pair some few = absurd (omega (arith, some, few))
 
+  -- Where paths to an interface may have some links it is a receiver of the try.
+  pub to-some : (a b : NiId) → 1 ≤ most_to chip trial a b → Contains trial.to b
+  to-some a b some =
+      let (pair, most) = pair-by a b 1 (is_pair trial a b) refl (omega arith) some in
+      from-among trial.to b (and_parts (list_any (λ (n : NiId). eqb n.0 b.0) trial.to) _ pair).0
+
   -- A path from a sender that has no more links is one that the try may take.
   pub most-may : (a b : NiId) (path : List LinkId) → Contains trial.from a
       → IsPath chip.links a b path → 1 ≤ length path → length path ≤ most_to chip trial a b
@@ -75,8 +82,6 @@ module _ (chip : ChipData) (trial : TrialData) (is_chip : IsChip chip) where
   most-may a b path sender route some few =
       let (pair, most) = pair-by a b (length path) (is_pair trial a b) refl some few in
       let (among, room) = and_parts (list_any (λ (n : NiId). eqb n.0 b.0) trial.to) _ pair in
-      let to = passes_from_any (λ (n : NiId). eqb n.0 b.0) trial.to among in
-      let same : to.item ≡ b = ap (λ n. record { 0 = n }) (eqb-true to.item.0 b.0 to.passes) in
       let (least, is, near, fits) =
       within-by trial.ask.detour (length path) (least_distance chip a b) some most in
       record {
@@ -84,7 +89,7 @@ module _ (chip : ChipData) (trial : TrialData) (is_chip : IsChip chip) where
         to = b;
         allowed = record {
           sender = sender;
-          receiver = subst (Contains trial.to) same to.is_in;
+          receiver = from-among trial.to b among;
           room = from-room trial.crowded a b (not-true _ room);
         };
         admissible = record {

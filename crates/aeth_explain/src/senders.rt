@@ -1,12 +1,11 @@
 // How many links the paths of a try may have from one of its senders.
 ghost use Rattle.std.specs.List.{list_any};
-ghost use Rattle.std.specs.Prelude.{◌≡◌, ◌<◌, ◌≤◌, ◌+◌, ◌==◌, ℕ, IfOk, Some, length, slice_index};
+ghost use Rattle.std.specs.Prelude.{◌≡◌, ◌<◌, ◌≤◌, ◌+◌, ◌==◌, ℕ, All, Contains, IfOk, Some, length, slice_index};
 ghost use Rattle.aeth_base.specs.Limits.{max_path_links};
 ghost use Rattle.aeth_base.specs.declared.ids.NiId.{NiId};
 ghost use Rattle.aeth_base.specs.declared.ids.RouterId.{RouterId};
 ghost use Rattle.aeth_chip.specs.Chip.{IsChip};
 ghost use Rattle.aeth_chip.specs.LeastDistance.{least_distance};
-ghost use Rattle.aeth_chip.specs.Limits.{max_nis};
 ghost use Rattle.aeth_chip.specs.Paths.{IsOnwardDistance};
 ghost use Rattle.aeth_paths.specs.Open.{is_crowded};
 ghost use Rattle.aeth_explain.specs.Senders.{IsReach, most_by, most_to};
@@ -100,19 +99,20 @@ fn most_to_all(
     Ok(table)
 }
 
-/// At least the most links with which paths to any interface come to a router, by the most links of
+/// At least the most links with which paths to any of some interfaces come to a router, by the most links of
 /// these paths.
-fn most_at(far: &Distances, router: RouterId, most_to: &[u32]) -> u32
-    requires { length most_to.now ≤ max_nis }
-    ensures { (b : NiId) (more : ℕ) → b.0 < length most_to.now
+fn most_at(far: &Distances, router: RouterId, to: &[NiId], most_to: &[u32]) -> u32
+    requires { All (λ (ni : NiId). ni.0 < length most_to.now) to.now }
+    ensures { (b : NiId) (more : ℕ) → Contains to.now b
         → IsOnwardDistance far.now router b (Some more)
         → slice_index most_to.now b.0 ≤ result + more }
 {
     let mut most = 0;
-    for b in 0..most_to.len() {
-        let links = most_to[b];
+    for i in 0..to.len() {
+        let ni = to[i];
+        let links = most_to[ni.0 as usize];
         if links > most {
-            if let Some(more) = far.onward(router, NiId(b as u32)) {
+            if let Some(more) = far.onward(router, ni) {
                 most = most.max(links.saturating_sub(more));
             }
         }
@@ -131,6 +131,7 @@ impl Sender {
     ) -> Result<Sender, NoMemory>
         requires chip { IsChip chip.now }
         requires far { far.now ≡ chip.now.links }
+        requires to { All (λ (ni : NiId). ni.0 < length chip.now.nis) trial.now.to }
         ensures ni { IfOk result (λ sender. sender.ni ≡ ni) }
         ensures reach { IfOk result (λ sender.
             IsReach chip.now trial.now ni sender.most_to.items sender.most_at.items) }
@@ -138,7 +139,7 @@ impl Sender {
         let most_to = most_to_all(alloc, chip, far, trial, ni)?;
         let mut at = Vec::new(alloc);
         for router in 0..chip.routers() {
-            at.push(most_at(far, RouterId(router), &most_to))?;
+            at.push(most_at(far, RouterId(router), trial.to(), &most_to))?;
         }
         Ok(Sender {
             ni,

@@ -1,7 +1,8 @@
-use Rattle.std.proofs.Common.{◌≡◌, ◌∙◌, Some, ap, arith, inl, inr, subst, sym}
-use Rattle.std.specs.Prelude.{slice_index}
+use Rattle.std.proofs.Common.{◌≡◌, ◌∙◌, Some, ap, arith, get_or, inl, inr, subst, sym}
+use Rattle.std.specs.Prelude.{slice_get, slice_index}
 use Rattle.std.proofs.lemmas.Bool.{cases_lt}
-use Rattle.std.proofs.lemmas.Option.{none-some, same_Some}
+use Rattle.std.proofs.lemmas.Option.{get_or_from_slice_get, none-some, same_Some, slice_get_within}
+use Rattle.aeth_base.proofs.Members.{slice_get-Contains}
 use Rattle.aeth_base.specs.declared.ids.NiId.{NiId}
 use Rattle.aeth_chip.specs.Paths.{IsOnwardDistance}
 use Rattle.aeth_explain.proofs.SenderLemmas.{one-least}
@@ -10,12 +11,13 @@ use Rattle.aeth_explain.proofs.senders.most_at.Goals.{else-links-most, then-link
 use Rattle.aeth_explain.proofs.senders.most_at.Goals.{then-links-most+in_default}
 
 -- It is enough for one interface more.
-pub loop-b-preserved : goal.loop-b-preserved
-loop-b-preserved c b more less distance =
-    let at : NiId = record { 0 = c.loop-b.b } in
-    elim (cases_lt b.0 c.loop-b.b) [
+pub loop-i-preserved : goal.loop-i-preserved
+loop-i-preserved c k b more less at distance =
+    let to = c.args.to.now in
+    let i = c.loop-i.i in
+    elim (cases_lt k i) [
       | inl before ↦
-          let told = c.loop-b.invariant b more before distance in
+          let told = c.loop-i.invariant k b more before at distance in
           elim c.if-links-most.branch [
             | then-links-most+in-Some w ↦
                 let grown = w.most-is ∙ w.max-most.ensures in
@@ -24,22 +26,31 @@ loop-b-preserved c b more less distance =
             | else-links-most w ↦ omega (arith, told, w.most-is)
           ]
       | inr past ↦
-          let number : b.0 ≡ c.loop-b.b = omega (arith, less, past) in
-          let same : b ≡ at = ap (λ n. record { 0 = n }) number in
-          let here = subst (λ n. IsOnwardDistance c.args.far.now c.args.router n (Some more)) same
-          distance in
-          let place = ap (slice_index c.args.most_to.now) number in
+          let number : k ≡ i = omega (arith, less, past) in
+          let here : slice_get to i ≡ Some b = subst (λ n. slice_get to n ≡ Some b) number at in
+          let same : get_or to i (record { 0 = 0 }) ≡ b =
+          get_or_from_slice_get to i b (record { 0 = 0 }) here in
+          let place = ap (λ (n : NiId). slice_index c.args.most_to.now n.0) same in
           elim c.if-links-most.branch [
             | then-links-most+in-Some w ↦
-                let one = one-least c.args.far.now c.args.router at more w.onward.result here
-                w.onward.ensures.distance in
+                let one = one-least c.args.far.now c.args.router b more w.onward.result distance
+                (subst (λ n. IsOnwardDistance c.args.far.now c.args.router n w.onward.result) same
+                w.onward.ensures.distance) in
                 let grown = w.most-is ∙ w.max-most.ensures in
                 let equal = same_Some _ _ (one ∙ w.in-Some.is) in
                 omega (arith, grown, equal, place, w.saturating_sub.ensures)
             | then-links-most+in_default w ↦
-                let one = one-least c.args.far.now c.args.router at more w.onward.result here
-                w.onward.ensures.distance in
+                let one = one-least c.args.far.now c.args.router b more w.onward.result distance
+                (subst (λ n. IsOnwardDistance c.args.far.now c.args.router n w.onward.result) same
+                w.onward.ensures.distance) in
                 absurd (none-some more (sym w.in_default.is ∙ sym one))
             | else-links-most w ↦ omega (arith, w.most-is, place, w.if-links-most.false)
           ]
     ]
+
+-- It is for all.
+pub returns : goal.returns
+returns c b more has distance =
+    let (k, at) = slice_get-Contains c.args.to.now b has in
+    let low = slice_get_within c.args.to.now k b at in
+    c.loop-i.invariant k b more (omega (arith, low, c.loop-i-test.false, c.loop-i.auto.i-end)) at distance
