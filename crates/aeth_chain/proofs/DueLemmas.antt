@@ -1,5 +1,5 @@
 -- A word of a chain that is due has landed: with shapes that the tables of an accepted plan have.
-use Rattle.std.proofs.Common.{◌≡◌, ◌<◌, ◌≤◌, ℕ, true, List, [], ◌∷◌, Contains, Some, length, refl}
+use Rattle.std.proofs.Common.{◌≡◌, ℕ, true, List, [], Contains, Some}
 use Rattle.std.proofs.Common.{slice_get, subst, sym, arith}
 use Rattle.std.specs.Prelude.{All, None}
 use Rattle.std.proofs.lemmas.Option.{slice_get_within}
