@@ -1,12 +1,18 @@
 # Proves and builds the program. `aeth` reads this file, which uses its `home`, `program`, `indexed` and `listed`.
 #
-# What runs afterwards is a copy, `out/aeth`, so that a run of `rt ci` in the same folder takes nothing away. Beside it
-# stand git's index and a list of the sources that it was built from, and the prover's text where the build failed.
+# The crates that the program stands on are copied to a folder of their own, without their wrong bodies, and `rt ci` proves
+# them there: side by side, as many as there are processors and memory. It keeps each crate as soon as it is proved, for
+# all checkouts on this machine, and takes over what it kept before. So a build that was ended goes on where it was, and
+# what a gate or another checkout proved of the same sources isn't proved again.
+#
+# What runs afterwards is a copy, `out/aeth`. Beside it stand git's index and a list of the sources that it was built
+# from, and the prover's text where the build failed.
 
 out=$home/out
 log=$out/build.$$.log
+room=
 
-# The crates that the program is built from, each after those that it stands on, as `rt` takes them.
+# The crates that the program is built from, each after those that it stands on.
 crates_in_order() {
     awk '
         { sub(/#.*/, "") }
@@ -22,30 +28,54 @@ crates_in_order() {
     ' "$home/crates.txt"
 }
 
-# What `rt` is at, by its last message, and how long it has been since the build began.
-progress() {
-    now=$(sed -n 's/^rt: chose --jobs [0-9]* for //p; s/^rt: waiting for .*/-/p' "$log" 2>/dev/null | tail -n 1)
-    case $now in
-    '') text="reading the sources" ;;
-    -) text="waiting for another \`rt\` in these folders" ;;
-    *) text="crate $(echo "$order" | grep -n -x -e "$now" | cut -d : -f 1) of $many, $now" ;;
-    esac
-    text="aeth: $text, $((($(date +%s) - begun) / 60)) min gone"
+# Copies what `rt ci` reads of these crates to the folder `room`, so that neither a change meanwhile nor another `rt`
+# meets it. The folder stands outside of the checkout: a gate there refuses sources that it doesn't know.
+copy_crates() {
+    room=$(mktemp -d "${TMPDIR:-/tmp}/aeth-build.XXXXXX") && mkdir "$room/crates" || return 1
+    if [ -f "$home/HANDLES" ]; then cp "$home/HANDLES" "$room/HANDLES" || return 1; fi
+    for crate in $order; do
+        grep "^ *$crate *\( staticlib *\)\{0,1\}:" "$home/crates.txt" >>"$room/crates.txt" || return 1
+        mkdir "$room/crates/$crate" || return 1
+        for part in src specs proofs data stdin stdout args status; do
+            if [ -e "$home/crates/$crate/$part" ]; then
+                cp -R "$home/crates/$crate/$part" "$room/crates/$crate/$part" || return 1
+            fi
+        done
+    done
 }
 
-# Tells how far the build is, until it is ended: one line that is rewritten on a terminal, else a line for each crate.
+# The size of each crate's sources, which the time of its proof goes by.
+weigh() {
+    for crate in $order; do
+        echo "$crate $(find "$room/crates/$crate" -name '*.rt' -o -name '*.antt' | xargs cat 2>/dev/null | wc -c)"
+    done
+}
+
+# How far the build is, from the crates that it told of, and how long it has been and may be yet.
+progress() {
+    text="aeth: $(sed -n 's/^rt: \([a-z0-9_]*\) \(proved\|is kept: .*\)$/\1/p' "$log" 2>/dev/null |
+        awk -v gone="$(($(date +%s) - begun))" -v weights="$out/weights.$$" '
+            BEGIN { while ((getline line < weights) > 0) { split(line, of, " "); weight[of[1]] = of[2]; all += of[2]; many++ } }
+            $1 in weight { ready += weight[$1]; count++; delete weight[$1] }
+            END {
+                if (!all) { print "reading the sources"; exit }
+                printf "%d of %d crates proved, %d min gone", count, many, gone / 60
+                if (ready > all / 20 && ready < all) printf ", some %d to go", gone / ready * (all - ready) / 60 + 1
+                if (count == many) printf ", building the program"
+            }')"
+}
+
+# Tells how far the build is, until it is ended: one line that is rewritten on a terminal, else a line for each change.
 tell_progress() {
     begun=$(date +%s)
     before=
-    order=$(crates_in_order)
-    many=$(($(echo "$order" | wc -l)))
     while kill -0 $$ 2>/dev/null; do
         progress
         if [ -t 2 ]; then
             printf '\r%s\033[K' "$text" >&2
-        elif [ "$now" != "$before" ]; then
+        elif [ "${text%%,*}" != "$before" ]; then
             echo "$text" >&2
-            before=$now
+            before=${text%%,*}
         fi
         sleep 1 >/dev/null 2>&1
     done
@@ -58,7 +88,7 @@ end_progress() {
 }
 
 forget() {
-    rm -rf "$out/sources.$$" "$out/list.$$" "$out/aeth.$$"
+    rm -rf "$out/sources.$$" "$out/list.$$" "$out/aeth.$$" "$out/weights.$$" ${room:+"$room"}
 }
 
 give_up() {
@@ -76,6 +106,7 @@ stopped() {
     end_progress
     forget
     rm -f "$log"
+    echo "aeth: ended; what is proved is kept, and the next call goes on from there" >&2
     trap - "$1"
     kill "-$1" $$
 }
@@ -115,13 +146,39 @@ keep() {
     if [ -d "$out/sources.$$" ]; then mv "$out/sources.$$" "$out/sources"; fi
 }
 
+# What a newcomer reads while the first build goes on.
+tell_first() {
+    echo "aeth: the program is proved and built first. With nothing kept on this machine that takes some 20 min on four" >&2
+    echo "aeth: processors and 35 on two. Meanwhile: \`./aeth help\`, README.md, \`./design chip mesh 4 4 --slots 32\`." >&2
+    echo "aeth: Ctrl-C ends it; what is proved by then is kept, and the next call goes on from there." >&2
+}
+
+# Proves the crates and builds the program in the folder `room`.
+build() {
+    order=$(crates_in_order)
+    trap 'forget; exit 130' INT TERM HUP
+    copy_crates || give_up "the sources can't be copied to ${TMPDIR:-/tmp}"
+    weigh >"$out/weights.$$"
+    tell_first
+    tell_progress &
+    teller=$!
+    trap 'stopped INT' INT
+    trap 'stopped TERM' TERM
+    trap 'stopped HUP' HUP
+    ended=0
+    (cd "$room" && exec rt ci) </dev/null >"$log" 2>&1 || ended=$?
+    end_progress
+    trap - INT TERM HUP
+    if [ $ended -ne 0 ]; then give_up "not proved or not built"; fi
+    built=$room/crates/aeth/out/aeth
+    if ! [ -x "$built" ]; then give_up "not built"; fi
+}
+
 built=$home/crates/aeth/out/aeth
 mkdir -p "$out" && : >"$log" || give_up "there is no folder $out to build in"
 note_sources
 
-if is_left_by_gate; then
-    keep
-else
+if ! is_left_by_gate; then
     if ! command -v rt >/dev/null; then
         forget
         rm -f "$log"
@@ -129,18 +186,8 @@ else
         echo "aeth: install the Rattle kit that README.md names, and put its folder bin on PATH" >&2
         exit 127
     fi
-    echo "aeth: proving and building; with nothing kept this takes about 45 min on two processors, half an hour on four" >&2
-    tell_progress &
-    teller=$!
-    trap 'stopped INT' INT
-    trap 'stopped TERM' TERM
-    trap 'stopped HUP' HUP
-    # The program's own text of this run isn't asked for.
-    ended=0
-    (cd "$home/crates/aeth" && exec rt run -- slots 1 1 1 0) </dev/null >/dev/null 2>"$log" || ended=$?
-    end_progress
-    trap - INT TERM HUP
-    if [ $ended -ne 0 ]; then give_up "not proved or not built"; fi
-    keep
+    build
 fi
+keep
+forget
 rm -f "$log" "$out/build.log"

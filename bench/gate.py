@@ -5,8 +5,10 @@ bench/gate.py [WORD]..
 
 Runs `rt ci` at the top of the repository, or the command that the words give, and samples the processes below it each
 half second. What it writes goes to standard error as it comes; the table is printed behind it: for each crate the seconds
-of its own proof, of its tests and of its must-fail edits, then all others (Python, compilers, programs), then the sums. Ends with
-the command's status. For a measure from nothing take a fresh clone, on a machine that does nothing else.
+of its own proof, of its tests and of its must-fail edits, then all others (Python, compilers, programs), then the sums. Behind
+it stands the longest chain of crates that wait for each other, by the seconds of their own proofs, and for each crate on it
+what the longest chain would be if it cost nothing. Ends with the command's status. For a measure from nothing take a fresh
+clone, on a machine that does nothing else.
 
 A processor that others share is slower in one hour than in another. So meanwhile the script has the prover check one
 function again and again, always the same, which is no part of the repository; and the last line tells how many
@@ -128,6 +130,32 @@ def table_of(taken, kinds):
     return table
 
 
+def crates_below():
+    """The crates that each crate stands on, by crates.txt, lowest first."""
+    lines = (line.partition("#")[0].partition(":") for line in text_of(pathlib.Path("crates.txt")).splitlines())
+    named = {name.split()[0]: below.split() for name, mark, below in lines if mark and name.split()}
+    return {name: [it for it in below if it in named] for name, below in named.items()}
+
+
+def longest_chain(below, seconds):
+    """The crates of the chain that takes longest, each after the one that it waits for, and its seconds."""
+    best = {}
+    for name in below:
+        waits = max((best[it] for it in below[name]), default=(0, []), key=lambda it: it[0])
+        best[name] = waits[0] + seconds.get(name, 0), [*waits[1], name]
+    taken, chain = max(best.values(), default=(0, []), key=lambda it: it[0])
+    return chain, taken
+
+
+def show_chain(below, seconds):
+    chain, taken = longest_chain(below, seconds)
+    print(f"\nThe longest chain has {len(chain)} crates and {taken:.0f} seconds of own proofs, of {sum(seconds.values()):.0f} in all:")
+    print(f"{'CRATE':24}{'own':>9}{'without it':>12}")
+    for name in chain:
+        print(f"{name:24}{seconds.get(name, 0):9.0f}{longest_chain(below, {**seconds, name: 0})[1]:12.0f}")
+    print()
+
+
 def show(table, spent, clock, yards):
     spent -= sum(yards)
     print(f"{'CRATE':24}" + "".join(f"{kind:>9}" for kind in KINDS))
@@ -136,6 +164,7 @@ def show(table, spent, clock, yards):
     sums = {kind: sum(row[kind] for row in table.values()) for kind in KINDS}
     print(f"{'all':24}" + "".join(f"{sums[kind]:9.0f}" for kind in KINDS))
     print(f"{'others':24}{spent - sum(sums.values()):9.0f}")
+    show_chain(crates_below(), {crate: row["own"] for crate, row in table.items()})
     print(f"{spent / 60:.1f} processor minutes, {clock / 60:.1f} minutes of clock")
     if yards:
         told = min(yards), statistics.fmean(yards), max(yards)
@@ -159,4 +188,5 @@ def main(words):
     return run.returncode
 
 
-sys.exit(main(sys.argv[1:]))
+if __name__ == "__main__":
+    sys.exit(main(sys.argv[1:]))

@@ -11,26 +11,27 @@ TOP = pathlib.Path(__file__).resolve().parent.parent
 PLACES = (TOP / "crates/aeth/out/aeth", TOP / "out/aeth")
 PROGRAM = next((place for place in PLACES if os.access(place, os.X_OK)), None)
 
-# It tells what `rt run` tells, and its program is that of $PROGRAM, or one that tells its sources and words. It fails where
+# It tells what `rt ci` tells, and its program is that of $PROGRAM, or one that tells its sources and words. It fails where
 # a source is broken or where the library has none, and changes a source meanwhile where $CHANGES names one.
 RT = """#!/bin/sh
 [ "$1" = version ] && echo "a stand-in for the kit" && exit 0
 echo built >> "$BUILDS"
-echo "the program's own text"
 for crate in aeth_base aeth_middle aeth; do
-    echo "rt: chose --jobs 2 for $crate" >&2
+    echo "== $crate"
+    echo "rt: $crate proved"
     [ -z "$SLOW" ] || sleep "$SLOW"
 done
-cat ../*/src/*.rt | grep -q broken && echo "error[proof]: it is broken" >&2 && exit 1
-[ -f ../aeth_base/src/lib.rt ] || { echo "error[file]: no source" >&2; exit 1; }
-mkdir -p out ../aeth_base/out
-sources=$(cat ../*/src/*.rt | tr '\\n' ' ')
+cat crates/*/src/*.rt | grep -q broken && echo "error[proof]: it is broken" && exit 1
+[ -f crates/aeth_base/src/lib.rt ] || { echo "error[file]: no source"; exit 1; }
+[ ! -e crates/aeth_unused ] && [ ! -e crates/aeth_base/must-fail ] || { echo "error[file]: too much was copied"; exit 1; }
+mkdir -p crates/aeth/out
+sources=$(cat crates/*/src/*.rt | tr '\\n' ' ')
 [ -z "$CHANGES" ] || echo changed >> "$CHANGES"
 if [ -n "$PROGRAM" ]; then
-    cp "$PROGRAM" out/aeth
+    cp "$PROGRAM" crates/aeth/out/aeth
 else
-    { echo '#!/bin/sh'; echo "echo \\"$sources: \\$*\\""; echo 'cat >&2'; echo 'exit 3'; } > out/aeth
-    chmod +x out/aeth
+    { echo '#!/bin/sh'; echo "echo \\"$sources: \\$*\\""; echo 'cat >&2'; echo 'exit 3'; } > crates/aeth/out/aeth
+    chmod +x crates/aeth/out/aeth
 fi
 """
 
@@ -42,11 +43,14 @@ class Home:
         self.room = pathlib.Path(tempfile.mkdtemp(prefix="aeth-tests-"))
         self.top, self.builds = self.room / name, self.room / "builds"
         self.top.mkdir()
-        for name in ("aeth", "aeth.d", "draw", "draw.d", "design", "design.d", "examples", "docs"):
+        for name in ("aeth", "aeth.d", "draw", "draw.d", "design", "design.d", "common.d", "examples", "docs"):
             copy = shutil.copytree if (TOP / name).is_dir() else shutil.copy2
             copy(TOP / name, self.top / name)
         self.put("HANDLES", "Handles allowed: none.\n")
-        self.put("crates.txt", "# lowest first\naeth_base: itoa\naeth_middle: aeth_base toml\naeth: aeth_middle aeth_base\n")
+        lines = ("# lowest first", "aeth_base: itoa", "aeth_middle: aeth_base toml", "aeth: aeth_middle aeth_base", "aeth_unused: aeth_base")
+        self.put("crates.txt", "".join(line + "\n" for line in lines))
+        self.put("crates/aeth_unused/src/lib.rt", "unused\n")
+        self.put("crates/aeth_base/must-fail/it.edit", "file: src/lib.rt\n")
         self.put("crates/aeth_base/src/lib.rt", "base\n")
         self.put("crates/aeth_middle/src/lib.rt", "middle\n")
         self.put("crates/aeth/src/main.rt", "main\n")

@@ -5,6 +5,7 @@ import re
 import shutil
 import signal
 import subprocess
+import tempfile
 import time
 import unittest
 
@@ -45,11 +46,20 @@ class Pages(WithHome):
             self.assertIn(f"./aeth {command} ", page)
             self.assertLessEqual(max(map(len, page.splitlines())), 82)
 
+    def test_a_command_with_help_answers_with_its_page(self):
+        for command in COMMANDS:
+            page = self.home.run("help", command)
+            for word in ("--help", "-h"):
+                self.assertEqual(self.home.run(command, word), page, command)
+        self.assertEqual(self.home.run("help", "--help"), self.home.run("help"))
+        self.assertEqual(self.home.built(), 0)
+
     def test_pages_are_no_other_files(self):
-        for word in ("nosuch", "aeth", "../version", "help/chip", "", "."):
-            status, page, said = self.home.run("help", word)
-            self.assertEqual((status, page), (1, ""), word)
-            self.assertIn("./aeth help", said)
+        for word in ("nosuch", "aeth", "../version", "help/chip", "", ".", "chip\n", "\x1b[2J", "\\033[2J"):
+            for words in (("help", word), (word, "--help")):
+                status, page, said = self.home.run(*words)
+                self.assertEqual((status, page), (1, ""), words)
+                self.assertRegex(said, r"\Aaeth: there is no [ -~]*`./aeth help` lists them\n\Z")
 
     def test_no_page_builds(self):
         self.home.run("help", "chip")
@@ -68,7 +78,7 @@ class Pages(WithHome):
             self.assertEqual(self.home.run("help", "chip", out=full)[0], 5)
 
     def test_other_words_go_to_the_program(self):
-        for words in (("help", "chip", "app"), ("chip", "--help"), ("--version", "x"), ("", "a b", "*")):
+        for words in (("help", "chip", "app"), ("chip", "./--help"), ("chip", "app", "--help"), ("--version", "x"), ("", "a b", "*")):
             self.says("main base middle", 1, *words)
 
 
@@ -77,6 +87,25 @@ class Builds(WithHome):
         status, out, said = self.home.run("a", "b", given=b"given")
         self.assertEqual((status, out), (3, "main base middle : a b\n"))
         self.assertTrue(said.endswith("given"))
+
+    def test_prove_only(self):
+        for builds in (1, 1):
+            status, out, said = self.home.run("--prove-only")
+            self.assertEqual((status, out), (0, ""))
+            self.assertEqual(self.home.built(), builds)
+        self.assertEqual(said, "")
+        self.says("main base middle", 1)
+        self.main.write_text("broken\n")
+        status, out, said = self.home.run("--prove-only")
+        self.assertEqual((status, out), (126, ""))
+        self.assertIn("error[proof]: it is broken", said)
+
+    def test_nothing_is_left_beside_the_program(self):
+        before = set(os.listdir(tempfile.gettempdir()))
+        self.home.run("a")
+        left = {name for name in set(os.listdir(tempfile.gettempdir())) - before if name.startswith("aeth-build")}
+        self.assertEqual(left, set())
+        self.assertLessEqual(set(os.listdir(self.home.top / "out")), {"aeth", "list", "sources"})
 
     def test_builds_once(self):
         for _ in range(3):
@@ -159,7 +188,7 @@ class Builds(WithHome):
             self.assertEqual((status, out), (126, ""))
             self.assertIn("error[proof]: it is broken", said)
             log = re.search(r"text is in (.*)", said)[1]
-            self.assertIn("rt: chose --jobs 2 for aeth\n", (self.home.top / log).read_text())
+            self.assertIn("rt: aeth proved\n", (self.home.top / log).read_text())
         self.main.write_text("main\n")
         self.assertEqual(self.home.run("a")[:2], (3, "main base middle : a\n"))
 
@@ -177,11 +206,14 @@ class Builds(WithHome):
             before = self.home.built()
             # Tests that a shell runs in the background are begun with SIGINT ignored, and so would be what they run.
             how["preexec_fn"] = lambda: signal.signal(number, signal.SIG_DFL)
+            how["stderr"] = subprocess.PIPE
             ran = subprocess.Popen([self.home.top / "aeth"], env=settings, start_new_session=True, **how)
             while self.home.built() == before and ran.poll() is None:
                 time.sleep(0.05)
             os.killpg(ran.pid, number)
-            self.assertEqual(ran.wait(60), -number)
+            said = ran.communicate(timeout=60)[1].decode()
+            self.assertEqual(ran.returncode, -number)
+            self.assertIn("the next call goes on from there", said.splitlines()[-1])
             self.assertEqual(os.listdir(self.home.top / "out"), [])
         self.assertEqual(self.home.run("a")[:2], (3, "main base middle : a\n"))
 
@@ -265,15 +297,22 @@ class Progress(WithHome):
     def test_on_a_terminal_one_line_is_rewritten(self):
         status, said = self.home.on_terminal("a", SLOW="3")
         self.assertEqual(status, 3)
-        self.assertIn("\raeth: crate 2 of 3, aeth_middle, 0 min gone\x1b[K", said)
-        self.assertEqual(said.count("\n"), 1)
+        self.assertRegex(said, r"\raeth: 2 of 3 crates proved, 0 min gone, some 1 to go\x1b\[K\r")
+        self.assertEqual(said.count("\n"), 3)  # of the lines that come first
 
     def test_elsewhere_a_line_a_crate(self):
         _, _, said = self.home.run("a", SLOW="3")
         lines = said.splitlines()
-        self.assertIn("aeth: crate 1 of 3, aeth_base, 0 min gone", lines)
+        self.assertIn("aeth: 1 of 3 crates proved, 0 min gone, some 1 to go", lines)
+        self.assertIn("aeth: 3 of 3 crates proved, 0 min gone, building the program", lines)
         self.assertEqual(len(lines), len(set(lines)))
         self.assertNotIn("\r", said)
+
+    def test_the_first_lines_say_what_is_done_and_what_can_be_done_meanwhile(self):
+        said = self.home.run("a")[2]
+        for word in ("proved and built first", "min on four", "./aeth help", "README.md", "./design chip", "Ctrl-C"):
+            self.assertIn(word, said)
+        self.assertEqual(self.home.run("a")[2], "")
 
     def test_no_words_on_a_terminal(self):
         self.home.run()

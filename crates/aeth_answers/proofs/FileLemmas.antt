@@ -6,14 +6,13 @@ use Rattle.std.specs.Prelude.{nat_le}
 use Rattle.std.proofs.lemmas.Bool.{le-leb, lt-leb}
 use Rattle.aeth_base.specs.Faults.{BrokenRule, Reads}
 use Rattle.aeth_base.specs.declared.memory.NoMemory.{NoMemory}
-use Rattle.aeth_io.specs.Causes.{IsFaultless}
 use Rattle.aeth_io.specs.Limits.{max_file_bytes}
 use Rattle.aeth_answers.specs.declared.answer.Stop.{Stop}
 use Rattle.aeth_answers.specs.declared.answer.Stop.TheVariants.{Ends, Memory}
 use Rattle.aeth_answers.specs.Files.{judgement, text_file}
 use Rattle.aeth_answers.specs.Refusal.{refused_file, too_long}
 use Rattle.aeth_answers.specs.Job.{Job, done, not_granted}
-use Rattle.aeth_answers.specs.Places.{Files, IsAfter}
+use Rattle.aeth_answers.specs.Places.{Files, IsAfter, NoneFailed}
 use Rattle.aeth_answers.specs.Status.{read_fault_status, refused_status, usage_status}
 use Rattle.aeth_answers.specs.Stop.{Answers, Ended, GivesOrEnds, HandsOn, IfAnswer, Judges, Leaves}
 use Rattle.aeth_answers.specs.Stop.{UnlessEnds}
@@ -22,7 +21,7 @@ use Rattle.aeth_answers.proofs.TaskLemmas.{IsAfter-same, IsAfter-then, IsAnswer-
 
 -- Once a file was read that isn't too long, what comes next of its bytes is left.
 pub Leaves-text_file : (old now : Files) (file name bytes : List ℕ) (next : List ℕ → Task)
-    → IsAfter old now → IsFaultless old.faults now.faults
+    → IsAfter old now → NoneFailed old now
     → ((held : List ℕ) → old.content name ≡ Some held → bytes ≡ held)
     → length bytes ≤ max_file_bytes
     → Leaves old now (text_file file name next) (next bytes)
@@ -50,7 +49,7 @@ on_long (Some bytes) Holds long holds = holds bytes (long bytes refl)
 
 -- The refusal of a file that is too long ends a task that reads it.
 pub IsAnswer-too_long : (old new : Files) (file name : List ℕ) (next : List ℕ → Task) (answer : Job)
-    → IsFaultless old.faults new.faults
+    → NoneFailed old new
     → ((bytes : List ℕ) → old.content name ≡ Some bytes → max_file_bytes < length bytes)
     → answer ≡ refused_file file too_long → IsAnswer old new (text_file file name next) answer
 IsAnswer-too_long old new file name next answer clean long is =
@@ -67,15 +66,15 @@ IsAnswer-too_long old new file name next answer clean long is =
 
 -- What holds over the same files holds of whatever a call comes to there.
 pub UnlessEnds-same : {X : Type 0} (now : Files) (came : Result X Stop)
-    → UnlessEnds came (IsFaultless now.faults now.faults)
+    → UnlessEnds came (NoneFailed now now)
 UnlessEnds-same now (Ok value) = λ name. refl
 UnlessEnds-same now (Err (Ends answer)) = tt
 UnlessEnds-same now (Err Memory) = λ name. refl
 
 -- No call failed, and then none failed, unless the task ends.
 UnlessEnds-then : {X : Type 0} (old now new : Files) (came : Result X Stop)
-    → IsFaultless old.faults now.faults → UnlessEnds came (IsFaultless now.faults new.faults)
-    → UnlessEnds came (IsFaultless old.faults new.faults)
+    → NoneFailed old now → UnlessEnds came (NoneFailed now new)
+    → UnlessEnds came (NoneFailed old new)
 UnlessEnds-then old now new (Ok value) first more = λ name. more name ∙ first name
 UnlessEnds-then old now new (Err (Ends answer)) first more = tt
 UnlessEnds-then old now new (Err Memory) first more = λ name. more name ∙ first name

@@ -1,15 +1,26 @@
 -- Laws of tasks: what answers them while their files are read.
 use Rattle.std.proofs.Common.{◌≡◌, ◌≢◌, ◌∙◌, ◌≤◌, ◌<◌, ℕ, List, Option, Some, None, inl, inr}
-use Rattle.std.proofs.Common.{refl, sym, subst, arith}
+use Rattle.std.proofs.Common.{true, refl, sym, subst, arith}
+use Rattle.std.proofs.lemmas.Bool.{cases_Bool}
 use Rattle.std.proofs.Math.Path.{fun_ext}
 use Rattle.std.proofs.lemmas.Option.{none-some, same_Some}
 use Rattle.aeth_io.specs.Causes.{IsFaultless, Rose}
+use Rattle.aeth_io.specs.declared.shelf.Shelf.{Ghosts}
 use Rattle.aeth_answers.specs.Job.{Job, read_fault}
-use Rattle.aeth_answers.specs.Places.{Files, IsAfter}
+use Rattle.aeth_answers.specs.Places.{Files, IsAfter, NoneFailed, files_of}
 use Rattle.aeth_answers.specs.Status.{read_fault_status, usage_status}
 use Rattle.aeth_answers.specs.Stop.{Leaves}
 use Rattle.aeth_answers.specs.Task.{ComesTo, ComesToRead, IsAnswer, OnTold, Task, ends}
 use Rattle.aeth_answers.specs.Task.{job_with, reads, told}
+
+-- No call failed where none failed on a shelf that counts calls alone.
+pub NoneFailed-counted : {H : Type 0} (g : Ghosts H) (old new : H)
+    → (g.counts_calls ≡ true → IsFaultless (g.faults old) (g.faults new))
+    → NoneFailed (files_of g old) (files_of g new)
+NoneFailed-counted g old new clean = elim (cases_Bool g.counts_calls) [
+  | inl counts ↦ λ name. rw counts (clean counts name)
+  | inr uncounted ↦ λ name. rw uncounted refl
+]
 
 -- Nothing was read.
 pub IsAfter-same : (now : Files) → IsAfter now now
@@ -66,12 +77,13 @@ reached_next (Some held) bytes Reached read reached = subst Reached (read held r
 
 -- Once a file was read, over the same contents and without a fault, what comes next of its bytes is left.
 pub Leaves-reads : (old now : Files) (file name : List ℕ) (next : List ℕ → Task) (bytes : List ℕ)
-    → IsAfter old now → IsFaultless old.faults now.faults
+    → IsAfter old now → NoneFailed old now
     → ((held : List ℕ) → old.content name ≡ Some held → bytes ≡ held)
     → Leaves old now (reads file name next) (next bytes)
 Leaves-reads old now file name next bytes after clean read new answer answers_now =
     let IsAnswerOver : (List ℕ → Option (List ℕ)) → Type 0 =
-    λ content. IsAnswer (record { content = content; faults = now.faults }) new (next bytes)
+    λ content. IsAnswer
+    (record { content = content; faults = now.faults; failed = now.failed }) new (next bytes)
     answer in
     let answers = subst IsAnswerOver (fun_ext after.kept) answers_now in record {
       within = answers.within;

@@ -11,11 +11,10 @@
 use Rattle.std.specs.Prelude.{ℕ, ◌≡◌, List, Option, Some, Result, Ok, Err, ⊤}
 use Rattle.aeth_base.specs.Faults.{BrokenRule}
 use Rattle.aeth_base.specs.declared.memory.NoMemory.{NoMemory}
-use Rattle.aeth_io.specs.Causes.{IsFaultless}
 use Rattle.aeth_answers.specs.declared.answer.Stop.{Stop}
 use Rattle.aeth_answers.specs.declared.answer.Stop.TheVariants.{Ends, Memory}
 use Rattle.aeth_answers.specs.Job.{Job}
-use Rattle.aeth_answers.specs.Places.{Files, IsAfter}
+use Rattle.aeth_answers.specs.Places.{Files, IsAfter, NoneFailed}
 use Rattle.aeth_answers.specs.Refusal.{refused_file}
 use Rattle.aeth_answers.specs.Task.{IsAnswer, Judging, Task}
 
@@ -41,7 +40,7 @@ UnlessEnds (Err Memory) Holds = Holds
 -- of memory stands for no fault of the shelf.
 pub record Answers (old new : Files) (task : Task) (result : Result Job Stop) : Type 0 where
   pub after : IsAfter old new
-  pub faultless : UnlessEnds result (IsFaultless old.faults new.faults)
+  pub faultless : UnlessEnds result (NoneFailed old new)
   pub answers : IfAnswer result (IsAnswer old new task)
 
 -- Whatever comes next: what comes next of the value is left, or the task ends there with an answer,
@@ -59,7 +58,7 @@ GivesOrEnds {X} {A} old new judging view (Err Memory) = ⊤
 pub record Judges {X A : Type 0} (old new : Files) (judging : Judging A) (view : X → A)
     (result : Result X Stop) : Type 0 where
   pub after : IsAfter old new
-  pub faultless : UnlessEnds result (IsFaultless old.faults new.faults)
+  pub faultless : UnlessEnds result (NoneFailed old new)
   pub judges : GivesOrEnds old new judging view result
 
 -- A call refuses a file by the rule that a fault shows, or memory was wanting.

@@ -8,9 +8,9 @@
 --   IsAnswer, IsReadFault   what a run answers: the job, or that a file can't be read
 -- This project's own.
 use Rattle.std.specs.Prelude.{ℕ, ◌≡◌, ◌≢◌, ◌<◌, ◌≤◌, ◌⊎◌, List, Option, Some, None}
-use Rattle.aeth_io.specs.Causes.{IsFaultless, Rose}
+use Rattle.aeth_io.specs.Causes.{Rose}
 use Rattle.aeth_answers.specs.Job.{Job, read_fault}
-use Rattle.aeth_answers.specs.Places.{Files}
+use Rattle.aeth_answers.specs.Places.{Files, NoneFailed}
 use Rattle.aeth_answers.specs.Status.{read_fault_status, usage_status}
 
 -- A task ends with a job; or it reads a file, which has a word in texts and a name on the shelf,
@@ -68,5 +68,5 @@ pub record IsAnswer (old new : Files) (task : Task) (answer : Job) : Type 0 wher
   pub within : answer.status ≤ read_fault_status
   pub command : answer.status ≢ usage_status
   pub job : answer.status < read_fault_status → ComesTo old.content task answer
-  pub faultless : answer.status < read_fault_status → IsFaultless old.faults new.faults
+  pub faultless : answer.status < read_fault_status → NoneFailed old new
   pub fault : answer.status ≡ read_fault_status → IsReadFault old new task answer

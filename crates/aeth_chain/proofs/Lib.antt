@@ -13,3 +13,4 @@ mod MergedLemmas
 mod ChannelLogs
 mod LoggedLemmas
 mod ChainedLemmas
+mod DueLemmas

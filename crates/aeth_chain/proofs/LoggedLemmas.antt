@@ -44,10 +44,10 @@ module _ (inputs : Inputs) (u : UseId) (items : List ChainItem) (shapes : List C
   first = record { cycle = 0; to = u; drain = 0 }
 
   -- the inputs without words and receivers' rows, in this use case throughout
-  abbrev bare : Inputs
+  abbrev pub bare : Inputs
   bare = record inputs { words = []; pulls = []; switches = first ∷ [] }
 
-  bare-accepted : AreAccepted bare
+  pub bare-accepted : AreAccepted bare
   bare-accepted = record {
     design = tabled.design;
     of_chip = tabled.of_chip;

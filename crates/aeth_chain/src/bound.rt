@@ -14,7 +14,8 @@ use aeth_server::ChannelShape;
 pub struct ChainBound {
     /// Words per table: the least rate of its channels.
     pub rate: u32,
-    /// Cycles from a word's offer on the first channel to its landing on the last.
+    /// In cycles, how much later, at the most, a word of the first channel lands on the last than a
+    /// steady server of this rate, with no path, would be done with it.
     pub latency: u64,
 }
 

@@ -5,6 +5,7 @@ mod bound;
 mod item;
 mod landing;
 mod lane;
+pub mod laws;
 mod log;
 mod passing;
 mod run;

@@ -2,3 +2,4 @@ mod WordLemmas
 mod WorkLemmas
 mod RuleLemmas
 mod ShapeLemmas
+mod ToldLemmas

@@ -5,6 +5,7 @@
 mod channels;
 mod fault;
 mod items;
+pub mod laws;
 mod names;
 mod shapes;
 mod word;

@@ -3,11 +3,10 @@ use Rattle.std.proofs.Common.{◌≡◌, ◌∙◌, ◌≤◌, ◌<◌, ℕ, Lis
 use Rattle.std.proofs.Common.{ap, refl, subst, sym, arith}
 use Rattle.std.proofs.Math.Nat.{eq-or-lt_of_le}
 use Rattle.std.proofs.lemmas.Option.{same_Some}
-use Rattle.aeth_io.specs.Causes.{IsFaultless}
 use Rattle.aeth_io.specs.declared.shelf.Shelf as shelf
 use Rattle.aeth_io.specs.declared.sink.Sink as sink
 use Rattle.aeth_answers.specs.Job.{Job, err_text, usage}
-use Rattle.aeth_answers.specs.Places.{Files, IsAfter, Places, files_of}
+use Rattle.aeth_answers.specs.Places.{Files, IsAfter, NoneFailed, Places, files_of}
 use Rattle.aeth_answers.specs.Status.{read_fault_status, usage_status}
 use Rattle.aeth_answers.specs.Status.{write_fault_status}
 use Rattle.aeth_answers.specs.Task.{IsReadFault}
@@ -33,7 +32,7 @@ module _ (outcomes : Outcomes) (old new : Files) (answer : Job) where
 
   -- And no call on the shelf failed.
   answer_faultless : (said : Option Command) → IsAnswerTo outcomes old new said answer
-      → answer.status < read_fault_status → IsFaultless old.faults new.faults
+      → answer.status < read_fault_status → NoneFailed old new
   answer_faultless None is below = is.1
   answer_faultless (Some command) is below = is.faultless below
 

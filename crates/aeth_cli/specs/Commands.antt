@@ -4,14 +4,13 @@ pub mod Links
 use Rattle.std.specs.Prelude.{ℕ, ◌≡◌, ⊤, List, [], ◌∷◌, Option, Some, None, Result}
 use Rattle.std.specs.Option.{option_map, option_or}
 use Rattle.aeth_answers.specs.Job.{Job, usage}
-use Rattle.aeth_answers.specs.Places.{Files, IsAfter}
+use Rattle.aeth_answers.specs.Places.{Files, IsAfter, NoneFailed}
 use Rattle.aeth_answers.specs.Stop.{IfAnswer, UnlessEnds}
 use Rattle.aeth_answers.specs.Task.{ComesTo, IsAnswer, Task, job_with}
 use Rattle.aeth_answers.specs.declared.answer.Stop.{Stop}
 use Rattle.aeth_design_commands.specs.Commands as design
 use Rattle.aeth_design_commands.specs.Commands.{design_command, design_task}
 use Rattle.aeth_explain_commands.specs.Commands.{explain_command, refusals_task}
-use Rattle.aeth_io.specs.Causes.{IsFaultless}
 use Rattle.aeth_plan_commands.specs.Commands as plan
 use Rattle.aeth_plan_commands.specs.Commands.{plan_command, plan_task}
 use Rattle.aeth_run_commands.specs.Commands as run
@@ -68,7 +67,7 @@ module _ (outcomes : Outcomes) where
 
   -- The answer to a command, or to words that are none, for which no file is read.
   abbrev pub IsAnswerTo : Files → Files → Option Command → Job → Type 0
-  IsAnswerTo old new None answer = (answer ≡ usage) × IsFaultless old.faults new.faults
+  IsAnswerTo old new None answer = (answer ≡ usage) × NoneFailed old new
   IsAnswerTo old new (Some command) answer = IsAnswer old new (task_of command) answer
 
   -- A call answers a command, or words that are none, and whatever it comes to, it only read. Want of
@@ -76,5 +75,5 @@ module _ (outcomes : Outcomes) where
   pub record AnswersWords (old new : Files) (said : Option Command) (result : Result Job Stop)
       : Type 0 where
     pub after : IsAfter old new
-    pub faultless : UnlessEnds result (IsFaultless old.faults new.faults)
+    pub faultless : UnlessEnds result (NoneFailed old new)
     pub answers : IfAnswer result (IsAnswerTo old new said)

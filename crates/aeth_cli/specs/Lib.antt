@@ -1,3 +1,4 @@
 pub mod Commands
 pub mod Limits
 pub mod Promise
+pub mod Told

@@ -1,18 +1,19 @@
 -- What a run of the program promises: this file says it whole.
 --
 -- The words are those after the program's name. Each clause holds of every shelf and every pair of
--- sinks. Of contents a clause speaks where the shelf tells them, of texts where a sink tells what was
--- written. The job is that of two machines, each of which says what the log of a run is: one for
--- `simulate` and `demo`, one for `simulate-tables`. Want of memory is the one answer whose cause is left
--- open, but it never stands for a fault.
+-- sinks. Of contents a clause speaks where the shelf tells them, of calls on it that failed where it
+-- counts these alone, of texts where a sink tells what was written. The job is that of two machines,
+-- each of which says what the log of a run is: one for `simulate` and `demo`, one for
+-- `simulate-tables`. Want of memory is the one answer whose cause is left open, but it never stands
+-- for a fault.
 -- This project's own.
 use Rattle.std.specs.Prelude.{ℕ, ◌≡◌, ◌≢◌, ◌<◌, ◌≤◌, ◌⊎◌, List, Some, None}
-use Rattle.aeth_io.specs.Causes.{IsFaultless, Rose}
+use Rattle.aeth_io.specs.Causes.{Rose}
 use Rattle.aeth_io.specs.Sink.{appended}
 use Rattle.aeth_io.specs.declared.shelf.Shelf as shelf
 use Rattle.aeth_io.specs.declared.sink.Sink as sink
 use Rattle.aeth_answers.specs.Job.{Job, err_text, out_text}
-use Rattle.aeth_answers.specs.Places.{IsAfter, Places, Sinks, files_of}
+use Rattle.aeth_answers.specs.Places.{IsAfter, NoneFailed, Places, Sinks, files_of}
 use Rattle.aeth_answers.specs.Status.{done_status, memory_status, read_fault_status, usage_status}
 use Rattle.aeth_answers.specs.Status.{write_fault_status}
 use Rattle.aeth_answers.specs.Task.{IsReadFault}
@@ -55,7 +56,7 @@ pub record Promise {H O E : Type 0} (outcomes : Outcomes) (h : shelf.Ghosts H)
       × (e.written new.err ≡ appended (e.written old.err) (err_text answer))
   -- No call on the shelf failed: what a file told isn't told by another try.
   pub answered_shelf : status < read_fault_status
-      → IsFaultless (h.faults old.shelf) (h.faults new.shelf)
+      → NoneFailed (files_of h old.shelf) (files_of h new.shelf)
   -- `err` is as before where the job is done, and `out` where it isn't.
   pub err_kept : status ≡ done_status → new.err ≡ old.err
   pub out_kept : status < read_fault_status → status ≢ done_status → new.out ≡ old.out
@@ -74,7 +75,8 @@ pub record Promise {H O E : Type 0} (outcomes : Outcomes) (h : shelf.Ghosts H)
       × IsAnswerTo outcomes (files_of h old.shelf) (files_of h new.shelf) (command_of words) answer
       × IsCutShort o e (sinks_of old) (sinks_of new) answer
   -- Memory was wanting: no call on the shelf failed, and both sinks are as before.
-  pub memory_shelf : status ≡ memory_status → IsFaultless (h.faults old.shelf) (h.faults new.shelf)
+  pub memory_shelf : status ≡ memory_status
+      → NoneFailed (files_of h old.shelf) (files_of h new.shelf)
   pub memory_out : status ≡ memory_status → new.out ≡ old.out
   pub memory_err : status ≡ memory_status → new.err ≡ old.err
   -- Where no count of faults rose, the job was done, or memory was wanting.

@@ -1,8 +1,7 @@
 // The commands, and what each answers.
-ghost use Rattle.aeth_answers.specs.Places.{IsAfter, files_of};
+ghost use Rattle.aeth_answers.specs.Places.{IsAfter, NoneFailed, files_of};
 ghost use Rattle.aeth_answers.specs.Stop.{Answers};
 ghost use Rattle.aeth_cli.specs.Commands.{AnswersWords, HasRanges, IsAnswerTo, command_of, task_of};
-ghost use Rattle.aeth_io.specs.Causes.{IsFaultless};
 ghost use Rattle.std.specs.Prelude.{◌≡◌, IfOk, IfSome, OnErr, map, string_bytes};
 
 mod links;
@@ -67,7 +66,7 @@ pub fn answer<M: Machine, T: Machine, H: Shelf>(
     ensures answers { IfOk result (IsAnswerTo (record { headers = M.outcome; tables = T.outcome })
         (files_of H.Shelf shelf.old) (files_of H.Shelf shelf.new)
         (command_of (map string_bytes words.now))) }
-    ensures memory { OnErr result (IsFaultless (H.faults shelf.old) (H.faults shelf.new)) }
+    ensures memory { OnErr result (NoneFailed (files_of H.Shelf shelf.old) (files_of H.Shelf shelf.new)) }
 {
     match words_answer::<M, T, H>(alloc, words, shelf) {
         Ok(answer) => Ok(answer),

@@ -2,11 +2,9 @@
 #![tactic(auto)]
 
 mod commands;
-mod host;
 pub mod laws;
 mod program;
 
 pub use aeth_answers::Status;
 pub use aeth_demo::{DemoTexts, demo_texts};
-pub use host::start;
 pub use program::run;

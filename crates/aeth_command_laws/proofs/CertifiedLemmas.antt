@@ -11,12 +11,10 @@ use Rattle.aeth_alloc.specs.Trials.{refused_of}
 use Rattle.aeth_alloc.proofs.TrialLemmas.{trials-lack, trials-tell}
 use Rattle.aeth_answers.specs.Job.{Job, done}
 use Rattle.aeth_answers.specs.Status.{refused_status}
-use Rattle.aeth_answers.specs.Task.{Task, ends, job_with}
+use Rattle.aeth_answers.specs.Task.{ends, job_with}
 use Rattle.aeth_app.specs.App.{IsApp, IsAppOf}
-use Rattle.aeth_app.specs.AppFile.{app_of}
 use Rattle.aeth_base.specs.declared.ids.LinkId.{LinkId}
 use Rattle.aeth_chip.specs.Chip.{IsChip}
-use Rattle.aeth_chip.specs.ChipFile.{chip_of}
 use Rattle.aeth_explain.specs.Certificate.{cuts_of}
 use Rattle.aeth_explain.specs.Cuts.{IsCertificate}
 use Rattle.aeth_explain.specs.CutsText.{cuts_of_text, line_of}
@@ -26,7 +24,6 @@ use Rattle.aeth_explain.specs.declared.verdict.CutVerdict.TheVariants.{Complete,
 use Rattle.aeth_explain.proofs.ReadLemmas.{read-count}
 use Rattle.aeth_explain.proofs.RefusalLemmas.{certificate-exists}
 use Rattle.aeth_explain.proofs.VerdictLemmas.{verdict-complete}
-use Rattle.aeth_files.specs.Files.{design_file}
 use Rattle.aeth_files.proofs.ToldLemmas.{file_kept}
 use Rattle.aeth_group.specs.Members.{groups_of}
 use Rattle.aeth_paths.specs.Trials.{TrialData}
@@ -34,9 +31,9 @@ use Rattle.aeth_playing.specs.declared.inputs.Design.{Design}
 use Rattle.aeth_text.specs.Order.{line_after}
 use Rattle.aeth_explain_commands.specs.Explain.{cert_task, confirm_task, explain_task}
 use Rattle.aeth_explain_commands.specs.Explain.{explanation, flaw_of, refused_tries, verdicts_job}
-use Rattle.aeth_command_laws.specs.Explained.{AreCertificates, IsConfirmed, IsDesignTold}
+use Rattle.aeth_command_laws.specs.Explained.{AreCertificates, IsConfirmed}
 use Rattle.aeth_command_laws.specs.Explained.{IsExplained, refusals_of}
-use Rattle.aeth_command_laws.proofs.ToldLemmas.{FilesTell}
+use Rattle.aeth_command_laws.proofs.ToldLemmas.{FilesTell, design_kept}
 
 module _ (design : Design) (is_chip : IsChip design.chip) where
   -- A verdict, and what is answered then.
@@ -100,37 +97,13 @@ module _ (design : Design) (is_chip : IsChip design.chip) where
 
 module _ (tell : FilesTell) (content : List ℕ → Option (List ℕ)) (asked : Job)
     (kept : asked.status ≢ refused_status) where
-  -- A task that reads a design comes to a job which refuses no file: the files told a design, and the
-  -- next comes to the job.
-  design_kept : (chip_name app_name : List ℕ) (next : Design → Task)
-      → job_with content (design_file chip_name app_name next) ≡ Some asked
-      → (design : Design) × IsDesignTold content chip_name app_name design
-      × (job_with content (next design) ≡ Some asked)
-  design_kept chip_name app_name next is =
-      let (chip, chip_told, on_app) =
-      file_kept content asked kept (codes "chip") chip_of chip_name _ is in
-      let (app, app_told, at_end) =
-      file_kept content asked kept (codes "app") (app_of chip) app_name _ on_app in
-      let is_chip = tell.chip chip_told.bytes chip chip_told.told in
-      let is_app = tell.app chip app_told.bytes app is_chip app_told.told in (
-        record { chip = chip; app = app },
-        record {
-          chip_told = chip_told;
-          app_told = app_told;
-          chip_is = is_chip;
-          app_is = is_app.0;
-          of_chip = is_app.1;
-        },
-        at_end,
-      )
-
   -- A job of `explain` that refuses no file prints certificates.
   pub explained : (chip_name app_name : List ℕ)
       → job_with content (explain_task chip_name app_name) ≡ Some asked
       → IsExplained content chip_name app_name asked
   explained chip_name app_name is =
       let (design, told, at_end) =
-      design_kept chip_name app_name (λ design. ends (done (explanation design))) is in
+      design_kept tell content asked kept chip_name app_name (λ design. ends (done (explanation design))) is in
       record {
         design = design;
         told = told;
@@ -145,7 +118,7 @@ module _ (tell : FilesTell) (content : List ℕ → Option (List ℕ)) (asked : 
       → IsConfirmed content chip_name app_name cert_name asked
   confirmed chip_name app_name cert_name is =
       let (design, told, on_cert) =
-      design_kept chip_name app_name (λ design. cert_task design cert_name) is in
+      design_kept tell content asked kept chip_name app_name (λ design. cert_task design cert_name) is in
       let tries = refused_tries design in
       let (blocks, cert_told, at_end) =
       file_kept content asked kept (codes "cert") (cuts_of_text design.chip design.app

@@ -1,2 +1,5 @@
+mod AuditedLemmas
 mod CertifiedLemmas
+mod ChainedLemmas
+mod TabledLemmas
 mod ToldLemmas

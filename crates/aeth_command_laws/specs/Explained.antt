@@ -1,7 +1,6 @@
 -- What `explain` tells of refusals, by values that files of the shelf told.
 --
 --   AreCertificates      the lists of each try are a certificate
---   IsDesignTold      a chip and an application for it, which their files told
 --   IsExplained      a job prints a certificate for each refusal of the allocation
 --   IsConfirmed      a job tells whether the lists of a text are a certificate for each refusal
 -- This project's own.
@@ -11,11 +10,7 @@ use Rattle.aeth_alloc.specs.Prices.{prices_of}
 use Rattle.aeth_alloc.specs.Trials.{refused_of}
 use Rattle.aeth_alloc.specs.declared.outcome.Refused.{Refused}
 use Rattle.aeth_answers.specs.Job.{Job, done}
-use Rattle.aeth_app.specs.App.{IsApp, IsAppOf}
-use Rattle.aeth_app.specs.AppFile.{app_of}
 use Rattle.aeth_base.specs.declared.ids.LinkId.{LinkId}
-use Rattle.aeth_chip.specs.Chip.{IsChip}
-use Rattle.aeth_chip.specs.ChipFile.{chip_of}
 use Rattle.aeth_explain.specs.Certificate.{cuts_of}
 use Rattle.aeth_explain.specs.Cuts.{IsCertificate}
 use Rattle.aeth_explain.specs.CutsText.{cuts_of_text, line_of}
@@ -24,6 +19,7 @@ use Rattle.aeth_group.specs.Members.{groups_of}
 use Rattle.aeth_paths.specs.Trials.{TrialData}
 use Rattle.aeth_playing.specs.declared.inputs.Design.{Design}
 use Rattle.aeth_explain_commands.specs.Explain.{explanation, refused_tries, verdicts_job}
+use Rattle.aeth_command_laws.specs.Told.{IsDesignTold}
 
 -- The lists of each try are a certificate.
 abbrev pub AreCertificates : Design → List TrialData → List (List (List LinkId)) → Type 0
@@ -38,19 +34,11 @@ refusals_of design = (allocation design.chip design.app (groups_of design.app)
     (prices_of design.app.price)).refused
 
 module _ (content : List ℕ → Option (List ℕ)) where
-  -- A chip and an application for it, which their files told.
-  pub record IsDesignTold (chip_name app_name : List ℕ) (design : Design) : Type 0 where
-    pub chip_told : IsTold content chip_name chip_of design.chip
-    pub app_told : IsTold content app_name (app_of design.chip) design.app
-    pub chip_is : IsChip design.chip
-    pub app_is : IsApp design.app
-    pub of_chip : IsAppOf design.chip design.app
-
   -- The job prints the shortest cuts of each refusal of the allocation, in the order of turns, and they
   -- are a certificate.
   pub record IsExplained (chip_name app_name : List ℕ) (asked : Job) : Type 0 where
     pub design : Design
-    pub told : IsDesignTold chip_name app_name design
+    pub told : IsDesignTold content chip_name app_name design
     pub job_is : asked ≡ done (explanation design)
     pub each : map refused_of (refused_tries design) ≡ refusals_of design
     pub certified : (trial : TrialData) → Contains (refused_tries design) trial
@@ -61,7 +49,7 @@ module _ (content : List ℕ → Option (List ℕ)) where
   -- exactly where the lists of each are a certificate.
   pub record IsConfirmed (chip_name app_name cert_name : List ℕ) (asked : Job) : Type 0 where
     pub design : Design
-    pub told : IsDesignTold chip_name app_name design
+    pub told : IsDesignTold content chip_name app_name design
     pub blocks : List (List (List LinkId))
     pub cert_told : IsTold content cert_name (cuts_of_text design.chip design.app
         (groups_of design.app) (map line_of (refused_tries design))) blocks

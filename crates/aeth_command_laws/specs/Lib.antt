@@ -1,2 +1,5 @@
+pub mod Chained
 pub mod Explained
+pub mod Logged
+pub mod Tabled
 pub mod Told

@@ -37,6 +37,7 @@ pub mod QueueLemmas
 mod ReadyLemmas
 mod ReceivedLemmas
 mod ReceiverLemmas
+mod ReplacedLemmas
 mod RoomLemmas
 pub mod SeenCycle
 pub mod SeenLemmas

@@ -3,7 +3,7 @@ use Rattle.std.proofs.Common.{ℕ, zero, suc, ◌≡◌, ◌≢◌, ◌∙◌, r
 use Rattle.std.proofs.Common.{Some, slice_get}
 
 -- Changes that agree on all elements.
-pub map-agree : {X : Type 0} (change other : X → X) (xs : List X)
+pub map-agree : {X Y : Type 0} (change other : X → Y) (xs : List X)
     → ((i : ℕ) (x : X) → slice_get xs i ≡ Some x → change x ≡ other x)
     → map change xs ≡ map other xs
 map-agree change other [] same = refl

@@ -19,6 +19,7 @@ pub mod Passing
 pub mod Phases
 pub mod Queues
 pub mod Ready
+pub mod Replacing
 pub mod Seen
 pub mod Sending
 pub mod Switching

@@ -1,7 +1,7 @@
 // The components of a network and the channels' sessions.
 
-ghost use Rattle.std.specs.Prelude.{◌≡◌, ◌≤◌, ◌<◌, ◌↔◌, ◌*◌, ◌+◌, ℕ, All, IfOk, IfSome, IsTrue, None, Some};
-ghost use Rattle.std.specs.Prelude.{false, length, map, replicate, slice_get, slice_set};
+ghost use Rattle.std.specs.Prelude.{◌≡◌, ◌≤◌, ◌<◌, ◌↔◌, ◌*◌, ◌+◌, ℕ, All, IfErr, IfOk, IfSome, IsTrue, None};
+ghost use Rattle.std.specs.Prelude.{Some, false, length, map, replicate, slice_get, slice_set};
 ghost use Rattle.aeth_base.specs.Limits.{max_cycles};
 ghost use Rattle.aeth_ni.specs.Limits.{queues_of_interface};
 ghost use Rattle.aeth_clocked.specs.Wires.{flit_on};
@@ -21,6 +21,7 @@ ghost use Rattle.aeth_components.specs.Lanes.{IsLane, with_lane};
 ghost use Rattle.aeth_components.specs.Handing.{AreHanding};
 ghost use Rattle.aeth_components.specs.Passing.{way_of};
 ghost use Rattle.aeth_components.specs.Ready.{AreReady};
+ghost use Rattle.aeth_components.specs.Replacing.{emptied, without_held};
 ghost use Rattle.aeth_components.specs.Seen.{all_seen, taken_of};
 ghost use Rattle.aeth_components.specs.Turns.{flits_on};
 
@@ -35,12 +36,13 @@ use crate::lane::Lane;
 use crate::making::{RouterKind, parts_of};
 use crate::parts::enter_all;
 use crate::phases::switch;
+use crate::replacing::{lose, pass_on, set};
 use crate::sending::next_among;
 use crate::turns::Turns;
 use aeth_base::{NoMemory, Steps};
 use aeth_chip::Chip;
 use aeth_clocked::{Order, Wires};
-use aeth_router::{Part, RouterRow};
+use aeth_router::{Onward, Part, RouterRow};
 use std::alloc::Global;
 use std::marker::{Brand, Model};
 use std::sync::ledger::{Blank, Ledger};
@@ -107,7 +109,7 @@ impl Components {
         Components::with(alloc, chip, kind, rooms, channels)
     }
 
-    /// The number of components: those that take a turn.
+    /// The number of components: those of which an order is.
     pub fn len(&self) -> usize
         ensures { result ≡ length self.now.parts }
     {
@@ -215,22 +217,20 @@ impl Components {
     }
 
     /// A router or a stage takes the place of another whose links it has, as where it is reset or a fault is put
-    /// in. What is under way is lost: no wire has a flit any more, and no component what it latched last.
-    pub fn replace(&mut self, place: usize, part: Part)
+    /// in. What that one holds is lost: the flits on its incoming wires, and with them what it would have sent in the
+    /// next cycle. All else goes on. `Err` where there was no memory; then nothing has changed.
+    pub fn replace(&mut self, alloc: Global, place: usize, part: Part) -> Result<(), NoMemory>
         requires links { slice_get (frames_of self.old) place ≡ Some (frame_of part) }
         requires kind { is_interface (frame_of part) ≡ false }
-        ensures { self.new ≡ record self.old {
-          parts = all_seen (replicate (length self.old.wires) None)
-              (slice_set self.old.parts place part);
-          wires = replicate (length self.old.wires) None;
-        } }
+        ensures ok { IfOk result (λ done. self.new ≡ record self.old {
+          parts = slice_set self.old.parts place (emptied part);
+          wires = without_held part self.old.wires;
+        }) }
+        ensures err { IfErr result (λ fault. self.new ≡ self.old) }
     {
-        let by_table = part.has_table();
-        self.turns.has_tables = by_table || self.turns.has_tables;
-        self.parts[place] = part;
-        self.turns.onward.settle(&mut self.wires);
-        self.wires.clear();
-        self.turns.flits = 0;
+        let onward = Onward::new(alloc, self.turns.ends.receivers.len() as u32)?;
+        self.put(place, part, onward);
+        Ok(())
     }
 
     /// Events before the first cycle.
@@ -289,6 +289,22 @@ impl Components {
             cycle,
             steps,
         );
+    }
+
+    // The same, with what has come to no wire yet.
+    fn put(&mut self, place: usize, part: Part, onward: Onward)
+        requires links { slice_get (frames_of self.old) place ≡ Some (frame_of part) }
+        requires kind { is_interface (frame_of part) ≡ false }
+        requires onward { onward ≡ replicate (length self.old.wires) Nothing }
+        ensures { self.new ≡ record self.old {
+          parts = slice_set self.old.parts place (emptied part);
+          wires = without_held part self.old.wires;
+        } }
+    {
+        lose(&mut self.wires, &self.turns.ends.receivers, place);
+        self.turns.has_tables = part.has_table() | self.turns.has_tables;
+        set(&mut self.parts, place, part);
+        pass_on(&self.parts, &mut self.turns, &self.wires, onward);
     }
 
     // The components of a chip with these channels.

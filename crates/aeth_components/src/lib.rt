@@ -20,6 +20,7 @@ mod noted;
 mod parts;
 mod phases;
 mod queues;
+mod replacing;
 mod sending;
 mod turns;
 

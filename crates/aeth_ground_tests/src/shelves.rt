@@ -1,5 +1,5 @@
 // Shelves in memory, and files of the greatest size and one byte more.
-ghost use Rattle.std.specs.Prelude.{None};
+ghost use Rattle.std.specs.Prelude.{None, true};
 
 use crate::sinks::failing_calls;
 use aeth_io::{Failed, MemShelf, ReadFail, Shelf, read_all};
@@ -16,6 +16,8 @@ impl Shelf for Zeros {
     ghost content = { λ _ _. None };
 
     ghost faults = { λ _ _. 0 };
+
+    ghost counts_calls = { true };
 
     fn read(&mut self, _name: &str, at: u64, into: &mut [u8]) -> Result<usize, Failed> {
         Ok(into.len().min(self.size.saturating_sub(at as usize)))

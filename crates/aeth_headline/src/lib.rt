@@ -1,6 +1,8 @@
-//! The headline: what the program keeps of the runs that it simulates and of the plans that it makes.
+//! The headline: what the program keeps of what it prints.
 #![tactic(auto)]
 
 mod headline;
+pub mod laws;
 
+pub use aeth_cli::Status;
 pub use headline::run;

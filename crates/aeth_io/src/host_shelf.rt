@@ -1,6 +1,7 @@
 // A shelf over the files of the machine.
 ghost use Rattle.aeth_io.specs.Causes.{HasCause, one_more};
-ghost use Rattle.std.specs.Prelude.{OnOk, ◌≡◌, ◌≤◌, ℕ, None, IfOk, if◌then◌else◌, is_err, length};
+ghost use Rattle.std.specs.Prelude.{OnOk, ◌≡◌, ◌≤◌, ℕ, List, None, true, IfOk, if◌then◌else◌, is_err};
+ghost use Rattle.std.specs.Prelude.{length};
 
 use crate::{Failed, Shelf};
 use std::io::{Read, Seek, SeekFrom};
@@ -51,6 +52,8 @@ impl<R: Files + AllocGlobal + Drop> Shelf for HostShelf<R> {
 
     ghost faults = { λ shelf _. shelf };
 
+    ghost counts_calls = { true };
+
     /// An error of the machine raises the count of faults; nothing else does.
     fn read(&mut self, name: &str, at: u64, into: &mut [u8]) -> Result<usize, Failed>
         ensures counts { self.new ≡ (if is_err result then one_more self.old else self.old) }
@@ -58,7 +61,7 @@ impl<R: Files + AllocGlobal + Drop> Shelf for HostShelf<R> {
         // And what holds of every shelf, of one that tells no content.
         ensures within { IfOk result (λ n. n ≤ length into.new) }
         ensures cause { HasCause result self.old self.new }
-        ensures faultless { OnOk result (self.new ≡ self.old) }
+        ensures faultless { OnOk result ((other : List ℕ) → self.new ≡ self.old) }
         ensures later { self.old ≤ self.new }
     {
         let last = self.last.take();

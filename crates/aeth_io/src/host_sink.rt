@@ -1,6 +1,6 @@
 // A sink over one of std's writers.
 ghost use Rattle.aeth_io.specs.Causes.{HasCause, one_more};
-ghost use Rattle.std.specs.Prelude.{◌≡◌, ◌≤◌, ◌⊎◌, ℕ, None, IfOk, OnOk, if◌then◌else◌, is_err};
+ghost use Rattle.std.specs.Prelude.{◌≡◌, ◌≤◌, ◌⊎◌, ℕ, None, IfOk, if◌then◌else◌, is_err};
 ghost use Rattle.std.specs.Prelude.{length};
 
 use crate::{Failed, Sink};
@@ -43,7 +43,6 @@ impl<W: Write + Drop> Sink for HostSink<W> {
         ensures within { IfOk result (λ n. n ≤ length piece.now) }
         ensures some { IfOk result (λ n. (length piece.now ≡ 0) ⊎ (1 ≤ n)) }
         ensures cause { HasCause result self.old self.new }
-        ensures faultless { OnOk result (self.new ≡ self.old) }
         ensures later { self.old ≤ self.new }
     {
         match self.to.write(piece) {

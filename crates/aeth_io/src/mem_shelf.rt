@@ -4,7 +4,7 @@ ghost use Rattle.aeth_io.specs.MemShelf.{after_read, content_of, buffer_after, f
 ghost use Rattle.aeth_io.specs.MemShelf.{is_refusing};
 ghost use Rattle.aeth_io.specs.Shelf.{IsEndOf, ReadsFrom};
 ghost use Rattle.std.specs.Prelude.{◌≡◌, ◌<◌, ◌≤◌, List, ℕ, Some, length, IfOk, OnErr, OnOk, is_err};
-ghost use Rattle.std.specs.Prelude.{option_copied};
+ghost use Rattle.std.specs.Prelude.{option_copied, true};
 
 use crate::{Failed, Shelf};
 use std::marker::Model;
@@ -84,6 +84,8 @@ impl Shelf for MemShelf {
     ghost content = { λ shelf name. content_of shelf.files name };
 
     ghost faults = { λ shelf name. shelf.faults };
+
+    ghost counts_calls = { true };
 
     /// A call whose number is listed, or on a name that no file has, fails and raises the count of
     /// faults. Any other gives as many bytes as the file has from `at` on, as are asked for, and as

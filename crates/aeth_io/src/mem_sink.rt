@@ -2,7 +2,7 @@
 ghost use Rattle.aeth_io.specs.Causes.{HasCause};
 ghost use Rattle.aeth_io.specs.MemSink.{after_write, is_failing, taken_of};
 ghost use Rattle.aeth_io.specs.Sink.{appended};
-ghost use Rattle.std.specs.Prelude.{◌≡◌, ◌<◌, ◌≤◌, ◌⊎◌, [], length, take, Some, IfOk, OnErr, OnOk};
+ghost use Rattle.std.specs.Prelude.{◌≡◌, ◌<◌, ◌≤◌, ◌⊎◌, [], length, take, Some, IfOk, OnErr};
 ghost use Rattle.std.specs.Prelude.{is_err};
 
 use crate::{Failed, Sink};
@@ -94,7 +94,6 @@ impl Sink for MemSink {
             Some self.new.bytes ≡ appended (Some self.old.bytes) (take n piece.now)) }
         ensures err { OnErr result (Some self.new.bytes ≡ Some self.old.bytes) }
         ensures cause { HasCause result self.old.faults self.new.faults }
-        ensures faultless { OnOk result (self.new.faults ≡ self.old.faults) }
         ensures later { self.old.faults ≤ self.new.faults }
     {
         let call = self.calls;

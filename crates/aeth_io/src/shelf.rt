@@ -3,8 +3,8 @@ ghost use Rattle.aeth_io.specs.Causes.{HasCause, IsFaultless, Rose};
 ghost use Rattle.aeth_io.specs.Limits.{max_file_bytes};
 ghost use Rattle.aeth_io.specs.Shelf.{IsEndOf, ReadsFrom};
 ghost use Rattle.aeth_io.specs.declared.shelf.ReadFail.TheVariants.{Fault, TooLong};
-ghost use Rattle.std.specs.Prelude.{◌≡◌, ◌≢◌, ◌<◌, ◌≤◌, ℕ, List, Option, Some, Err, ◌++◌, length};
-ghost use Rattle.std.specs.Prelude.{IfOk, IsErr, OnOk};
+ghost use Rattle.std.specs.Prelude.{◌≡◌, ◌≢◌, ◌<◌, ◌≤◌, ℕ, Bool, true, List, Option, Some, Err};
+ghost use Rattle.std.specs.Prelude.{◌++◌, length, IfOk, IsErr, OnOk};
 
 use crate::Failed;
 use aeth_base::NoMemory;
@@ -23,13 +23,16 @@ pub trait Shelf {
     /// The bytes of the file of a name, where the shelf tells them.
     ghost content: { Self → List ℕ → Option (List ℕ) };
 
-    /// How many calls on a name failed. It never falls, and a call that fails raises it or leaves it
+    /// The count of faults of a name. It never falls, and a call that fails raises it or leaves it
     /// at the greatest `u64`.
     ghost faults: { Self → List ℕ → ℕ };
 
+    /// Whether the counts are of failed calls alone. They aren't of a shelf that tries again by itself, and
+    /// counts a try that failed where the call succeeds.
+    ghost counts_calls: { Bool };
+
     /// Gives the next bytes of a file from place `at` on, and says how many: none, where some were
-    /// asked for, is the end. A read changes no file, and one
-    /// that succeeds leaves the counts of faults.
+    /// asked for, is the end. A read changes no file.
     fn read(&mut self, name: &str, at: u64, into: &mut [u8]) -> Result<usize, Failed>
         ensures within { IfOk result (λ n. n ≤ length into.new) }
         ensures ok { (bytes : List ℕ) → content self.old name.now ≡ Some bytes
@@ -37,7 +40,8 @@ pub trait Shelf {
         ensures end { (bytes : List ℕ) → content self.old name.now ≡ Some bytes
             → 0 < length into.old → IfOk result (λ n. IsEndOf bytes at n) }
         ensures cause { HasCause result (faults self.old name.now) (faults self.new name.now) }
-        ensures faultless { OnOk result (IsFaultless (faults self.old) (faults self.new)) }
+        ensures faultless { counts_calls ≡ true
+            → OnOk result (IsFaultless (faults self.old) (faults self.new)) }
         ensures later { (other : List ℕ) → faults self.old other ≤ faults self.new other }
         ensures kept { (other : List ℕ) → content self.new other ≡ content self.old other };
 }
@@ -93,7 +97,7 @@ pub fn read_all<H: Shelf>(alloc: Global, shelf: &mut H, name: &str) -> Result<Ve
         → result ≡ Err TooLong → max_file_bytes < length bytes }
     ensures cause { result ≡ Err Fault
         → Rose (H.faults shelf.old name.now) (H.faults shelf.new name.now) }
-    ensures faultless { result ≢ Err Fault
+    ensures faultless { H.counts_calls ≡ true → result ≢ Err Fault
         → IsFaultless (H.faults shelf.old) (H.faults shelf.new) }
     ensures later { (other : List ℕ) → H.faults shelf.old other ≤ H.faults shelf.new other }
     ensures kept { (other : List ℕ) → H.content shelf.new other ≡ H.content shelf.old other }

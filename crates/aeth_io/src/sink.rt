@@ -26,12 +26,12 @@ pub trait Sink {
     /// The bytes that were written, where the sink tells them.
     ghost written: { Self → Option (List ℕ) };
 
-    /// How many calls failed. It never falls, and a call that fails raises it or leaves it at the
+    /// The count of faults. It never falls, and a call that fails raises it or leaves it at the
     /// greatest `u64`.
     ghost faults: { Self → ℕ };
 
     /// Takes some bytes of the piece, from its first on, and says how many: at least one of a piece
-    /// that has any. A call that fails takes none, and one that succeeds leaves the count of faults.
+    /// that has any. A call that fails takes none.
     fn write(&mut self, piece: &[u8]) -> Result<usize, Failed>
         ensures within { IfOk result (λ n. n ≤ length piece.now) }
         ensures some { IfOk result (λ n. (length piece.now ≡ 0) ⊎ (1 ≤ n)) }
@@ -39,7 +39,6 @@ pub trait Sink {
             written self.new ≡ appended (written self.old) (take n piece.now)) }
         ensures err { OnErr result (written self.new ≡ written self.old) }
         ensures cause { HasCause result (faults self.old) (faults self.new) }
-        ensures faultless { OnOk result (faults self.new ≡ faults self.old) }
         ensures later { faults self.old ≤ faults self.new };
 }
 
@@ -50,7 +49,6 @@ pub fn write_all<S: Sink>(sink: &mut S, text: &[u8]) -> Result<(), Failed>
     ensures err { OnErr result
         (AppendsProperPrefix (S.written sink.old) (S.written sink.new) text.now) }
     ensures cause { HasCause result (S.faults sink.old) (S.faults sink.new) }
-    ensures faultless { OnOk result (S.faults sink.new ≡ S.faults sink.old) }
     ensures later { S.faults sink.old ≤ S.faults sink.new }
     ensures kept { text.now ≡ [] → sink.new ≡ sink.old }
 {

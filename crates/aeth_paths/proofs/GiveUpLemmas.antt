@@ -4,11 +4,12 @@ use Rattle.std.proofs.Common.{List, [], ◌∷◌, length, Contains, Option, Som
 use Rattle.std.proofs.Common.{arith}
 use Rattle.std.proofs.Common.{length-append}
 use Rattle.std.specs.Prelude.{sum_by}
-use Rattle.std.proofs.lemmas.Bool.{and_left, and_right, cond-false, lt-leb}
+use Rattle.std.proofs.lemmas.Bool.{and_left, and_parts, and_right, cond-false, leb-true, lt-leb}
 use Rattle.std.proofs.lemmas.List.Sums.{sum_by-append, sum_by-cons}
 use Rattle.aeth_base.specs.declared.ids.LinkId.{LinkId}
 use Rattle.aeth_chip.specs.Joined.{IsJoined}
 use Rattle.aeth_chip.specs.declared.node.Node.{Node}
+use Rattle.aeth_paths.specs.Least.{PathsCost}
 use Rattle.aeth_paths.specs.Search.{Field, Walks, better, completions, is_better}
 use Rattle.aeth_paths.specs.Search.{is_candidate, keep}
 use Rattle.aeth_paths.specs.Walk.{GainsNothing, is_before}
@@ -66,40 +67,49 @@ cost-length f node (link ∷ rest) costs (has, joined) =
       cost-length f (f.to link) rest costs joined,
     )
 
+-- With a least number of links that are still needed, paths that go on cost at least as much as the
+-- list and these links.
+pub fewest-cost : (f : Field) (node : Node) (path : List LinkId) (more cost : ℕ) → AllCost f
+    → ((rest : List LinkId) → Walks f node path rest → more ≤ length rest)
+    → cost ≤ sum_by f.cost path + more → PathsCost f node path cost
+fewest-cost f node path more cost costs near cheap rest walks fits =
+    omega (arith, cheap, near rest walks, cost-length f node rest costs walks.joined)
+
 -- Where no path that goes on comes before the best, nothing is gained.
 beaten-none : (f : Field) (best : List LinkId) (node : Node) (path : List LinkId)
-    → ((rest : List LinkId) → Walks f node path rest → is_better f (path ++ rest) best ≡ false)
+    → ((rest : List LinkId) → Walks f node path rest → length (path ++ rest) ≤ f.most
+    → is_better f (path ++ rest) best ≡ false)
     → GainsNothing f (Some best) node path
 beaten-none f best node path after =
     gains-none f (Some best) node path (λ rest walks.
-    let go : (b : Bool)
+    let go : (b : Bool) → is_candidate f (path ++ rest) ≡ b
     → cond b (cond (is_better f (path ++ rest) best) (Some (path ++ rest)) (Some best)) (Some best)
     ≡ Some best =
     elim [
-      | true ↦ cond-false (is_better f (path ++ rest) best) (Some (path ++ rest)) (Some best)
-          (after rest walks)
-      | false ↦ refl
+      | true ↦ λ is. cond-false (is_better f (path ++ rest) best) (Some (path ++ rest)) (Some best)
+          (after rest walks (leb-true (length (path ++ rest)) f.most
+          (and_parts (leb (length (path ++ rest)) f.most) (f.live (path ++ rest)) is).0))
+      | false ↦ λ is. refl
     ]
-    in go (is_candidate f (path ++ rest)))
+    in go (is_candidate f (path ++ rest)) refl)
 
--- With the least cost of the links that are still needed, and with these links, no path that goes on
--- comes before the best.
+-- With the least cost of the paths that go on, and with the links that are still needed, none of
+-- these comes before the best.
 pub outdone-none : (f : Field) (best : List LinkId) (node : Node) (path : List LinkId)
-    (more cost links : ℕ) → AllCost f
+    (more cost links : ℕ)
     → ((rest : List LinkId) → Walks f node path rest → more ≤ length rest)
-    → cost ≤ sum_by f.cost path + more → links ≤ length path + more
+    → PathsCost f node path cost → links ≤ length path + more
     → ((its : ℕ) (rest : List LinkId) → cost ≤ its → links ≤ length (path ++ rest)
     → is_before its (path ++ rest) (sum_by f.cost best) best ≡ false)
     → GainsNothing f (Some best) node path
-outdone-none f best node path more cost links costs near cheap short outdone =
-    beaten-none f best node path (λ rest walks.
+outdone-none f best node path more cost links near dear short outdone =
+    beaten-none f best node path (λ rest walks fits.
     let long = near rest walks in
     better-before f (path ++ rest) best
     ∙ outdone (sum_by f.cost (path ++ rest)) rest
     (omega (
       arith,
       sum_by-append f.cost path rest,
-      long,
-      cost-length f node rest costs walks.joined,
+      dear rest walks (omega (arith, length-append path rest, fits)),
     ))
     (omega (arith, length-append path rest, long)))

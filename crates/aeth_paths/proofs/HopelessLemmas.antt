@@ -21,6 +21,7 @@ use Rattle.aeth_book.specs.Book.{BookData, IsBook}
 use Rattle.aeth_book.proofs.UseLemmas.{used_slots-within}
 use Rattle.aeth_paths.specs.declared.request.Request.{Request}
 use Rattle.aeth_paths.specs.Costs.{AreCosts}
+use Rattle.aeth_paths.specs.Least.{PathsCost}
 use Rattle.aeth_paths.specs.Open.{is_near, is_open}
 use Rattle.aeth_paths.specs.Search.{Field, Walks}
 use Rattle.aeth_paths.specs.Task.{field}
@@ -29,7 +30,7 @@ use Rattle.aeth_paths.specs.declared.search.Priced.{Priced}
 use Rattle.aeth_paths.specs.declared.search.Task.{Task}
 use Rattle.aeth_paths.specs.Walk.{GainsNothing, IsLeastFrom, IsTask, Stands, costs_of, field_of}
 use Rattle.aeth_paths.specs.Walk.{is_before, path_in, priced}
-use Rattle.aeth_paths.proofs.GiveUpLemmas.{AllCost, outdone-none}
+use Rattle.aeth_paths.proofs.GiveUpLemmas.{AllCost, fewest-cost, outdone-none}
 use Rattle.aeth_paths.proofs.JoinLemmas.{begins-sent, leaving-begins, onward-from-walk}
 use Rattle.aeth_paths.proofs.JoinLemmas.{route-from-walk}
 
@@ -151,22 +152,31 @@ module _ (task : Task) (goal : Goal) (node : Node) (path : List LinkId) where
       never-walk task.book.now task.prices.now task.ask goal.ni goal.most (apart is) node path
       (told None is least) stands
 
+  -- Paths that go on cost at least as much as the list and the links that are still needed.
+  pub task-fewest : (more cost : ℕ) → IsTask task → Stands (to_of task.book.now.links) node path
+      → IsLeastFrom task.far.now goal.ni node (Some more)
+      → cost ≤ sum_by (costs_of task) path + more
+      → PathsCost (field_of task goal) node path cost
+  task-fewest more cost is stands least cheap =
+      fewest-cost (field_of task goal) node path more cost (task-cost task goal is)
+      (task-near more is stands least) cheap
+
   -- No path that goes on comes before the best.
   pub task-outdone : (given : Option Priced) (best : Priced) (more cost links : ℕ) → IsTask task
       → Stands (to_of task.book.now.links) node path
       → IsLeastFrom task.far.now goal.ni node (Some more)
       → given ≡ priced (costs_of task) (path_in given) → given ≡ Some best
-      → cost ≤ sum_by (costs_of task) path + more → links ≤ length path + more
+      → PathsCost (field_of task goal) node path cost → links ≤ length path + more
       → ((its : ℕ) (rest : List LinkId) → cost ≤ its → links ≤ length (path ++ rest)
       → is_before its (path ++ rest) best.cost best.path ≡ false)
       → GainsNothing (field_of task goal) (path_in given) node path
-  task-outdone given best more cost links is stands least are at cheap short outdone =
+  task-outdone given best more cost links is stands least are at dear short outdone =
       let f = field_of task goal in
       let priced_so : best.cost ≡ sum_by (costs_of task) best.path =
       ap (λ (p : Priced). p.cost) (same_Some _ _
       (subst (λ (o : Option Priced). o ≡ priced (costs_of task) (path_in o)) at are)) in
       subst (λ (o : Option Priced). GainsNothing f (path_in o) node path) (sym at)
-      (outdone-none f best.path node path more cost links (task-cost task goal is)
-      (task-near more is stands least) cheap short (λ its rest. subst (λ n. cost ≤ its
+      (outdone-none f best.path node path more cost links
+      (task-near more is stands least) dear short (λ its rest. subst (λ n. cost ≤ its
       → links ≤ length (path ++ rest) → is_before its (path ++ rest) n best.path ≡ false) priced_so
       (outdone its rest)))

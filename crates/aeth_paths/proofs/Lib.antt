@@ -6,6 +6,7 @@ mod GiveUpLemmas
 pub mod StepLemmas
 pub mod PrefixLemmas
 mod HopelessLemmas
+mod LeastLemmas
 mod VainLemmas
 mod OrderLemmas
 mod CostLemmas

@@ -4,6 +4,7 @@ pub mod Candidates
 pub mod Search
 pub mod Task
 pub mod Walk
+pub mod Least
 pub mod Over
 pub mod OpenLists
 pub mod Open

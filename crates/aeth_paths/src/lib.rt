@@ -4,6 +4,7 @@
 mod cost;
 mod ends;
 pub mod laws;
+mod least;
 mod pairs;
 mod request;
 mod search;

@@ -8,12 +8,14 @@ ghost use Rattle.aeth_chip.specs.Paths.{IsPath};
 ghost use Rattle.aeth_chip.specs.declared.node.Node.TheVariants.{Ni};
 ghost use Rattle.aeth_paths.specs.declared.request.Found.{Found};
 ghost use Rattle.aeth_paths.specs.Candidates.{IsCandidate, IsFirst, is_live};
+ghost use Rattle.aeth_paths.specs.Least.{AreWithin};
 ghost use Rattle.aeth_paths.specs.Open.{all_steps, allowed_steps, each_once};
 ghost use Rattle.aeth_paths.specs.Pairs.{IsOffered, OfferedFrom, OfferedTo, Tries};
 ghost use Rattle.aeth_paths.specs.Walk.{IsPrefix, IsTask, costs_of, path_in, priced};
 
 use crate::cost::Cost;
 use crate::ends::found;
+use crate::least::{least_costs, link_costs};
 use crate::request::{Found, Request};
 use crate::search::{Goal, Prefix, Priced, Task, extend};
 use aeth_base::{LinkId, MAX_PATH_LINKS, NiId, NoMemory, Path, Steps};
@@ -90,10 +92,12 @@ fn try_pair<L: Ledger>(
     a: NiId,
     b: NiId,
     crowded: &[NiId],
+    costs: &[u32],
     best: Option<Priced>,
     steps: &mut Steps<L>,
 ) -> Option<Priced>
     requires task { IsTask task.now }
+    requires costs { AreWithin (costs_of task.now) costs.now }
     requires best { best ≡ priced (costs_of task.now) (path_in best) }
     ensures best { result ≡ priced (costs_of task.now) (path_in result) }
     ensures tries { Tries (costs_of task.now) (path_in best) (path_in result)
@@ -111,7 +115,13 @@ fn try_pair<L: Ledger>(
         return best;
     }
     let most = (distance as u64 + task.ask.detour as u64).min(MAX_PATH_LINKS as u64) as u32;
-    let goal = Goal { ni: b, most };
+    let least = least_costs(task, b, most, costs);
+    let goal = Goal {
+        ni: b,
+        most,
+        costs,
+        least: &least,
+    };
     extend(task, &goal, &start(task, a), best, MAX_PATH_LINKS, steps)
 }
 
@@ -121,10 +131,12 @@ fn try_to<L: Ledger>(
     a: NiId,
     to: &[NiId],
     crowded: &[NiId],
+    costs: &[u32],
     best: Option<Priced>,
     steps: &mut Steps<L>,
 ) -> Option<Priced>
     requires task { IsTask task.now }
+    requires costs { AreWithin (costs_of task.now) costs.now }
     requires best { best ≡ priced (costs_of task.now) (path_in best) }
     ensures best { result ≡ priced (costs_of task.now) (path_in result) }
     ensures tries { Tries (costs_of task.now) (path_in best) (path_in result)
@@ -137,7 +149,7 @@ fn try_to<L: Ledger>(
     for i in 0..to.len() {
         let b = to[i];
         if !holds_below(&to[..i], below, b) {
-            best = try_pair(task, a, b, crowded, best, steps);
+            best = try_pair(task, a, b, crowded, costs, best, steps);
         }
         below = below.max(b.0 as u64 + 1);
     }
@@ -159,12 +171,13 @@ fn try_from<L: Ledger>(
     ensures steps { steps.new ≤ steps.old + all_steps task.now.chip.now task.now.book.now
         task.now.prices.now task.now.ask from.now to.now crowded.now }
 {
+    let costs = link_costs(task);
     let mut best = None;
     let mut below = 0;
     for i in 0..from.len() {
         let a = from[i];
         if !holds_below(&from[..i], below, a) {
-            best = try_to(task, a, to, crowded, best, steps);
+            best = try_to(task, a, to, crowded, &costs, best, steps);
         }
         below = below.max(a.0 as u64 + 1);
     }

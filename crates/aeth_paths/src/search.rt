@@ -13,6 +13,7 @@ ghost use Rattle.aeth_chip.specs.Chip.{IsNode};
 ghost use Rattle.aeth_chip.specs.Paths.{to_of};
 ghost use Rattle.aeth_paths.specs.Candidates.{is_live};
 ghost use Rattle.aeth_chip.specs.LeastOnward.{least_from};
+ghost use Rattle.aeth_paths.specs.Least.{IsGoal, PathsCost};
 ghost use Rattle.aeth_paths.specs.Open.{is_open, open_steps};
 ghost use Rattle.aeth_paths.specs.Over.{IsTurnFor};
 ghost use Rattle.aeth_paths.specs.Search.{completions, first_from, keep, turn_of};
@@ -21,6 +22,7 @@ ghost use Rattle.aeth_paths.specs.Walk.{GainsNothing, IsLeastFrom, IsPrefix, IsT
 ghost use Rattle.aeth_paths.specs.Walk.{costs_of, field_of, is_before, path_in, priced};
 
 use crate::cost::Prices;
+use crate::least::{entry, least_onward};
 use crate::request::Request;
 use aeth_base::{LinkId, NiId, Path, Steps};
 use aeth_book::Book;
@@ -38,11 +40,14 @@ pub(crate) struct Task<'a> {
     pub ask: Request,
 }
 
-/// The interface that a path must lead to, and the most links that it may have.
+/// The interface that a path must lead to, and the most links that it may have; and what links cost
+/// at least, each one and those that lead on from a router.
 #[derive(Clone, Copy)]
-pub(crate) struct Goal {
+pub(crate) struct Goal<'a> {
     pub ni: NiId,
     pub most: u32,
+    pub costs: &'a [u32],
+    pub least: &'a [u32],
 }
 
 /// A list of links from a sender, the node that it leads to, and what the search knows of it: the
@@ -260,10 +265,28 @@ fn may_precede(path: &Path, cost: u64, links: u64, best: &Priced) -> bool
     !is_behind(path, &best.path)
 }
 
+/// What the paths cost at least that go on from a list over a link to a new router.
+fn cost_over(task: &Task, goal: &Goal, prefix: &Prefix, link: LinkId) -> u64
+    requires task { IsTask task.now }
+    requires goal { IsGoal task.now goal.now }
+    requires prefix { IsPrefix task.now prefix.now }
+    requires short { length prefix.now.path < max_path_links }
+    requires link { Contains (links_from task.now.chip.now.links prefix.now.end) link }
+    requires goes { turn_of (field_of task.now goal.now) prefix.now.path link ≡ Turn.Goes }
+    ensures { PathsCost (field_of task.now goal.now) (to_of task.now.book.now.links link)
+        (prefix.now.path ++ link ∷ []) result }
+{
+    let end = task.chip.link(link);
+    let left = goal.most.saturating_sub(prefix.path.len() + 1) as usize;
+    let onward = least_onward(task, goal.ni, goal.most, goal.least, end.to, left);
+    prefix.cost as u64 + entry(goal.costs, link.0 as usize) as u64 + onward as u64
+}
+
 /// Whether no better path goes on over a link to a new router: it leads too far from the goal, or
 /// with the least cost of the links that are still needed no path over it comes before the best.
 fn is_vain(task: &Task, goal: &Goal, prefix: &Prefix, link: LinkId, best: &Option<Priced>) -> bool
     requires task { IsTask task.now }
+    requires goal { IsGoal task.now goal.now }
     requires prefix { IsPrefix task.now prefix.now }
     requires short { length prefix.now.path < max_path_links }
     requires link { Contains (links_from task.now.chip.now.links prefix.now.end) link }
@@ -283,7 +306,11 @@ fn is_vain(task: &Task, goal: &Goal, prefix: &Prefix, link: LinkId, best: &Optio
     }
     match best {
         None => false,
-        Some(best) => !may_precede(&path, prefix.cost as u64 + 1 + more as u64, links, best),
+        Some(best) => {
+            let fewest = prefix.cost as u64 + 1 + more as u64;
+            let cost = cost_over(task, goal, prefix, link).max(fewest);
+            !may_precede(&path, cost, links, best)
+        }
     }
 }
 
@@ -319,6 +346,7 @@ fn is_hopeless(task: &Task, goal: &Goal, prefix: &Prefix, best: &Option<Priced>)
 /// better path goes on over it.
 fn turn_for(task: &Task, goal: &Goal, prefix: &Prefix, link: LinkId, best: &Option<Priced>) -> Turn
     requires task { IsTask task.now }
+    requires goal { IsGoal task.now goal.now }
     requires prefix { IsPrefix task.now prefix.now }
     requires short { length prefix.now.path < max_path_links }
     requires link { Contains (links_from task.now.chip.now.links prefix.now.end) link }
@@ -349,6 +377,7 @@ pub(crate) fn extend<L: Ledger>(
     steps: &mut Steps<L>,
 ) -> Option<Priced>
     requires task { IsTask task.now }
+    requires goal { IsGoal task.now goal.now }
     requires prefix { IsPrefix task.now prefix.now }
     requires node { IsNode task.now.chip.now.routers task.now.chip.now.nis prefix.now.end }
     requires stands { Stands (to_of task.now.book.now.links) prefix.now.end prefix.now.path }

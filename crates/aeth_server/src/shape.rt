@@ -51,7 +51,8 @@ impl ChannelShape {
         WORDS_PER_FLIT * self.need
     }
 
-    /// The latency, in cycles, from a word's offer to its landing.
+    /// The latency, in cycles: how much later, at the most, a word lands than a steady server of this
+    /// rate, with no path, would be done with it, while the receiver keeps its delay.
     pub fn latency(&self) -> u32
         requires { IsShapeInRange self.now }
         ensures latency { result ≡ channel_latency (shape_of self.now) }

@@ -1,9 +1,7 @@
 // A row of a transcript: a command, what it writes, and its status.
 use crate::files::{change_file, named_files};
-use aeth_cli::run;
+use aeth_headline::run;
 use aeth_io::{MemShelf, MemSink, Shelf};
-use aeth_sim::Network;
-use aeth_table_network::TableNetwork;
 use std::alloc::Global;
 use std::io;
 
@@ -44,9 +42,7 @@ fn words_of(alloc: Global, line: &str) -> io::Result<Vec<String>> {
 fn said(alloc: Global, row: &str, words: &[String], mut shelf: MemShelf) -> io::Result<Vec<u8>> {
     let mut out = ample_sink(alloc)?;
     let mut err = ample_sink(alloc)?;
-    let status = run::<Network, TableNetwork, _, _, _>(
-        alloc, words, &mut shelf, &mut out, &mut err,
-    );
+    let status = run(alloc, words, &mut shelf, &mut out, &mut err);
     let mut lines = format!(in alloc; "$ {row}\n")?.into_bytes();
     lines.extend_from_slice(out.bytes())?;
     if !err.bytes().is_empty() {

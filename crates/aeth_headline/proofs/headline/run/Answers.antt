@@ -1,32 +1,28 @@
-use Rattle.aeth_accepted.specs.Inputs.{run_of}
-use Rattle.aeth_running.proofs.RouterTables.{headers-route}
-use Rattle.aeth_running.specs.Routing.{ByHeaders}
-use Rattle.aeth_table_network.specs.Tables.{tables_of}
-use Rattle.aeth_headline.specs.Headline.{network_outcome}
+use Rattle.aeth_headline.specs.Machines.{network_outcome}
 use Rattle.aeth_headline.proofs.HeadlineLemmas.{headline}
 use Rattle.aeth_headline.proofs.headline.run.Goals as goal
 
--- The promise of the run, and the laws.
-pub returns : goal.returns
-returns g c =
+-- The promise of the run.
+pub returns-clause-promise : goal.returns-clause-promise
+returns-clause-promise g c = c.run.ensures
+
+-- The promise, and the laws.
+pub returns-clause-headline : goal.returns-clause-headline
+returns-clause-headline g c =
     headline (record {
       ends = c.simulations_end.ensures.headers;
       ends_tables = c.simulations_end.ensures.tables;
+      named = c.commands_are_in_range.ensures.items;
+      holds = c.runs_hold.ensures;
       simulated = c.simulated_runs.ensures network_outcome;
       allocated = c.allocated_designs.ensures;
-      holds = λ inputs accepted. record {
-        one_flit = c.links_carry_one.ensures.one inputs accepted;
-        wires = c.networks_carry.ensures.first inputs accepted ByHeaders (headers-route inputs);
-        wires_by_tables = c.networks_carry.ensures.first inputs accepted (tables_of inputs)
-            (c.tables_route.ensures inputs accepted);
-        landings = c.rows_are_landings.ensures (run_of inputs)
-            (c.runs_are_sound.ensures.sound inputs accepted);
-        independent = λ other. c.channels_are_independent.ensures (run_of inputs) (run_of other);
-        deadline = c.words_land_in_time.ensures.lands inputs accepted;
-        in_time = c.words_land_in_time.ensures.in_time inputs accepted;
-        single_word = c.words_land_in_time.ensures.wished inputs accepted;
-      };
       accepted = c.plans.ensures.accepted;
       refused = c.refusals.ensures.rightly;
       exactly = c.refusals.ensures.exactly;
+      explained = c.refusals_are_explained.ensures.explained;
+      confirmed = c.refusals_are_explained.ensures.confirmed;
+      tabled = c.tables_bind.ensures;
+      chained = c.chains_meet_bounds.ensures;
+      linked = c.links_are_clean.ensures;
+      audited = c.audits_are_exact.ensures;
     }) g.H.Shelf g.O.Sink g.E.Sink _ _ _ _ c.run.ensures

@@ -31,7 +31,7 @@ loop-chunk-preserved g c =
           rw c.in_ok-push_bytes.ensures.ok
           (read_so_far-more bytes text.items c.read.new.into taken (turn.read bytes told)
           c.in-Ok.ensures.within next);
-      faultless = λ other. c.in-Ok.ensures.faultless other ∙ turn.faultless other;
+      faultless = λ counts other. c.in-Ok.ensures.faultless counts other ∙ turn.faultless counts other;
       later = λ other. let later =
           c.in-Ok.ensures.later other in omega (arith, later, turn.later other);
       kept = λ other. c.in-Ok.ensures.kept other ∙ turn.kept other;

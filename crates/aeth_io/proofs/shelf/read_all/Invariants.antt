@@ -1,4 +1,4 @@
-use Rattle.std.proofs.Common.{◌≡◌, ◌≤◌, ◌+◌, ◌-◌, ℕ, List, Some, length}
+use Rattle.std.proofs.Common.{◌≡◌, ◌≤◌, ◌+◌, ◌-◌, ℕ, true, List, Some, length}
 use Rattle.aeth_io.proofs.Reading.{IsReadSoFar}
 use Rattle.aeth_io.specs.Causes.{IsFaultless}
 use Rattle.aeth_io.specs.Limits.{max_file_bytes}
@@ -8,7 +8,8 @@ abbrev pub invariant-loop-chunk : goal.invariant-loop-chunk
 invariant-loop-chunk g l = record {
   read : (bytes : List ℕ) → g.H.Shelf.content l.fn.shelf l.name ≡ Some bytes
       → IsReadSoFar bytes l.text.items;
-  faultless : IsFaultless (g.H.Shelf.faults l.fn.shelf) (g.H.Shelf.faults l.shelf);
+  faultless : g.H.Shelf.counts_calls ≡ true
+      → IsFaultless (g.H.Shelf.faults l.fn.shelf) (g.H.Shelf.faults l.shelf);
   later : (other : List ℕ) → g.H.Shelf.faults l.fn.shelf other ≤ g.H.Shelf.faults l.shelf other;
   kept : (other : List ℕ) → g.H.Shelf.content l.shelf other ≡ g.H.Shelf.content l.fn.shelf other;
 }

@@ -1,4 +1,4 @@
-use Rattle.std.proofs.Common.{◌≤◌, ◌∙◌, arith}
+use Rattle.std.proofs.Common.{◌≤◌, arith}
 use Rattle.aeth_io.proofs.Writing.{under_way-empty, under_way-write}
 use Rattle.aeth_io.proofs.sink.write_all.Goals as goal
 
@@ -12,7 +12,6 @@ loop-rest-preserved g c =
       written = under_way-write _ _ _ _ c.loop-rest.rest.now c.in_ok-taken.taken
           turn.written c.in_ok-taken.ensures.ok;
       later = omega (arith, later, turn.later);
-      faultless = c.in_ok-taken.ensures.faultless ∙ turn.faultless;
       kept = λ empty.
           let none = under_way-empty _ _ _ c.loop-rest.rest.now turn.written empty in
           absurd (grind (arith, c.is_empty.ensures, c.loop-rest-test.ensures));

@@ -6,7 +6,6 @@ abbrev pub invariant-loop-rest : goal.invariant-loop-rest
 invariant-loop-rest g l = record {
   written : IsUnderWay (g.S.Sink.written l.fn.sink) (g.S.Sink.written l.sink) l.text l.rest;
   later : g.S.Sink.faults l.fn.sink ≤ g.S.Sink.faults l.sink;
-  faultless : g.S.Sink.faults l.sink ≡ g.S.Sink.faults l.fn.sink;
   kept : l.text ≡ [] → l.sink ≡ l.fn.sink;
 }
 

@@ -8,13 +8,12 @@ use Rattle.aeth_chip.specs.declared.node.Node.{Node}
 use Rattle.aeth_chip.specs.declared.node.Node.TheVariants.{Ni}
 use Rattle.aeth_chip.specs.Chip.{IsNode}
 use Rattle.aeth_chip.specs.Paths.{IsDistance, IsLinkFrom}
-use Rattle.aeth_paths.specs.declared.search.Goal.{Goal}
 use Rattle.aeth_chip.specs.LeastOnward.{least_from}
 use Rattle.aeth_paths.specs.Open.{is_crowded, open_steps}
 use Rattle.aeth_paths.specs.Task.{field}
 use Rattle.aeth_paths.specs.Pairs.{IsOffered, Tries}
 use Rattle.aeth_paths.specs.Search.{completions, first_from}
-use Rattle.aeth_paths.specs.Walk.{costs_of, field_of, path_in}
+use Rattle.aeth_paths.specs.Walk.{costs_of, path_in}
 use Rattle.aeth_paths.proofs.EndLemmas.{from-inside}
 use Rattle.aeth_paths.proofs.EnterLemmas.{to-inside}
 use Rattle.aeth_paths.proofs.HopelessLemmas.{no-direct}
@@ -87,8 +86,7 @@ pub returns-clause-tries : goal.returns-clause-tries
 returns-clause-tries g c =
     let task = c.args.task.now in
     let ask = task.ask in
-    let pair : Goal = record { ni = c.args.b; most = c.min-most.result } in
-    let f = field_of task pair in
+    let f = field task.book.now task.prices.now ask c.args.b c.min-most.result in
     let far = subst (λ (ls : List Link). IsDistance ls c.args.a c.args.b (Some c.in-Some.distance))
     (c.requires.task.far ∙ sym c.requires.task.book) c.in-Some.ensures.distance in
     let apart : (link : LinkId)

@@ -87,16 +87,19 @@ extend-best-requires g t c lives kept =
         (
           c.requires.task,
           (
-            known.prefix,
+            c.requires.goal,
             (
-              known.node,
+              known.prefix,
               (
-                stands-goes f path longer.path c.in-Some.link longer.end c.in-Goes.ensures known.path
-                    known.end,
+                known.node,
                 (
-                  priced-again (costs_of c.args.task.now) _ c.loop-place.best
-                      c.loop-place.invariant.best,
-                  omega (arith, more, c.requires.room),
+                  stands-goes f path longer.path c.in-Some.link longer.end c.in-Goes.ensures known.path
+                      known.end,
+                  (
+                    priced-again (costs_of c.args.task.now) _ c.loop-place.best
+                        c.loop-place.invariant.best,
+                    omega (arith, more, c.requires.room),
+                  ),
                 ),
               ),
             ),

@@ -6,7 +6,7 @@ use Rattle.aeth_chip.specs.declared.node.Link.{Link}
 use Rattle.aeth_paths.specs.Walk.{IsLeastFrom, field_of, path_in}
 use Rattle.aeth_paths.proofs.GiveUpLemmas.{dead-none, far-none, nowhere-none}
 use Rattle.aeth_paths.proofs.HopelessLemmas.{least-told, open-from, task-near, task-never}
-use Rattle.aeth_paths.proofs.HopelessLemmas.{task-outdone}
+use Rattle.aeth_paths.proofs.HopelessLemmas.{task-fewest, task-outdone}
 use Rattle.aeth_paths.proofs.LiveLemmas.{dead-stays, sized}
 use Rattle.aeth_paths.proofs.search.is_hopeless.Goals as goal
 
@@ -33,7 +33,10 @@ returns-then-not-may_precede-clause-none c given =
     task-outdone c.args.task.now c.args.goal.now c.args.prefix.now.end c.args.prefix.now.path
     c.args.best.now c.in-Some-best.best c.in-Some.more (c.args.prefix.now.cost + c.in-Some.more)
     (c.len.result + c.in-Some.more) c.requires.task c.requires.stands c.in-Some.ensures
-    c.requires.best c.in-Some-best.is (omega (arith, c.requires.prefix.cost))
+    c.requires.best c.in-Some-best.is
+    (task-fewest c.args.task.now c.args.goal.now c.args.prefix.now.end c.args.prefix.now.path
+    c.in-Some.more (c.args.prefix.now.cost + c.in-Some.more) c.requires.task c.requires.stands
+    c.in-Some.ensures (omega (arith, c.requires.prefix.cost)))
     (omega (arith, c.len.ensures.len)) (c.may_precede.ensures c.if-not-may_precede.true)
 
 -- Its free starts are dead.

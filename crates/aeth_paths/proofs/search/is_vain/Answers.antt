@@ -1,11 +1,13 @@
-use Rattle.std.proofs.Common.{◌≡◌, ◌+◌, ◌++◌, ◌∷◌, [], List, length, ap, subst, arith}
+use Rattle.std.proofs.Common.{◌≡◌, ◌+◌, ◌++◌, ◌∷◌, [], List, length, ap, subst, sym, arith}
 use Rattle.std.proofs.lemmas.Bool.{not-true}
 use Rattle.aeth_base.specs.declared.ids.LinkId.{LinkId}
 use Rattle.aeth_base.proofs.TestLemmas.{true_from_IsTrue}
 use Rattle.aeth_chip.specs.declared.node.Node.{Node}
+use Rattle.aeth_paths.specs.Least.{PathsCost}
 use Rattle.aeth_paths.specs.Walk.{GainsNothing, field_of, path_in}
 use Rattle.aeth_paths.proofs.GiveUpLemmas.{far-none, nowhere-none}
-use Rattle.aeth_paths.proofs.HopelessLemmas.{task-near, task-never, task-outdone}
+use Rattle.aeth_paths.proofs.HopelessLemmas.{task-fewest, task-near, task-never}
+use Rattle.aeth_paths.proofs.HopelessLemmas.{task-outdone}
 use Rattle.aeth_paths.proofs.VainLemmas.{IsLonger, link-there, longer-is}
 use Rattle.aeth_paths.proofs.search.is_vain.Goals as goal
 use Rattle.aeth_paths.proofs.search.is_vain.Goals.{After-link, After-push}
@@ -53,14 +55,23 @@ returns-then-links-goal c given =
 -- It costs too much, or comes behind.
 pub returns-in-Some-best : goal.returns-in-Some-best
 returns-in-Some-best c given =
+    let task = c.args.task.now in
+    let pair = c.args.goal.now in
+    let more = c.in-Some.more in
+    let path : List LinkId = c.args.prefix.now.path ++ c.args.link ∷ [] in
     let at = longer (goal.at.returns-in-Some-best c).After-link in
     let same = over (goal.at.returns-in-Some-best c).After-push in
     let size = ap (λ (p : List LinkId). length p) same in
-    subst (λ (n : Node). GainsNothing (field_of c.args.task.now c.args.goal.now)
-    (path_in c.args.best.now) n (c.args.prefix.now.path ++ c.args.link ∷ [])) at.ends
-    (task-outdone c.args.task.now c.args.goal.now c.link.result.to
-    (c.args.prefix.now.path ++ c.args.link ∷ []) c.args.best.now c.in-Some-best.best c.in-Some.more
-    (c.args.prefix.now.cost + 1 + c.in-Some.more) (c.len.result + c.in-Some.more) c.requires.task
-    at.stands c.in-Some.ensures c.requires.best c.in-Some-best.is (omega (arith, at.dearer))
+    let table : PathsCost (field_of task pair) c.link.result.to path c.cost_over.result =
+    subst (λ (n : Node). PathsCost (field_of task pair) n path c.cost_over.result) (sym at.ends)
+    c.cost_over.ensures in
+    let fewest = task-fewest task pair c.link.result.to path more
+    (c.args.prefix.now.cost + 1 + more) c.requires.task at.stands c.in-Some.ensures
+    (omega (arith, at.dearer)) in
+    subst (λ (n : Node). GainsNothing (field_of task pair) (path_in c.args.best.now) n path) at.ends
+    (task-outdone task pair c.link.result.to path c.args.best.now c.in-Some-best.best more
+    c.max-cost.result (c.len.result + more) c.requires.task
+    at.stands c.in-Some.ensures c.requires.best c.in-Some-best.is
+    (λ rest walks fits. omega (arith, c.max-cost.ensures, table rest walks fits, fewest rest walks fits))
     (omega (arith, c.len.ensures.len, size))
     (rw same at (c.may_precede.ensures (not-true _ (true_from_IsTrue _ given)))))

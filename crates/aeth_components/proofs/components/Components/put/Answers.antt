@@ -1,0 +1,170 @@
+use Rattle.std.proofs.Common.{◌≡◌, ◌<◌, ◌==◌, ◌++◌, ◌∙◌, ap, arith, drop, refl, sym, Bool, List, None, Some, ℕ}
+use Rattle.std.proofs.Common.{false, if◌then◌else◌, length, length-set, map, set, slice_get, subst, take}
+use Rattle.std.specs.Prelude.{slice_index}
+use Rattle.std.proofs.lemmas.Bool.{or_parts}
+use Rattle.std.proofs.lemmas.List.{length-map, map-set}
+use Rattle.std.proofs.lemmas.List.Elements.{All-set}
+use Rattle.std.proofs.lemmas.Option.{slice_get_within}
+use Rattle.aeth_base.proofs.Lists.{slice_get-slice_set_other, slice_get-slice_set_same, written_back}
+use Rattle.aeth_clocked.specs.Wires.{flit_on}
+use Rattle.aeth_router.specs.declared.part.Part.{Part}
+use Rattle.aeth_router.specs.declared.part.Part.TheVariants.{Interface, Router, Stage, TableRouter}
+use Rattle.aeth_components.proofs.components.Components.put.Goals as goal
+use Rattle.aeth_components.proofs.components.Components.put.Goals.{After-lose, After-set}
+use Rattle.aeth_components.proofs.CycleLemmas.{IsComponents-replaced, views-slice_set}
+use Rattle.aeth_components.proofs.ReplacedLemmas.{all_seen-replaced, receives-there}
+use Rattle.aeth_components.proofs.ReplacedLemmas.{without_held-is}
+use Rattle.aeth_components.proofs.RoomLemmas.{IsFull-replaced}
+use Rattle.aeth_components.proofs.SeenLemmas.{frames-seen}
+use Rattle.aeth_components.proofs.TableLemmas.{tables-replaced}
+use Rattle.aeth_components.proofs.WaitingLemmas.{AreHanding-kept}
+use Rattle.aeth_components.specs.Changes.{told_by}
+use Rattle.aeth_components.specs.Components.{components_of, frames_of}
+use Rattle.aeth_components.specs.Ends.{AreEnds, is_interface}
+use Rattle.aeth_components.specs.Frames.{Frame, IsWired, frame_of}
+use Rattle.aeth_components.specs.Handing.{room_left}
+use Rattle.aeth_components.specs.Passing.{way_of}
+use Rattle.aeth_components.specs.Replacing.{without_held}
+use Rattle.aeth_components.specs.declared.turns.Turns.{Turns}
+
+-- A component that is no interface has no room.
+room-other : (part : Part) → is_interface (frame_of part) ≡ false
+    → (queue : ℕ) → told_by queue room_left part ≡ 0
+room-other (Interface ni) other queue = absurd (cc other)
+room-other (Router router) other queue = refl
+room-other (TableRouter router) other queue = refl
+room-other (Stage stage) other queue = refl
+
+-- It has the wires of the one in whose place it comes.
+framed : (c : After-lose) → slice_get (map frame_of c.self.inside.parts.items) c.args.place
+    ≡ Some (frame_of c.args.part)
+framed c =
+    let all = c.self.inside in
+    ap (λ (frames : List Frame). slice_get frames c.args.place)
+    (sym (frames-seen all.wires all.parts.items) ∙ ap frames_of c.self.view_is)
+    ∙ c.requires.links
+
+there : (c : After-lose) → c.args.place < length c.self.inside.parts.items
+there c =
+    let all = c.self.inside in
+    let within = slice_get_within (map frame_of all.parts.items) c.args.place (frame_of c.args.part)
+    (framed c) in
+    let size = length-map all.parts.items frame_of in
+    omega (arith, within, size)
+
+-- So with it all have the frames that they had.
+abbrev now : After-lose → List Part
+now c = set c.self.inside.parts.items c.args.place c.args.part
+
+frames : (c : After-lose) → map frame_of (now c) ≡ map frame_of c.self.inside.parts.items
+frames c = views-slice_set frame_of c.self.inside.parts.items c.args.place c.args.part (framed c)
+
+wired : (c : After-lose) → IsWired (map frame_of (now c)) (length c.self.inside.wires)
+wired c =
+    subst (λ (frames : List Frame). IsWired frames (length c.self.inside.wires)) (sym (frames c))
+    c.self.invariant.0.wired
+
+ends : (c : After-lose)
+    → AreEnds (map frame_of (now c)) (length c.self.inside.wires) c.self.inside.turns.ends
+ends c =
+    subst (λ (frames : List Frame).
+    AreEnds frames (length c.self.inside.wires) c.self.inside.turns.ends) (sym (frames c))
+    c.self.invariant.1.ends
+
+at : (c : After-lose) → slice_get (now c) c.args.place ≡ Some c.args.part
+at c = slice_get-slice_set_same c.self.inside.parts.items c.args.place c.args.part (there c)
+
+-- The wires have lost what goes to the component, and are as many.
+lost : (c : After-lose) → c.lose.new.wires ≡ without_held c.args.part c.self.inside.wires
+lost c =
+    let wires = c.self.inside.wires in
+    let part = c.args.part in
+    without_held-is part wires c.lose.new.wires c.lose.ensures.size
+    (λ wire within.
+    c.lose.ensures.at wire within
+    ∙ ap (λ (own : Bool). Some (if own then None else flit_on wires wire))
+    (ap (λ (list : List ℕ). slice_index list wire == c.args.place) c.deref.ensures.value
+    ∙ receives-there (now c) wires c.self.inside.turns.ends c.args.place part (wired c) (ends c) (at c)
+    wire within))
+
+-- The component stands at its place.
+written : (c : After-set) → take c.self.inside.parts.len (c.set.new.parts
+    ++ drop (length c.set.new.parts) c.self.inside.parts.items)
+    ≡ set c.self.inside.parts.items c.args.place c.args.part
+written c =
+    written_back c.self.inside.parts.items c.set.new.parts c.self.inside.parts.len
+    c.self.inside.parts.ok.0 (c.set.auto.parts ∙ ap length c.deref_mut.ensures.value)
+    ∙ c.set.ensures
+    ∙ ap (λ (parts : List Part). set parts c.args.place c.args.part) c.deref_mut.ensures.value
+
+pub pass_on-requires-clause-wired : goal.pass_on-requires-clause-wired
+pass_on-requires-clause-wired c =
+    let lose = (goal.at.pass_on-requires-clause-wired c).After-lose in
+    let set = (goal.at.pass_on-requires-clause-wired c).After-set in
+    rw (c.deref-2.ensures.value, written set, c.lose.ensures.size) (wired lose)
+
+pub pass_on-requires-clause-ends : goal.pass_on-requires-clause-ends
+pass_on-requires-clause-ends c =
+    let lose = (goal.at.pass_on-requires-clause-ends c).After-lose in
+    let set = (goal.at.pass_on-requires-clause-ends c).After-set in
+    rw (c.deref-2.ensures.value, written set, c.lose.ensures.size) (ends lose)
+
+-- What holds of components still holds.
+pub invariant_of-self : goal.invariant_of-self
+invariant_of-self c =
+    let all = c.self.inside in
+    let parts = all.parts.items in
+    let part = c.args.part in
+    let place = c.args.place in
+    let lose = (goal.at.invariant_of-self c).After-lose in
+    let put = (goal.at.invariant_of-self c).After-set in
+    let ready = c.self.invariant.1 in
+    let size = c.lose.ensures.size in
+    let before = IsComponents-replaced place part (components_of parts all.wires all.channels.lanes
+    all.channels.words all.counts.landings.items all.counts.flits.items) (framed lose)
+    c.self.invariant.0 in
+    rw (written put) (
+      record {
+        wired = rw size before.wired;
+        lanes = before.lanes;
+        landings = before.landings;
+        flits = rw size before.flits;
+        few = before.few;
+      },
+      record {
+        ends = rw (c.pass_on.ensures.turns, size) (ends lose);
+        flits = ap (λ (turns : Turns). turns.flits) c.pass_on.ensures.turns;
+        size = c.pass_on.ensures.size;
+        forwarded = (
+            let passed = c.pass_on.ensures.forwarded in
+            rw (c.pass_on.ensures.turns, ← written put, ← c.deref-2.ensures.value) passed);
+        tables = λ none.
+            let is = ap (λ (turns : Turns). turns.has_tables) c.pass_on.ensures.turns in
+            let both = or_parts c.has_table.result all.turns.has_tables (sym is ∙ none) in
+            rw (map-set way_of parts place part)
+            (All-set (λ way. way.by_table ≡ false) (map way_of parts) place (way_of part)
+            (sym c.has_table.ensures ∙ both.0) (ready.tables both.1));
+      },
+      rw (tables-replaced parts place part c.requires.kind (framed lose), c.pass_on.ensures.turns)
+          c.self.invariant.2,
+      AreHanding-kept parts (set parts place part) all.channels.lanes all.handing
+          (λ end. IsFull-replaced place part (room-other part c.requires.kind) parts end.ni.0 end.queue)
+          c.self.invariant.3,
+    )
+
+-- No other component is another than it was.
+pub returns : goal.returns
+returns c =
+    let all = c.self.inside in
+    let parts = all.parts.items in
+    let lose = (goal.at.returns c).After-lose in
+    let put = (goal.at.returns c).After-set in
+    rw (
+      written put,
+      lost lose,
+      ← c.self.view_is,
+      all_seen-replaced (now lose) all.wires all.turns.ends c.args.place c.args.part (wired lose)
+          (ends lose) (at lose) parts
+          (λ i apart. slice_get-slice_set_other parts c.args.place i c.args.part apart)
+          (length-set parts c.args.place c.args.part),
+    ) refl

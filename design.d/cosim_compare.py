@@ -1,0 +1,132 @@
+"""What the hardware did beside what `aeth` says: the log of links, the landings, and the flits of each link."""
+from collections import defaultdict
+from dataclasses import dataclass
+import csv
+
+from aeth import run_aeth
+from files import rows_of
+from rules import rules_of_logs
+from waveform import Channels, fields_of, scope_names
+
+MOST_CYCLES_OF_LINKS = 10_000
+MOST_ROWS = 1_000_000  # of a log that `aeth audit` reads
+MOST_BYTES = 33_554_432
+HEADER = "cycle,link,header,first,second\n"
+
+
+@dataclass(frozen=True)
+class Difference:
+    """The first difference: where it is, and what stands on both sides."""
+
+    place: str
+    aeth: str
+    hardware: str
+
+    def text(self):
+        return f"another: {self.place}\n  aeth      {self.aeth}\n  hardware  {self.hardware}\n"
+
+
+class Comparison:
+    """The files of a run, with what the hardware left of it."""
+
+    def __init__(self, network, files, cycles, folder):
+        self.network, self.files, self.cycles, self.folder = network, files, cycles, folder
+        self.channels = Channels(network.chip, network.app, network.plan)
+        self.scopes = scope_names(self.channels.links)
+        with open(folder / "log.csv", encoding="ascii") as file:
+            next(file)
+            self.rows = sorted(tuple(map(int, line.split(","))) for line in file)
+        with open(folder / "landings.csv", encoding="ascii", newline="") as file:
+            next(file)
+            landings = [tuple(map(int, row)) for row in csv.reader(file)]
+        self.landings = defaultdict(list)
+        for cycle, channel, value in landings:
+            self.landings[network.channels[channel]].append((cycle, value))
+
+    def landed(self):
+        return sum(map(len, self.landings.values()))
+
+    def at(self, row):
+        """Where a row stands, by name."""
+        cycle, link, header = row[:3]
+        route, queue, *_ = fields_of(header)
+        channel = self.channels.name(link, route, queue).replace(":", " ")
+        return f"cycle {cycle}, link {link} ({self.scopes[link]}), {'no channel' if channel == '-' else f'channel {channel}'}"
+
+    def of_links(self, log):
+        """The first row that isn't the same, from what `aeth links` prints, in the cycles that it has."""
+        aeth = [tuple(map(int, line.split(","))) for line in log.splitlines()[1:]]
+        most = min(self.cycles, MOST_CYCLES_OF_LINKS)
+        ours = [row for row in self.rows if row[0] < most]
+        for place in range(max(len(aeth), len(ours))):
+            one = aeth[place] if place < len(aeth) else None
+            other = ours[place] if place < len(ours) else None
+            if one != other:
+                return self.difference(one, other)
+        return None
+
+    def difference(self, one, other):
+        """Of two rows, of which either may be missing, what the earlier one tells."""
+        first = min(row for row in (one, other) if row)
+        place = self.at(one if one and one[:2] == first[:2] else first)
+        sides = [",".join(map(str, row)) if row and row[:2] == first[:2] else "no flit" for row in (one, other)]
+        return Difference(place, *sides)
+
+    def of_audit(self):
+        """What `aeth audit` says of the log, of as many cycles as it reads."""
+        rows, cycles = self.rows, self.cycles
+        if len(rows) > MOST_ROWS:
+            cycles = rows[MOST_ROWS][0]
+            rows = [row for row in rows if row[0] < cycles]
+        text = HEADER + "".join(",".join(map(str, row)) + "\n" for row in rows)
+        while len(text) > MOST_BYTES:
+            cycles = cycles * 9 // 10
+            rows = [row for row in rows if row[0] < cycles]
+            text = HEADER + "".join(",".join(map(str, row)) + "\n" for row in rows)
+        log = self.folder / "sorted.csv"
+        log.write_text(text, encoding="ascii")
+        chip, app, plan, _, _, switches = self.files
+        status, _, errors = run_aeth("audit", chip, app, plan, switches, log, cycles)
+        if not status:
+            return None
+        words = errors.split()
+        if words[:1] != ["fault"]:
+            return Difference("the log can't be judged", "audit", errors.strip())
+        row = rows[int(words[2]) - 1]
+        return Difference(self.at(row), f"rule {words[1]} of a log: {rules_of_logs()[words[1]]}", ",".join(map(str, row)))
+
+    def of_landings(self, log):
+        """The first landing that isn't the same, from what `aeth simulate` prints, by the channel in which it is."""
+        expected, channel = defaultdict(list), None
+        for line in log.splitlines():
+            word, *fields = line.split(" ")
+            if word == "chan":
+                channel = tuple(fields[:2])
+            elif word == "land":
+                expected[channel].append((int(fields[2]), int(fields[4]), int(fields[0])))
+        found = []
+        for channel in self.network.channels:
+            aeth, ours = expected[channel], self.landings[channel]
+            for place in range(max(len(aeth), len(ours))):
+                one = aeth[place] if place < len(aeth) else None
+                other = ours[place] if place < len(ours) else None
+                if one is None or one[:2] != other:
+                    found.append((min(side[0] for side in (one, other) if side), channel, one, other))
+                    break
+        if not found:
+            return None
+        cycle, channel, one, other = min(found, key=lambda each: each[0])
+        index = f"word {one[2]}" if one else "a further word"
+        sides = [f"lands in cycle {side[0]} with value {side[1]}" if side else "doesn't land" for side in (one, other)]
+        return Difference(f"cycle {cycle}, channel {' '.join(channel)}, {index} of its session", *sides)
+
+    def of_flits(self, log):
+        """The first link that doesn't carry as many flits."""
+        counts = [0] * len(self.scopes)
+        for row in self.rows:
+            counts[row[1]] += 1
+        for link, flits in rows_of(log, "link"):
+            if counts[int(link)] != int(flits):
+                place = f"link {link} ({self.scopes[int(link)]}) over all cycles"
+                return Difference(place, f"{flits} flits", f"{counts[int(link)]} flits")
+        return None
