@@ -146,3 +146,34 @@ back = {words = 0, per = 1, latency = 12, delay = 0}
 name = 'main'
 connections = ['c0', 'c1']
 ";
+
+/// Three streams on the square. The first two take 7 of the 8 slots of each link on their way, and the third wishes 3 from
+/// the third corner to the second.
+pub(crate) const CROSSING: &str = "version = 1
+detour = 0
+core = [
+  {name = 'cam', ni = 'n0'}, {name = 'disp', ni = 'n1'},
+  {name = 'dsp', ni = 'n2'}, {name = 'net', ni = 'n3'},
+]
+[[connection]]
+name = 'cam_net'
+from = 'cam'
+to = 'net'
+fwd = {words = 3, per = 2, latency = 12, delay = 0}
+back = {words = 0, per = 1, latency = 20, delay = 0}
+[[connection]]
+name = 'net_cam'
+from = 'net'
+to = 'cam'
+fwd = {words = 3, per = 2, latency = 12, delay = 0}
+back = {words = 0, per = 1, latency = 20, delay = 0}
+[[connection]]
+name = 'dsp_disp'
+from = 'dsp'
+to = 'disp'
+fwd = {words = 3, per = 4, latency = 20, delay = 0}
+back = {words = 0, per = 1, latency = 20, delay = 0}
+[[use]]
+name = 'main'
+connections = ['cam_net', 'net_cam', 'dsp_disp']
+";

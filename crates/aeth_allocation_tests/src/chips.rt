@@ -51,6 +51,23 @@ link = [
 ]
 ";
 
+/// A mesh of two columns and two rows of routers, each with a network interface.
+pub(crate) const SQUARE: &str = "version = 1
+slots = 8
+routers = ['r0', 'r1', 'r2', 'r3']
+nis = ['n0', 'n1', 'n2', 'n3']
+link = [
+  {from = 'n0', to = 'r0'}, {from = 'r0', to = 'n0'},
+  {from = 'n1', to = 'r1'}, {from = 'r1', to = 'n1'},
+  {from = 'n2', to = 'r2'}, {from = 'r2', to = 'n2'},
+  {from = 'n3', to = 'r3'}, {from = 'r3', to = 'n3'},
+  {from = 'r0', to = 'r1'}, {from = 'r1', to = 'r0'},
+  {from = 'r0', to = 'r2'}, {from = 'r2', to = 'r0'},
+  {from = 'r1', to = 'r3'}, {from = 'r3', to = 'r1'},
+  {from = 'r2', to = 'r3'}, {from = 'r3', to = 'r2'},
+]
+";
+
 /// A mesh of four columns and four rows of routers, each with a network interface.
 pub(crate) const MESH: &str = "version = 1
 slots = 64

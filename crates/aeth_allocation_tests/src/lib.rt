@@ -1,5 +1,5 @@
-//! Tests of applications, groups, books, first paths, allocations, plans and the spans of switches, above the libraries that
-//! have them.
+//! Tests of applications, groups, books, first paths, allocations, certificates, plans and the spans of switches, above the
+//! libraries that have them.
 #![tactic(auto)]
 
 #[cfg(test)]
@@ -8,6 +8,8 @@ mod allocations;
 mod apps;
 #[cfg(test)]
 mod books;
+#[cfg(test)]
+mod certificates;
 #[cfg(test)]
 mod chips;
 mod costs;
@@ -21,6 +23,8 @@ mod parts;
 mod paths;
 #[cfg(test)]
 mod plans;
+#[cfg(test)]
+mod refusals;
 #[cfg(test)]
 mod searches;
 #[cfg(test)]

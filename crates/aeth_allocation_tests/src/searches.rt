@@ -184,7 +184,7 @@ fn is_answer(found: &Result<Option<Found>, NoMemory>, answer: &Answer) -> bool {
 }
 
 /// Whether a path has just these links.
-fn has_links(path: &Path, links: &[u32]) -> bool {
+pub(crate) fn has_links(path: &Path, links: &[u32]) -> bool {
     let mut has = path.len() as usize == links.len();
     for (i, link) in links.iter().enumerate() {
         has = has && i < path.len() as usize && path.link(i as u32) == LinkId(*link);

@@ -7,6 +7,7 @@ ghost use Rattle.std.specs.Prelude.{◌≡◌};
 use crate::grants::{AskedOfBook, is_book_right};
 use crate::outcomes::{AskedOfAllocation, is_allocation_right};
 use crate::parts::{AskedOfApp, AskedOfGroups, are_groups_right, is_app_right};
+use crate::refusals::{AskedOfRefusal, is_refusal_right};
 use crate::texts::{AskedOfPlan, is_plan_right};
 use aeth_app::{App, read_app};
 use aeth_chip::{Chip, read_chip};
@@ -25,6 +26,8 @@ pub(crate) enum Question {
     OfBook(&'static [(u32, u64)], AskedOfBook),
     /// Of the allocation.
     OfAllocation(AskedOfAllocation),
+    /// Of the only refusal of the allocation.
+    OfRefusal(AskedOfRefusal),
     /// Of the plan of a text.
     OfPlan(&'static str, AskedOfPlan),
 }
@@ -81,6 +84,7 @@ fn is_right_in(
         Question::OfGroups(asked) => Some(are_groups_right(groups, asked)),
         Question::OfBook(grants, asked) => is_book_right(alloc, chip, app, groups, grants, asked),
         Question::OfAllocation(asked) => is_allocation_right(alloc, chip, app, groups, asked),
+        Question::OfRefusal(asked) => is_refusal_right(alloc, chip, app, groups, asked),
         Question::OfPlan(text, asked) => is_plan_right(alloc, chip, app, groups, text, asked),
     }
 }
