@@ -15,7 +15,7 @@ ghost use Rattle.aeth_paths.specs.Walk.{IsTask, costs_of};
 
 use crate::search::Task;
 use aeth_base::{LinkId, MAX_PATH_LINKS, MAX_SLOTS, NiId, RouterId};
-use aeth_chip::{MAX_LINKS, MAX_ROUTERS, Node};
+use aeth_chip::{MAX_LINKS, MAX_PORTS, MAX_ROUTERS, Node};
 
 /// How many links may have a cost.
 pub(crate) const COSTS: usize = MAX_LINKS as usize;
@@ -26,14 +26,19 @@ const ROUTERS: usize = MAX_ROUTERS as usize;
 /// How many least costs there are: a row for each number of links below the most of a path.
 pub(crate) const LEAST: usize = MAX_PATH_LINKS as usize * ROUTERS;
 
-/// What links cost at least, by their numbers. All are 0 where no link costs more than 1, since then
-/// a number of links tells as much.
+// Whether tables pay: links cost more than 1 where they are used, and routers have so many links that
+// there are many ways.
+fn is_weighed(task: &Task) -> bool {
+    task.prices.of(1, MAX_SLOTS) > 1 && task.chip.links() >= MAX_PORTS * task.chip.routers()
+}
+
+/// What links cost at least, by their numbers. All are 0 where tables don't pay.
 pub(crate) fn link_costs(task: &Task) -> [u32; COSTS]
     requires { IsTask task.now }
     ensures { AreWithin (costs_of task.now) result }
 {
     let mut costs = [0; COSTS];
-    if task.prices.of(1, MAX_SLOTS) == 1 {
+    if !is_weighed(task) {
         return costs;
     }
     for i in 0..task.chip.links() {
@@ -45,7 +50,7 @@ pub(crate) fn link_costs(task: &Task) -> [u32; COSTS]
 }
 
 /// What the links cost at least that lead on from a router to an interface: an entry for each number
-/// of links, which they are at most, and each router. All are 0 where no link costs more than 1.
+/// of links, which they are at most, and each router. All are 0 where tables don't pay.
 pub(crate) fn least_costs(task: &Task, ni: NiId, most: u32, costs: &[u32]) -> [u32; LEAST]
     requires task { IsTask task.now }
     requires costs { AreWithin (costs_of task.now) costs.now }
@@ -53,7 +58,7 @@ pub(crate) fn least_costs(task: &Task, ni: NiId, most: u32, costs: &[u32]) -> [u
     ensures { AreLeast (field task.now.book.now task.now.prices.now task.now.ask ni most) result }
 {
     let mut least = [0; LEAST];
-    if task.prices.of(1, MAX_SLOTS) == 1 {
+    if !is_weighed(task) {
         return least;
     }
     for i in 0..most as usize * ROUTERS {

@@ -7,9 +7,9 @@ use Rattle.aeth_paths.specs.Task.{field}
 use Rattle.aeth_paths.proofs.LeastLemmas.{put-least, zeros-least}
 use Rattle.aeth_paths.proofs.least.least_costs.Goals as goal
 
--- No link costs more than 1.
-pub returns-then-of-eq1 : goal.returns-then-of-eq1
-returns-then-of-eq1 c =
+-- There is no table.
+pub returns-then-not-is_weighed : goal.returns-then-not-is_weighed
+returns-then-not-is_weighed c =
     let task = c.args.task.now in
     zeros-least (field task.book.now task.prices.now task.ask c.args.ni c.args.most)
     (max_path_links * max_routers)

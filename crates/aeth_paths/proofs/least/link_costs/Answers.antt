@@ -10,9 +10,9 @@ use Rattle.aeth_paths.specs.Walk.{costs_of}
 use Rattle.aeth_paths.proofs.LeastLemmas.{put-within, zeros-within}
 use Rattle.aeth_paths.proofs.least.link_costs.Goals as goal
 
--- No link costs more than 1.
-pub returns-then-of-eq1 : goal.returns-then-of-eq1
-returns-then-of-eq1 c = zeros-within (costs_of c.args.task.now) max_links
+-- There is no table.
+pub returns-then-not-is_weighed : goal.returns-then-not-is_weighed
+returns-then-not-is_weighed c = zeros-within (costs_of c.args.task.now) max_links
 
 -- No cost stands there yet.
 pub loop-i-init : goal.loop-i-init
@@ -27,11 +27,11 @@ loop-i-preserved c =
     let task = c.args.task.now in
     let i = c.loop-i.i in
     let at = ap (λ (ls : List Link). slice_get ls i) c.requires.book ∙ c.link-delay.ensures.link in
-    let own = c.of-in-loop-i.ensures.cost ∙ ap (price task.prices.now c.link-delay.result.delay) c.used.ensures.used
+    let own = c.of.ensures.cost ∙ ap (price task.prices.now c.link-delay.result.delay) c.used.ensures.used
     ∙ ap (λ d. price task.prices.now d (used_slots task.book.now task.ask.unit i))
     (sym (ap delay_in at)) in
     record {
-      size = length-set c.loop-i.costs i c.of-in-loop-i.result ∙ c.loop-i.invariant.size;
-      within = put-within (costs_of task) c.loop-i.costs i c.of-in-loop-i.result
+      size = length-set c.loop-i.costs i c.of.result ∙ c.loop-i.invariant.size;
+      within = put-within (costs_of task) c.loop-i.costs i c.of.result
           (omega (arith, c.loop-i-test.true, c.loop-i.invariant.size)) c.loop-i.invariant.within own;
     }
