@@ -3,3 +3,4 @@ mod CertifiedLemmas
 mod ChainedLemmas
 mod TabledLemmas
 mod ToldLemmas
+mod VersionLemmas

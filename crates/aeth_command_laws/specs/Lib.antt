@@ -3,3 +3,4 @@ pub mod Explained
 pub mod Logged
 pub mod Tabled
 pub mod Told
+pub mod Versions

@@ -3,7 +3,7 @@ ghost use Rattle.std.specs.Prelude.{◌≡◌, ◌≢◌, ◌≤◌, ℕ, List, 
 ghost use Rattle.aeth_accepted.specs.Inputs.{Inputs};
 ghost use Rattle.aeth_answers.specs.Job.{Job};
 ghost use Rattle.aeth_answers.specs.Status.{done_status, refused_status};
-ghost use Rattle.aeth_answers.specs.Task.{Task, job_with};
+ghost use Rattle.aeth_answers.specs.Task.{Task, ends, job_with};
 ghost use Rattle.aeth_base.specs.Limits.{max_cycles};
 ghost use Rattle.aeth_chain_items.specs.ItemNames.{AreItemNames};
 ghost use Rattle.aeth_chain_items.specs.declared.names.ItemName.{ItemName};
@@ -12,14 +12,22 @@ ghost use Rattle.aeth_command_laws.specs.Explained.{IsConfirmed, IsExplained};
 ghost use Rattle.aeth_command_laws.specs.Logged.{IsAudited};
 ghost use Rattle.aeth_command_laws.specs.Tabled.{AreTablesTold};
 ghost use Rattle.aeth_command_laws.specs.Told.{AreInputsTold, IsAllocated, IsSimulated};
+ghost use Rattle.aeth_command_laws.specs.Versions.{AreDesignVersions, AreFileVersions};
+ghost use Rattle.aeth_command_laws.specs.Versions.{ArePlanVersions, AreRefusalVersions};
 ghost use Rattle.aeth_design_commands.specs.Allocate.{allocate_task};
+ghost use Rattle.aeth_design_commands.specs.Commands.{design_task};
+ghost use Rattle.aeth_design_commands.specs.declared.command.DesignCommand.{DesignCommand};
+ghost use Rattle.aeth_explain_commands.specs.Commands.{refusals_task};
 ghost use Rattle.aeth_explain_commands.specs.Explain.{confirm_task, explain_task};
+ghost use Rattle.aeth_explain_commands.specs.declared.command.ExplainCommand.{ExplainCommand};
 ghost use Rattle.aeth_files.specs.declared.runs.RunFiles.{RunFiles};
 ghost use Rattle.aeth_plan_commands.specs.Audit.{audit_task};
 ghost use Rattle.aeth_plan_commands.specs.Chain.{chain_task};
+ghost use Rattle.aeth_plan_commands.specs.Commands.{plan_task};
 ghost use Rattle.aeth_plan_commands.specs.Tables.{tables_task};
 ghost use Rattle.aeth_plan_commands.specs.declared.audit.AuditFiles.{AuditFiles};
 ghost use Rattle.aeth_plan_commands.specs.declared.chain.ChainFiles.{ChainFiles};
+ghost use Rattle.aeth_plan_commands.specs.declared.command.PlanCommand.{PlanCommand};
 ghost use Rattle.aeth_plan_commands.specs.declared.planned_uses.UseFiles.{UseFiles};
 ghost use Rattle.aeth_report.specs.Log.{LogData};
 ghost use Rattle.aeth_run_commands.specs.Simulate.{simulate_task};
@@ -123,4 +131,24 @@ pub fn audits_are_exact()
     aeth_trace::laws::files();
     aeth_accepted::laws::runs_are_sound();
     aeth_audit::laws::audits();
+}
+
+/// The job of a command is the same for a chip in version 1 and for the same document with version 2, where
+/// the command reads no other file by the name of the chip's.
+pub fn jobs_are_of_either_version()
+    ensures designs { (old new : List ℕ → Option (List ℕ)) (one : DesignCommand)
+        → AreDesignVersions old new one
+        → job_with old (design_task one) ≡ job_with new (design_task one) }
+    ensures refusals { (old new : List ℕ → Option (List ℕ)) (one : ExplainCommand)
+        → AreRefusalVersions old new one
+        → job_with old (refusals_task one) ≡ job_with new (refusals_task one) }
+    ensures plans { (old new : List ℕ → Option (List ℕ)) (one : PlanCommand)
+        → ArePlanVersions old new one
+        → job_with old (plan_task one) ≡ job_with new (plan_task one) }
+    ensures traced { (old new : List ℕ → Option (List ℕ)) (files : RunFiles)
+        → AreFileVersions old new files → (next : TracedData → Job)
+        → job_with old (traced_design files (λ one. ends (next one)))
+        ≡ job_with new (traced_design files (λ one. ends (next one))) }
+{
+    aeth_chip::laws::versions();
 }
