@@ -13,6 +13,8 @@ mod interface;
 #[cfg(test)]
 mod network;
 #[cfg(test)]
+mod pair;
+#[cfg(test)]
 mod resting;
 #[cfg(test)]
 mod router;

@@ -1,4 +1,4 @@
-use Rattle.std.proofs.Common.{[], ◌∷◌, length, subst, sym}
+use Rattle.std.proofs.Common.{[], ◌∷◌, subst, sym}
 use Rattle.aeth_clocked.specs.Order.{AreChosen}
 use Rattle.aeth_clocked.specs.Resting.{RestsLatch}
 use Rattle.aeth_router.specs.Stage.{stage_absorb}
