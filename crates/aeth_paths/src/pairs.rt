@@ -17,7 +17,7 @@ use crate::cost::Cost;
 use crate::ends::found;
 use crate::least::{least_costs, link_costs};
 use crate::request::{Found, Request};
-use crate::search::{Goal, Prefix, Priced, Task, extend};
+use crate::search::{Goal, Prefix, Priced, Task, extend, is_hopeless};
 use aeth_base::{LinkId, MAX_PATH_LINKS, NiId, NoMemory, Path, Steps};
 use aeth_book::Book;
 use aeth_chip::{Chip, Distances, Node};
@@ -115,6 +115,18 @@ fn try_pair<L: Ledger>(
         return best;
     }
     let most = (distance as u64 + task.ask.detour as u64).min(MAX_PATH_LINKS as u64) as u32;
+    let begun = start(task, a);
+
+    // No table is made for a pair of which the number of links says enough.
+    let bare = Goal {
+        ni: b,
+        most,
+        costs: &[],
+        least: &[],
+    };
+    if is_hopeless(task, &bare, &begun, &best) {
+        return best;
+    }
     let least = least_costs(task, b, most, costs);
     let goal = Goal {
         ni: b,
@@ -122,7 +134,7 @@ fn try_pair<L: Ledger>(
         costs,
         least: &least,
     };
-    extend(task, &goal, &start(task, a), best, MAX_PATH_LINKS, steps)
+    extend(task, &goal, &begun, best, MAX_PATH_LINKS, steps)
 }
 
 // The first of what was best and the candidates from one sender to some receivers.

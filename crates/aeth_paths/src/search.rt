@@ -317,7 +317,7 @@ fn is_vain(task: &Task, goal: &Goal, prefix: &Prefix, link: LinkId, best: &Optio
 /// Whether no better path goes on from a list: its free starts are dead, its end is too far from
 /// the goal, or with the least cost of the links that are still needed no path that goes on from it
 /// comes before the best.
-fn is_hopeless(task: &Task, goal: &Goal, prefix: &Prefix, best: &Option<Priced>) -> bool
+pub(crate) fn is_hopeless(task: &Task, goal: &Goal, prefix: &Prefix, best: &Option<Priced>) -> bool
     requires task { IsTask task.now }
     requires prefix { IsPrefix task.now prefix.now }
     requires stands { Stands (to_of task.now.book.now.links) prefix.now.end prefix.now.path }

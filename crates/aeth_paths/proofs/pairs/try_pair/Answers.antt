@@ -1,6 +1,7 @@
 use Rattle.std.proofs.Common.{◌≡◌, ◌∙◌, false, eqb, List, [], Option, None, Some}
 use Rattle.std.proofs.Common.{ℕ, sym, ap, subst, arith}
 use Rattle.std.proofs.lemmas.Bool.{and_from, and_left, and_right, both_ways, eq-eqb, ne_eqb}
+use Rattle.aeth_base.proofs.TestLemmas.{IsTrue_from_true}
 use Rattle.aeth_base.specs.Limits.{max_path_links}
 use Rattle.aeth_base.specs.declared.ids.LinkId.{LinkId}
 use Rattle.aeth_chip.specs.declared.node.Link.{Link}
@@ -21,7 +22,7 @@ use Rattle.aeth_paths.proofs.StepLemmas.{path_in-priced}
 use Rattle.aeth_paths.proofs.TryLemmas.{steps-allowed, tries-none, tries-pair}
 use Rattle.aeth_paths.proofs.pairs.try_pair.Given as given
 use Rattle.aeth_paths.proofs.pairs.try_pair.Goals as goal
-use Rattle.aeth_paths.proofs.pairs.try_pair.Goals.{After-extend}
+use Rattle.aeth_paths.proofs.pairs.try_pair.Goals.{After-start-begun}
 use Rattle.aeth_paths.proofs.pairs.try_pair.Goals.{else-a-b-via-then-a-b+else-holds}
 use Rattle.aeth_paths.proofs.pairs.try_pair.Goals.{else-a-b-via-else-a-b}
 
@@ -68,11 +69,11 @@ extend-requires-clause-node g c =
     let chip = c.args.task.now.chip.now in
     let far = subst (λ (ls : List Link). IsDistance ls c.args.a c.args.b (Some c.in-Some.distance))
     c.requires.task.far c.in-Some.ensures.distance in
-    subst (IsNode chip.routers chip.nis) (sym c.start.ensures.end)
+    subst (IsNode chip.routers chip.nis) (sym c.start-begun.ensures.end)
     (from-inside chip c.args.a c.args.b far.path c.requires.task.is_chip far.has)
 
 -- The pair isn't one crowded interface.
-room : (g : given.Over) (c : goal.After-extend g)
+room : (g : given.Over) (c : goal.After-start-begun g)
     → is_crowded c.args.crowded.now c.args.a c.args.b ≡ false
 room g c = elim c.else-a-b.branch [
   | else-a-b-via-then-a-b+else-holds w ↦
@@ -80,6 +81,32 @@ room g c = elim c.else-a-b.branch [
   | else-a-b-via-else-a-b w ↦
       and_left (eqb c.args.a.0 c.args.b.0) _ (ne_eqb c.args.a.0 c.args.b.0 w.if-a-b.false)
 ]
+
+-- No path of the pair is better than what was best.
+pub returns-then-is_hopeless-clause-tries : goal.returns-then-is_hopeless-clause-tries
+returns-then-is_hopeless-clause-tries g c =
+    let task = c.args.task.now in
+    let ask = task.ask in
+    let f = field task.book.now task.prices.now ask c.args.b c.min-most.result in
+    let best = path_in c.args.best in
+    let far = subst (λ (ls : List Link). IsDistance ls c.args.a c.args.b (Some c.in-Some.distance))
+    (c.requires.task.far ∙ sym c.requires.task.book) c.in-Some.ensures.distance in
+    let apart : (link : LinkId)
+    → IsLinkFrom task.book.now.links link (Ni c.args.a) (Ni c.args.b) → ⊥ =
+    λ link. subst (λ (ls : List Link). IsLinkFrom ls link (Ni c.args.a) (Ni c.args.b) → ⊥)
+    (sym c.requires.task.book)
+    (no-direct task.chip.now c.requires.task.is_chip c.args.a c.args.b link) in
+    let none : first_from f best (completions f max_path_links (Ni c.args.a) []) ≡ best =
+    sym (ap (λ (n : Node). first_from f best (completions f max_path_links n c.start-begun.result.path))
+    c.start-begun.ensures.end
+    ∙ ap (λ (p : List LinkId). first_from f best (completions f max_path_links (Ni c.args.a) p))
+    c.start-begun.ensures.path)
+    ∙ c.is_hopeless.ensures.none (IsTrue_from_true _ c.if-is_hopeless.true) max_path_links in
+    subst (λ (o : Option (List LinkId)). Tries (costs_of task) best o
+    (IsOffered task.book.now ask c.args.crowded.now c.args.a c.args.b)) none
+    (tries-pair task.book.now task.prices.now ask c.args.crowded.now c.args.a c.args.b
+    c.in-Some.distance c.min-most.result far c.min-most.ensures apart
+    (room g (goal.at.returns-then-is_hopeless-clause-tries g c).After-start-begun) best)
 
 -- All paths of the pair were tried.
 pub returns-clause-tries : goal.returns-clause-tries
@@ -98,14 +125,14 @@ returns-clause-tries g c =
     ≡ first_from f (path_in c.args.best) (completions f max_path_links (Ni c.args.a) []) =
     ap path_in c.extend.ensures.best ∙ path_in-priced (costs_of task) _
     ∙ ap (λ (n : Node). first_from f (path_in c.args.best)
-    (completions f max_path_links n c.start.result.path)) c.start.ensures.end
+    (completions f max_path_links n c.start-begun.result.path)) c.start-begun.ensures.end
     ∙ ap (λ (p : List LinkId). first_from f (path_in c.args.best)
-    (completions f max_path_links (Ni c.args.a) p)) c.start.ensures.path in
+    (completions f max_path_links (Ni c.args.a) p)) c.start-begun.ensures.path in
     subst (λ (o : Option (List LinkId)). Tries (costs_of task) (path_in c.args.best) o
     (IsOffered task.book.now ask c.args.crowded.now c.args.a c.args.b)) (sym all)
     (tries-pair task.book.now task.prices.now ask c.args.crowded.now c.args.a c.args.b
     c.in-Some.distance c.min-most.result far c.min-most.ensures apart
-    (room g (goal.at.returns-clause-tries g c).After-extend) (path_in c.args.best))
+    (room g (goal.at.returns-clause-tries g c).After-start-begun) (path_in c.args.best))
 
 -- Its lists are those of the pair.
 pub returns-clause-steps : goal.returns-clause-steps
@@ -118,9 +145,9 @@ returns-clause-steps g c =
     let steps : Node → List LinkId → ℕ =
     open_steps (field task.book.now task.prices.now task.ask c.args.b most)
     (least_from chip c.args.b) max_path_links in
-    let end = ap (λ (n : Node). steps n c.start.result.path) c.start.ensures.end in
-    let none = ap (steps (Ni c.args.a)) c.start.ensures.path in
+    let end = ap (λ (n : Node). steps n c.start-begun.result.path) c.start-begun.ensures.end in
+    let none = ap (steps (Ni c.args.a)) c.start-begun.ensures.path in
     let all = steps-allowed chip c.requires.task.is_chip task.book.now task.prices.now task.ask
     c.args.crowded.now c.args.a c.args.b c.in-Some.distance most far c.min-most.ensures
-    (room g (goal.at.returns-clause-steps g c).After-extend) in
+    (room g (goal.at.returns-clause-steps g c).After-start-begun) in
     omega (arith, c.extend.ensures.steps, end, none, all)
