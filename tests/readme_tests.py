@@ -39,7 +39,7 @@ class Documents(unittest.TestCase):
                     self.assertTrue(has, f"{path}: {word[1]}")
 
     def test_paths(self):
-        """A path from the top, or within the crate whose page names it; NAME stands for any."""
+        """A path from the top, or within the crate whose page names it; NAME stands for any. A crate and its edit."""
         for path, text in DOCUMENTS.items():
             own = path.parent if path.parent.parent.name == "crates" else TOP
             within = r"(?:crates|src|specs|proofs|must-fail)/" if own != TOP else "crates/"
@@ -47,6 +47,8 @@ class Documents(unittest.TestCase):
                 if "NAME" not in name:
                     home = TOP if name.startswith("crates/") else own
                     self.assertTrue((home / name).exists(), f"{path}: {name}")
+            for crate, edit in re.findall(r"\| (aeth_\w+) \| `(\w+\.edit)` \|", text):
+                self.assertTrue((TOP / "crates" / crate / "must-fail" / edit).exists(), f"{path}: {crate}/{edit}")
 
     def test_crates(self):
         """The page of each crate names what it stands on, as crates.txt does."""
