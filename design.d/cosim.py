@@ -15,12 +15,14 @@ DIFFERENCE = 3
 WRITE_FAULT = 5
 
 
-def verdict_of(comparison, links, log, broken):
+def verdict_of(comparison, run, links, log, broken):
     """The verdict, and whether both did the same."""
     difference = comparison.of_links(links)
     if not difference and comparison.cycles > MOST_CYCLES_OF_LINKS:
         difference = comparison.of_audit()
     difference = difference or comparison.of_landings(log) or comparison.of_flits(log)
+    if not difference and comparison.network.has_tables:
+        difference = comparison.of_entries(run.entered())
     told = ""
     if broken:
         first = broken[0]
@@ -43,15 +45,15 @@ def cosim(given):
     log = printed("simulate", *files, given.cycles)
     simulator = found(given.simulator)
     network = read_network(*files[:3], given.routers == "tables")
-    stimuli = stimuli_of(*files[3:], given.cycles)
+    run = Run(network, stimuli_of(*files[3:], given.cycles))
     progress = Progress()
     with tempfile.TemporaryDirectory(prefix="aeth-cosim-") as room:
         folder = Path(room) / "hardware"
-        sizes = make_folder(folder, network, Run(network, stimuli))
+        sizes = make_folder(folder, network, run)
         compiled(simulator, folder, given.wave is not None, progress)
         broken = played(simulator, folder, sizes["FirstCycle"], progress)
         comparison = Comparison(network, files, given.cycles, folder)
-        text, is_same = verdict_of(comparison, links, log, broken)
+        text, is_same = verdict_of(comparison, run, links, log, broken)
         if given.wave is not None:
             keep_wave(folder / "network.vcd", given.wave, comparison)
     if is_same:

@@ -1,7 +1,6 @@
 """What the hardware did beside what `aeth` says: the log of links, the landings, and the flits of each link."""
 from collections import defaultdict
 from dataclasses import dataclass
-import csv
 
 from aeth import run_aeth
 from files import rows_of
@@ -26,6 +25,11 @@ class Difference:
         return f"another: {self.place}\n  aeth      {self.aeth}\n  hardware  {self.hardware}\n"
 
 
+def row_of(line):
+    """The numbers of a row. A simulator can also write unknown values, which stay as they are."""
+    return tuple(int(text) if text.isdecimal() else text for text in line.strip().split(","))
+
+
 class Comparison:
     """The files of a run, with what the hardware left of it."""
 
@@ -35,10 +39,10 @@ class Comparison:
         self.scopes = scope_names(self.channels.links)
         with open(folder / "log.csv", encoding="ascii") as file:
             next(file)
-            self.rows = sorted(tuple(map(int, line.split(","))) for line in file)
-        with open(folder / "landings.csv", encoding="ascii", newline="") as file:
+            self.rows = sorted(map(row_of, file), key=lambda row: row[:2])
+        with open(folder / "landings.csv", encoding="ascii") as file:
             next(file)
-            landings = [tuple(map(int, row)) for row in csv.reader(file)]
+            landings = list(map(row_of, file))
         self.landings = defaultdict(list)
         for cycle, channel, value in landings:
             self.landings[network.channels[channel]].append((cycle, value))
@@ -49,8 +53,10 @@ class Comparison:
     def at(self, row):
         """Where a row stands, by name."""
         cycle, link, header = row[:3]
-        route, queue, *_ = fields_of(header)
-        channel = self.channels.name(link, route, queue).replace(":", " ")
+        channel = "-"
+        if isinstance(header, int):
+            route, queue, *_ = fields_of(header)
+            channel = self.channels.name(link, route, queue).replace(":", " ")
         return f"cycle {cycle}, link {link} ({self.scopes[link]}), {'no channel' if channel == '-' else f'channel {channel}'}"
 
     def of_links(self, log):
@@ -67,9 +73,10 @@ class Comparison:
 
     def difference(self, one, other):
         """Of two rows, of which either may be missing, what the earlier one tells."""
-        first = min(row for row in (one, other) if row)
-        place = self.at(one if one and one[:2] == first[:2] else first)
-        sides = [",".join(map(str, row)) if row and row[:2] == first[:2] else "no flit" for row in (one, other)]
+        first = min(row[:2] for row in (one, other) if row)
+        here = [row if row and row[:2] == first else None for row in (one, other)]
+        place = self.at(here[0] or here[1])
+        sides = [",".join(map(str, row)) if row else "no flit" for row in here]
         return Difference(place, *sides)
 
     def of_audit(self):
@@ -119,6 +126,23 @@ class Comparison:
         index = f"word {one[2]}" if one else "a further word"
         sides = [f"lands in cycle {side[0]} with value {side[1]}" if side else "doesn't land" for side in (one, other)]
         return Difference(f"cycle {cycle}, channel {' '.join(channel)}, {index} of its session", *sides)
+
+    def of_entries(self, entered):
+        """The first use case whose tables the routers don't have from its cycle on, of those that a run enters."""
+        uses = self.network.uses
+        with open(self.folder / "entries.csv", encoding="ascii") as file:
+            next(file)
+            ours = [tuple(map(int, line.split(","))) for line in file]
+        aeth = {cycle: use for cycle, use in entered if cycle < self.cycles}
+        aeth = [(cycle, use) for cycle, use in aeth.items()]
+        aeth = [row for place, row in enumerate(aeth) if not place or aeth[place - 1][1] != row[1]]
+        for place in range(max(len(aeth), len(ours))):
+            sides = [rows[place] if place < len(rows) else None for rows in (aeth, ours)]
+            if sides[0] != sides[1]:
+                cycle = min(side[0] for side in sides if side)
+                told = [f"those of {uses[side[1]]} from cycle {side[0]} on" if side else "no others" for side in sides]
+                return Difference(f"cycle {cycle}, tables of routers", *told)
+        return None
 
     def of_flits(self, log):
         """The first link that doesn't carry as many flits."""

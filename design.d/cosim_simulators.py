@@ -57,23 +57,18 @@ class Broken:
 
 
 class Progress:
-    """One line on standard error, which is rewritten where that is a terminal; else a line for each stage."""
+    """One line on standard error that is rewritten, where that is a terminal."""
 
     def __init__(self):
         self.is_terminal = sys.stderr.isatty()
 
-    def stage(self, text):
-        sys.stderr.write(f"\r{text}\x1b[K" if self.is_terminal else f"{text}\n")
-        sys.stderr.flush()
-
-    def step(self, text):
+    def tell(self, text):
         if self.is_terminal:
-            self.stage(text)
+            sys.stderr.write(f"\r{text}\x1b[K")
+            sys.stderr.flush()
 
     def end(self):
-        if self.is_terminal:
-            sys.stderr.write("\r\x1b[K")
-            sys.stderr.flush()
+        self.tell("")
 
 
 def found(name):
@@ -94,7 +89,7 @@ def failed(simulator, does, text, status):
 
 def compiled(simulator, folder, with_wave, progress):
     """Compiles the network and the bench of a folder."""
-    progress.stage(f"cosim: {simulator.name} compiles the network")
+    progress.tell(f"cosim: {simulator.name} compiles the network")
     words = [*simulator.compile, *(simulator.trace if with_wave else ())]
     ran = subprocess.run(words, cwd=folder, stdout=subprocess.PIPE, stderr=subprocess.STDOUT, check=False)
     if ran.returncode:
@@ -104,7 +99,7 @@ def compiled(simulator, folder, with_wave, progress):
 
 def played(simulator, folder, first_cycle, progress):
     """Runs what was compiled, and answers the promises of the modules that weren't kept."""
-    progress.stage(f"cosim: {simulator.name} runs it")
+    progress.tell(f"cosim: {simulator.name} runs it")
     words = [str(folder / simulator.run[0]) if "/" in simulator.run[0] else simulator.run[0], *simulator.run[1:]]
     text, broken, done = [], [], False
     with subprocess.Popen(words, cwd=folder, stdout=subprocess.PIPE, stderr=subprocess.STDOUT) as ran:
@@ -113,7 +108,7 @@ def played(simulator, folder, first_cycle, progress):
                 line = line.decode(errors="replace")
                 told, promise = re.match(r"aeth_bench: (cycle|done)(.*)", line), BROKEN.search(line)
                 if told and told[1] == "cycle":
-                    progress.step(f"cosim: {simulator.name} runs it: cycle{told[2]}")
+                    progress.tell(f"cosim: {simulator.name} runs it: cycle{told[2]}")
                 elif told:
                     done = True
                 elif promise:

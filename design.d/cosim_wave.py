@@ -1,8 +1,8 @@
 """The dump of a simulator as `draw wave` names things: a unit of time is a cycle of the run, and the links are on top."""
 import re
 
+from rtl_bench import TAKEN
 from rtl_names import safe
-from waveform import fields_of  # noqa: F401
 
 FIELDS = ("flit", "route", "queue", "credits", "count", "first", "second")
 LEFT_OUT = {"clk_i", "rst_i"}
@@ -13,7 +13,7 @@ class Head:
     """The signals of a dump that are kept, by their scopes."""
 
     def __init__(self, scopes):
-        names = {safe(scope, {"network"}): number for number, scope in enumerate(scopes)}
+        names = {safe(scope, TAKEN): number for number, scope in enumerate(scopes)}
         self.scopes, self.names = scopes, names
         self.kept = {}  # by path the declarations of a scope
         self.links = [{} for _ in scopes]  # of each link the identifiers of its fields
@@ -52,13 +52,14 @@ class Head:
     def lines(self):
         """The declarations, scope within scope, the links first."""
         lines, path = ["$timescale 1 ns $end"], ()
-        order = sorted(self.kept, key=lambda place: place[0] != "links")
+        numbers = {("links", scope): number for number, scope in enumerate(self.scopes)}
+        order = sorted(self.kept, key=lambda place: numbers.get(place, len(numbers)))
         for place in order:
             same = next((at for at, (one, other) in enumerate(zip(path, place)) if one != other), min(len(path), len(place)))
             lines += ["$upscope $end"] * (len(path) - same) + [f"$scope module {name} $end" for name in place[same:]]
             lines += [text for _, text in self.kept[place]]
             if place[0] == "links":
-                lines.append(f"$var string 1 {channel_sign(self.scopes.index(place[1]))} channel $end")
+                lines.append(f"$var string 1 {channel_sign(numbers[place])} channel $end")
             path = place
         return [*lines, *["$upscope $end"] * len(path), "$enddefinitions $end"]
 
@@ -86,10 +87,10 @@ class Values:
 
     def channel(self, link):
         signs = self.head.links[link]
-        number = lambda field: int(self.now.get(signs[field], "b0")[1:].strip() or "0", 2)
         if self.now.get(signs["flit"]) != "1":
             return "s- "
-        return f"s{self.channels.name(link, number('route'), number('queue'))} "
+        route, queue = (int(self.now[signs[field]].strip(" b"), 2) for field in ("route", "queue"))
+        return f"s{self.channels.name(link, route, queue)} "
 
     def changes(self):
         """The lines of what has changed since they were last asked for."""
