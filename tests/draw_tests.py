@@ -11,7 +11,7 @@ import unittest
 import xml.etree.ElementTree as xml
 
 from chips import app, chip, grid
-from design import Link
+from design_files import Link
 from home import Home, PROGRAM, TOP
 from placing import place_routers
 import toml_lines
@@ -139,7 +139,7 @@ class Plans(WithProgram):
                 for row in rows:
                     name = f"{row[6]} {row[7]}"
                     title = next(t for t in shown if t.startswith(f"{name}, "))
-                    self.assertIn(f"{row[8]} words in", title)
+                    self.assertIn(f"({row[8]} in ", title)
                     self.assertIn(f"latency {row[9]} cycles, buffer {row[5]} words", title)
                     self.assertEqual(self.cells(root, f"{name},"), cells[name] * starts[name])
 
@@ -162,11 +162,11 @@ class Plans(WithProgram):
         ends = [(k, (k + 5) % 16) for k in range(16)]
         files = self.made("many", chip(*grid(4, 4, False), 64), app(16, ends))
         root = read(self.draw("plan", *files, "main"))
-        for place, title in enumerate(t for t in texts(root, "title") if re.match(r"c\d+ (fwd|back), ", t)):
+        for title in [t for t in texts(root, "title") if re.match(r"c\d+ (fwd|back), ", t)]:
             group = next(e for e in root.iter() if e.get("role") == "img" and texts(e, "title")[0] == title)
             cells = next(e for e in group if tag(e) == "path").get("d").count("M")
             numbers = [e.text for e in group if e.get("class") == "on"]
-            self.assertEqual(numbers, [str(place + 1)] * cells)
+            self.assertEqual(numbers, [re.match(r"c(\d+)", title)[1]] * cells)
 
     def test_links_of_a_torus_go_beside_the_tables(self):
         ends = [(0, 2), (1, 7), (3, 5), (6, 0), (8, 4), (2, 8), (4, 1)]
@@ -226,8 +226,8 @@ class Runs(WithProgram):
             self.assertEqual(shown[channel], rest, channel)
             total.update(rest._asdict() | {"outside": 0})
         told = " ".join(texts(root))
-        self.assertIn(f"{total['landed']} landed, {total['late']} of them late; {total['overdue']} overdue", told)
-        self.assertIn(f"{total['dropped']} dropped; {total['outside']} offered outside", told)
+        self.assertIn(f"{total['landed']:,} landed, {total['late']:,} of them late; {total['overdue']:,} overdue", told)
+        self.assertIn(f"{total['dropped']:,} dropped; {total['outside']:,} offered outside", told)
         return shown
 
     def overdue(self, rows, dues, cycles):
@@ -321,21 +321,29 @@ class Inputs(WithProgram):
         for words in ((), ("nosuch",), ("plan", *PAIR), ("plan", *PAIR, "u1", "c0", "up"), ("run", *PAIR_RUN)):
             status, out, said = self.home.draw(*words)
             self.assertEqual((status, out), (1, ""))
-            self.assertTrue(said.startswith("usage: draw plan"))
+            self.assertRegex(said, r"\Adraw: .*; `\./draw help` tells more\n\Z")
         self.assertIn("draw: `nosuch` is none of plan, run,", self.home.draw("nosuch")[2])
-        self.assertIn("draw: `up` is no side: fwd or back\n", self.home.draw("plan", *PAIR, "u1", "c0", "up")[2])
-        self.assertIn("draw: wave takes 7 words, not 1\n", self.home.draw("wave", "chip.toml")[2])
+        self.assertIn("draw: `up` is no side: fwd or back;", self.home.draw("plan", *PAIR, "u1", "c0", "up")[2])
+        self.assertIn("draw: wave takes 7 words, not 1;", self.home.draw("wave", "chip.toml")[2])
+
+    def test_a_page_for_each_kind(self):
+        for kind in ("plan", "run", "report", "refusal", "wave"):
+            for words in ((kind, "--help"), (kind, *PAIR, "-h")):
+                status, page, said = self.home.draw(*words)
+                self.assertEqual((status, said), (0, ""))
+                self.assertTrue(page.startswith(f"draw {kind} CHIP APP"), page)
+                self.assertNotIn("\ndraw ", page)
 
     def test_what_cant_be_written(self):
         with open("/dev/full", "wb") as full:
             for words in (("plan", *PAIR, "u1"), ("help",)):
                 status, _, said = self.home.draw(*words, out=full)
-                self.assertEqual((status, said), (5, "draw: the picture can't be written: No space left on device\n"))
+                self.assertEqual((status, said), (5, "draw: what was asked for can't be written: No space left on device\n"))
         ours, theirs = os.pipe()
         os.close(ours)
         status, _, said = self.home.draw("plan", *PAIR, "u1", out=theirs)
         os.close(theirs)
-        self.assertEqual((status, said), (5, "draw: the picture can't be written: Broken pipe\n"))
+        self.assertEqual((status, said), (5, "draw: what was asked for can't be written: Broken pipe\n"))
 
     def test_closed_streams(self):
         for streams, status in ((">&-", 5), (">/dev/full 2>&-", 5), ("<&- >/dev/null", 0)):

@@ -4,8 +4,10 @@ import re
 import unittest
 
 from chips import chip
-from design import Link, rows_of
+from design_files import Link, read_application, read_chip
 from draw_tests import EXAMPLES, VIDEO_RUN, WithProgram
+from plan_texts import read_plan, rows_of
+from run_texts import read_flits
 from waveform import draw_wave, identifier, scope_names
 
 ONE = ("examples/pair.toml", "examples/one.toml", "examples/one.plan")
@@ -85,12 +87,18 @@ def rows_in(log):
     return [tuple(map(int, line.split(","))) for line in log.splitlines()[1:]]
 
 
+def dump_of(the_chip, the_app, plan, log, cycles):
+    """The dump of the bytes of three files, and of the text of a log."""
+    files = read_chip(the_chip), read_application(the_app), read_plan(plan)
+    return draw_wave(*files, read_flits(log.encode()), cycles)
+
+
 class Dumps(unittest.TestCase):
     """Of logs that stand here, without the program."""
 
     def dump(self, log, cycles, the_app="one.toml", plan=None):
         the_chip, the_app = [(EXAMPLES / file).read_bytes() for file in ("pair.toml", the_app)]
-        return Dump(draw_wave(the_chip, the_app, plan or (EXAMPLES / "one.plan").read_bytes(), log, cycles))
+        return Dump(dump_of(the_chip, the_app, plan or (EXAMPLES / "one.plan").read_bytes(), log, cycles))
 
     def test_the_worked_run(self):
         log = (EXAMPLES / "one.links.csv").read_text()
@@ -107,7 +115,7 @@ class Dumps(unittest.TestCase):
 
     def test_signals_of_the_example_for_a_viewer(self):
         files = [(EXAMPLES / name).read_bytes() for name in ("mesh.toml", "video.toml")]
-        scopes = Dump(draw_wave(*files, b"plan 1 64\nend\n", HEAD, 9)).scopes
+        scopes = Dump(dump_of(*files, b"plan 1 64\nend\n", HEAD, 9)).scopes
         shown = re.findall(r"^links\.(\w+)\.(\w+)(?:\[31:0\])?$", (EXAMPLES / "video.gtkw").read_text(), re.M)
         self.assertEqual(len(shown), 16)
         for scope, field in shown:
