@@ -85,7 +85,7 @@ RUN = (
     Column("dropped", "words", "number", "words that a switch cut off, not landed or not taken"),
     Column("median", "cycles", "number", "from offer to landing, of the middle word"),
     Column("worst", "cycles", "number", "from offer to landing, of the slowest word"),
-    Column("nearest", "% of due", "share", "the greatest share of the time up to its due cycle that a word took"),
+    Column("nearest", "%\u00a0of\u00a0due", "share", "the greatest share of the time up to its due cycle that a word took"),
 )
 BROKEN = Column("promise ended", "cycle", "number", "where the receiver hadn't taken a word within its delay")
 REFUSED = Column("refused", "side, turn", "text", "the side without a path, and the turn; both sides of a refused unit are told")

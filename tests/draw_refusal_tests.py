@@ -5,7 +5,7 @@ import tracemalloc
 import unittest
 
 from allocation import Allocation, State, Unit, fixed_seats, text_without, turns_of
-from chips import app, chip
+from chips import app, chip, grid
 from design_files import read_application, read_chip
 from draw_tests import EXAMPLES, WithProgram, read, tag, texts
 from plan_texts import Need, RefusedUnit, read_needs, read_plan
@@ -64,7 +64,7 @@ class Pictures(unittest.TestCase):
         root = self.draw(ROLL_TEXT)
         told = " ".join(texts(root))
         self.assertIn("Refusal 1 of 1", told)
-        self.assertIn("Channel c0 back, from acc (at n0) to cpu (at n0), in main.", told)
+        self.assertIn("Channel c0 back, from acc (without a seat yet) to cpu (at n0), in main.", told)
         self.assertIn("In turn 1 it needed 1 of the 8 slots of each link on a path, for a latency of 1 cycle at most.", told)
         self.assertIn("begins with one cut:", told)
         self.assertEqual(ended_links(root), {0: ("n0 to r0", 1, ["n0 \u2192 r0"])})
@@ -174,7 +174,7 @@ class Refusals(WithProgram):
 
     def test_which_channels_fill_a_link(self):
         """Two streams take 3 of the 8 slots on each link of their paths, and the credits of the other one more."""
-        square = self.home.put("square.toml", self.home.design("chip", "mesh", "2", "2", "--slots", "8")[1])
+        square = self.home.put("square.toml", chip(*grid(2, 2, False), 8))
         root = read(self.draw("refusal", square, "examples/crossing.toml"))
         told = [text for text in texts(root) if " slots by " in text]
         self.assertEqual(len(told), 2)
@@ -185,7 +185,7 @@ class Refusals(WithProgram):
 
     def test_the_grants_before_a_turn_are_those_of_the_allocation(self):
         """Of an application whose last unit is refused they are the plan of the others."""
-        square = self.home.put("square.toml", self.home.design("chip", "mesh", "2", "2", "--slots", "8")[1])
+        square = self.home.put("square.toml", chip(*grid(2, 2, False), 8))
         text = (EXAMPLES / "crossing.toml").read_text()
         fewer = self.home.put("fewer.toml", text.replace(', "dsp_disp"]', "]"))
         plan = read_plan(self.aeth("allocate", square, fewer).encode())

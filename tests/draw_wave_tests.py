@@ -1,11 +1,13 @@
 """Tests of `./draw wave`: the form of its dumps, and their values against the log of the links."""
 from collections import defaultdict
 import re
+import subprocess
 import unittest
 
 from chips import chip
 from design_files import Link, read_application, read_chip
 from draw_tests import EXAMPLES, VIDEO_RUN, WithProgram
+from home import TOP
 from plan_texts import read_plan, rows_of
 from run_texts import read_flits
 from waveform import draw_wave, identifier, scope_names
@@ -134,6 +136,17 @@ class Dumps(unittest.TestCase):
             dump = self.dump(HEAD + log, cycles)
             self.assertEqual([row[:5] for row in dump.rows()], rows_in(HEAD + log))
             self.assertEqual([time for time, _ in dump.states], times, log)
+
+    def test_readme_lays_a_dump_beside_that_of_a_design(self):
+        """Each time is shifted, that of cycle 0 too: its flit enters where the design's cycle 0 begins."""
+        command = re.search(r"^(awk -v start=.*?) video\.vcd > beside\.vcd$", (TOP / "README.md").read_text(), re.M | re.S)[1]
+        start, period = (int(re.search(rf"{name}=(\d+)", command)[1]) for name in ("start", "period"))
+        files = [(EXAMPLES / name).read_bytes() for name in ("pair.toml", "one.toml", "one.plan")]
+        dump = dump_of(*files, HEAD + "0,0,2147483649,1,2\n3,0,2147483649,3,4\n", 9)
+        beside = subprocess.run(["sh", "-c", command], input=dump, capture_output=True, text=True, check=True).stdout
+        times = [int(line[1:]) for line in beside.splitlines() if line.startswith("#")]
+        self.assertEqual(times, [start + period * cycle for cycle in (0, 1, 3, 4, 9)])
+        self.assertEqual(re.sub(r"^#\d+$", "#", beside, flags=re.M).replace("1 ps", "1 ns"), re.sub(r"^#\d+$", "#", dump, flags=re.M))
 
     def test_channels_by_queue_and_end(self):
         """Two cores of one connection each at `n0`, on seats 0 and 2, and one of both at `n1`."""
