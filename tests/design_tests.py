@@ -1,6 +1,5 @@
 """Tests of `./design`: each shape through `aeth`, each kind of trace by what it may hold, each refusal with its words."""
 from collections import Counter
-from html.parser import HTMLParser
 from tempfile import NamedTemporaryFile
 import csv
 import io
@@ -583,70 +582,6 @@ class Words(unittest.TestCase):
         named = re.findall(r"^\| ([A-Z, ]+) \| the paths? of ", formats, re.M)
         self.assertEqual({kind.lower() for kinds in named for kind in kinds.split(", ")}, set(rules.SECTIONS))
         self.assertEqual({kind.lower() for kind in given.FILES}, set(rules.SECTIONS))
-
-
-class Page(HTMLParser):
-    """Which elements of a page are open, and what it asks of other places."""
-
-    EMPTY = {"meta", "input"}
-
-    def __init__(self):
-        super().__init__()
-        self.open, self.asked = [], []
-
-    def handle_starttag(self, tag, attrs):
-        self.open += [] if tag in self.EMPTY else [tag]
-        self.asked += [value for key, value in attrs if key in ("src", "href", "data") and not value.startswith("data:")]
-
-    def handle_endtag(self, tag):
-        assert self.open and self.open.pop() == tag, tag
-
-
-class Reports(Designs):
-    """The page of a design and of a run."""
-
-    FILES = (EXAMPLES / "torus.toml", EXAMPLES / "camera.toml")
-
-    def report(self, *words):
-        status, text, errors = self.run_script("draw", "report", *words)
-        self.assertEqual(status, 0, errors)
-        page = Page()
-        page.feed(text)
-        self.assertEqual((page.open, page.asked), ([], []))
-        return text
-
-    def test_a_plan(self):
-        plan = self.file("plan", self.run_script("aeth", "allocate", *self.FILES)[1])
-        text = self.report(*self.FILES, plan)
-        self.assertIn("Everything is granted: 18 channels.", text)
-        self.assertEqual(text.count("<figure>"), 2)
-        self.assertEqual(text.count("<tr"), 1 + 18)
-
-    def test_a_run(self):
-        plan = self.file("plan", self.run_script("aeth", "allocate", *self.FILES)[1])
-        words = self.made("words", "words", *self.FILES, "record", "1000")
-        receivers = self.made("receivers", "receivers", *self.FILES, "record", "1000", "--late")
-        switches = self.made("switches", "switches", *self.FILES, "1000", "record")
-        text = self.report(*self.FILES, plan, words, receivers, switches, "1000")
-        self.assertRegex(text, r"Everything is granted: 18 channels\. In 1,000 cycles \d+ words landed, 0 late\.")
-        self.assertEqual(text.count("<figure>"), 3)
-
-    def test_words_outside_are_told_with_their_channel(self):
-        files_ = EXAMPLES / "pair.toml", EXAMPLES / "two.toml"
-        plan = self.file("plan", self.run_script("aeth", "allocate", *files_)[1])
-        traces = [EXAMPLES / f"two.{kind}.csv" for kind in ("words", "receivers", "switches")]
-        text = self.report(*files_, plan, *traces, "24")
-        self.assertIn("6 words landed, 0 late; 1 word came outside of all sessions, of c1 fwd.", text)
-
-    def test_refused_units(self):
-        app = self.file("app", (EXAMPLES / "one.toml").read_text(encoding="utf-8").replace("latency = 6", "latency = 2"))
-        text = self.report(EXAMPLES / "pair.toml", app, self.file("plan", ""))
-        self.assertIn("Not everything is granted: 1 unit refused.", text)
-        self.assertIn("Connection c0 in group 0 (main): its channel fwd had no admissible path", text)
-
-    def test_a_plan_that_is_refused(self):
-        words = (EXAMPLES / "pair.toml", EXAMPLES / "one.toml", self.file("plan", "plan 1 9\nend\n"))
-        self.assertEqual(self.run_script("draw", "report", *words), (2, "", "refused plan 2 Unknown 1 3\n"))
 
 
 class Readers(unittest.TestCase):
