@@ -15,13 +15,14 @@ import random
 import subprocess
 import sys
 import tempfile
-import tomllib
 
 HOME = pathlib.Path(__file__).resolve().parent.parent
 sys.dont_write_bytecode = True
-sys.path.insert(0, str(HOME / "draw.d"))
+sys.path.insert(0, str(HOME / "common.d"))
 
-from runs import Switching  # noqa: E402: its folder is told above
+from design_files import read_application, read_chip  # noqa: E402: its folder is told above
+from plan_texts import read_plan  # noqa: E402
+from run_texts import Switching, SwitchRow  # noqa: E402
 
 DESIGNS = 300
 SIDES = ("fwd", "back")
@@ -79,14 +80,14 @@ def random_app(draw, nis):
 
 def random_switches(draw, chip, app, plan):
     """Switches of which some begin in the cycle in which the one before is over."""
-    switching = Switching(tomllib.loads(chip), tomllib.loads(app), plan)
-    uses = [case["name"] for case in tomllib.loads(app)["use"]]
+    read = read_application(app.encode())
+    switching, uses = Switching(read_chip(chip.encode()), read, read_plan(plan.encode())), list(read.uses)
     use, cycle = draw.choice(uses), draw.choice([0, 0, 1, draw.randint(2, 80)])
     rows = [(0, use, 0)]
     for _ in range(draw.randint(0, 6)):
         entered, drain = draw.choice(uses), draw.choice([0, 0, 1, draw.randint(2, 60)])
         rows.append((cycle, entered, drain))
-        cycle = switching.switch(cycle, use, entered, drain).over + draw.choice([0, 0, 1, draw.randint(2, 100)])
+        cycle = switching.switch(use, SwitchRow(cycle, entered, drain)).over + draw.choice([0, 0, 1, draw.randint(2, 100)])
         use = entered
     return "cycle,use,drain\n" + "".join("%d,%s,%d\n" % row for row in rows)
 
@@ -94,7 +95,7 @@ def random_switches(draw, chip, app, plan):
 def random_traces(draw, app, cycles):
     """Words, one at a time, many or at once, and receivers."""
     words, pulls = [], []
-    for name, side in ((one["name"], side) for one in tomllib.loads(app)["connection"] for side in SIDES):
+    for name, side in ((name, side) for name in read_application(app.encode()).connections for side in SIDES):
         at_once = draw.randrange(cycles)
         for _ in range(draw.choice([0, draw.randint(1, 10), draw.randint(20, cycles)])):
             cycle = at_once if draw.random() < 0.3 else draw.randrange(cycles + 5)

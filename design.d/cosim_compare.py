@@ -1,11 +1,17 @@
 """What the hardware did beside what `aeth` says: the log of links, the landings, and the flits of each link."""
 from collections import defaultdict
+from collections.abc import Iterable, Sequence
 from dataclasses import dataclass
+from pathlib import Path
+from typing import TypeAlias
 
-from aeth import run_aeth
-from files import rows_of
+from plan_texts import rows_of
+from program import Input, answer
+from rtl_tables import Ends, Network
 from rules import rules_of_logs
 from waveform import Channels, fields_of, scope_names
+
+Row: TypeAlias = tuple[int | str, ...]
 
 MOST_CYCLES_OF_LINKS = 10_000
 MOST_ROWS = 1_000_000  # of a log that `aeth audit` reads
@@ -21,11 +27,11 @@ class Difference:
     aeth: str
     hardware: str
 
-    def text(self):
+    def text(self) -> str:
         return f"another: {self.place}\n  aeth      {self.aeth}\n  hardware  {self.hardware}\n"
 
 
-def row_of(line):
+def row_of(line: str) -> Row:
     """The numbers of a row. A simulator can also write unknown values, which stay as they are."""
     return tuple(int(text) if text.isdecimal() else text for text in line.strip().split(","))
 
@@ -33,7 +39,7 @@ def row_of(line):
 class Comparison:
     """The files of a run, with what the hardware left of it."""
 
-    def __init__(self, network, files, cycles, folder):
+    def __init__(self, network: Network, files: Sequence[Input], cycles: int, folder: Path) -> None:
         self.network, self.files, self.cycles, self.folder = network, files, cycles, folder
         self.channels = Channels(network.chip, network.app, network.plan)
         self.scopes = scope_names(self.channels.links)
@@ -43,14 +49,14 @@ class Comparison:
         with open(folder / "landings.csv", encoding="ascii") as file:
             next(file)
             landings = list(map(row_of, file))
-        self.landings = defaultdict(list)
+        self.landings: dict[Ends, list[Row]] = defaultdict(list)
         for cycle, channel, value in landings:
             self.landings[network.channels[channel]].append((cycle, value))
 
-    def landed(self):
+    def landed(self) -> int:
         return sum(map(len, self.landings.values()))
 
-    def at(self, row):
+    def at(self, row: Row) -> str:
         """Where a row stands, by name."""
         cycle, link, header = row[:3]
         channel = "-"
@@ -59,7 +65,7 @@ class Comparison:
             channel = self.channels.name(link, route, queue).replace(":", " ")
         return f"cycle {cycle}, link {link} ({self.scopes[link]}), {'no channel' if channel == '-' else f'channel {channel}'}"
 
-    def of_links(self, log):
+    def of_links(self, log: str) -> Difference | None:
         """The first row that isn't the same, from what `aeth links` prints, in the cycles that it has."""
         aeth = [tuple(map(int, line.split(","))) for line in log.splitlines()[1:]]
         most = min(self.cycles, MOST_CYCLES_OF_LINKS)
@@ -71,7 +77,7 @@ class Comparison:
                 return self.difference(one, other)
         return None
 
-    def difference(self, one, other):
+    def difference(self, one: Row | None, other: Row | None) -> Difference:
         """Of two rows, of which either may be missing, what the earlier one tells."""
         first = min(row[:2] for row in (one, other) if row)
         here = [row if row and row[:2] == first else None for row in (one, other)]
@@ -79,7 +85,7 @@ class Comparison:
         sides = [",".join(map(str, row)) if row else "no flit" for row in here]
         return Difference(place, *sides)
 
-    def of_audit(self):
+    def of_audit(self) -> Difference | None:
         """What `aeth audit` says of the log, of as many cycles as it reads."""
         rows, cycles = self.rows, self.cycles
         if len(rows) > MOST_ROWS:
@@ -93,16 +99,16 @@ class Comparison:
         log = self.folder / "sorted.csv"
         log.write_text(text, encoding="ascii")
         chip, app, plan, _, _, switches = self.files
-        status, _, errors = run_aeth("audit", chip, app, plan, switches, log, cycles)
-        if not status:
+        told = answer("audit", chip, app, plan, switches, log, cycles)
+        if not told.status:
             return None
-        words = errors.split()
+        words = told.errors.split()
         if words[:1] != ["fault"]:
-            return Difference("the log can't be judged", "audit", errors.strip())
+            return Difference("the log can't be judged", "audit", told.errors.strip())
         row = rows[int(words[2]) - 1]
         return Difference(self.at(row), f"rule {words[1]} of a log: {rules_of_logs()[words[1]]}", ",".join(map(str, row)))
 
-    def of_landings(self, log):
+    def of_landings(self, log: str) -> Difference | None:
         """The first landing that isn't the same, from what `aeth simulate` prints, by the channel in which it is."""
         expected, channel = defaultdict(list), None
         for line in log.splitlines():
@@ -127,7 +133,7 @@ class Comparison:
         sides = [f"lands in cycle {side[0]} with value {side[1]}" if side else "doesn't land" for side in (one, other)]
         return Difference(f"cycle {cycle}, channel {' '.join(channel)}, {index} of its session", *sides)
 
-    def of_entries(self, entered):
+    def of_entries(self, entered: Iterable[tuple[int, int]]) -> Difference | None:
         """The first use case whose tables the routers don't have from its cycle on, of those that a run enters."""
         uses = self.network.uses
         with open(self.folder / "entries.csv", encoding="ascii") as file:
@@ -144,7 +150,7 @@ class Comparison:
                 return Difference(f"cycle {cycle}, tables of routers", *told)
         return None
 
-    def of_flits(self, log):
+    def of_flits(self, log: str) -> Difference | None:
         """The first link that doesn't carry as many flits."""
         counts = [0] * len(self.scopes)
         for row in self.rows:

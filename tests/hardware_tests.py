@@ -307,17 +307,17 @@ class Statuses(WithHardware):
     def test_files_are_judged_first(self):
         files = self.example("pair", "two", 150, 8)
         broken = self.home.put("broken.plan", "plan 1 8\nend\n")
-        self.assertEqual(self.run_script("design", "rtl", *files[:2], broken, "--to", "new"), (3, "", "design: missing c0 0 fwd\n"))
+        self.assertEqual(self.run_script("design", "rtl", *files[:2], broken, "--to", "new"), (3, "", "broken 2 0 0\n"))
         self.assertFalse((self.home.top / "new").exists())
         run = [*files[:2], broken, *files[3:]]
-        self.assertEqual(self.run_script("design", "cosim", *run), (3, "", "design: missing c0 0 fwd\n"))
+        self.assertEqual(self.run_script("design", "cosim", *run), (3, "", "broken 2 0 0\n"))
         run = [*files[:3], "no_such_file", *files[4:]]
-        self.assertEqual(self.run_script("design", "cosim", *run), (4, "", "design: read fault words\n"))
+        self.assertEqual(self.run_script("design", "cosim", *run), (4, "", "read fault words\n"))
 
     def test_words(self):
         files = self.example("pair", "two", 150, 8)
         for more, tells in (
-            (files[:6] + ["0"], "a run has 1 to 1,000,000 cycles"), (files[:6] + ["many"], "invalid int value: 'many'"),
+            (files[:6] + ["0"], "a run has 1 to 1,000,000 cycles"), (files[:6] + ["many"], "`many` is no whole number"),
             (files + ["--with", "other"], "invalid choice: 'other'"), (files[:5], "required: switches, cycles"),
         ):
             status, text, errors = self.run_script("design", "cosim", *more)

@@ -15,7 +15,7 @@ import unittest
 
 sys.dont_write_bytecode = True
 HERE = pathlib.Path(__file__).resolve().parent
-sys.path[:0] = [str(HERE), str(HERE.parent / "draw.d")]
+sys.path[:0] = [str(HERE), str(HERE.parent / "draw.d"), str(HERE.parent / "common.d")]
 
 
 def all_tests(suite):

@@ -45,11 +45,20 @@ class Pages(WithHome):
             self.assertIn(f"./aeth {command} ", page)
             self.assertLessEqual(max(map(len, page.splitlines())), 82)
 
+    def test_a_command_with_help_answers_with_its_page(self):
+        for command in COMMANDS:
+            page = self.home.run("help", command)
+            for word in ("--help", "-h"):
+                self.assertEqual(self.home.run(command, word), page, command)
+        self.assertEqual(self.home.run("help", "--help"), self.home.run("help"))
+        self.assertEqual(self.home.built(), 0)
+
     def test_pages_are_no_other_files(self):
-        for word in ("nosuch", "aeth", "../version", "help/chip", "", "."):
-            status, page, said = self.home.run("help", word)
-            self.assertEqual((status, page), (1, ""), word)
-            self.assertIn("./aeth help", said)
+        for word in ("nosuch", "aeth", "../version", "help/chip", "", ".", "chip\n", "\x1b[2J", "\\033[2J"):
+            for words in (("help", word), (word, "--help")):
+                status, page, said = self.home.run(*words)
+                self.assertEqual((status, page), (1, ""), words)
+                self.assertRegex(said, r"\Aaeth: there is no [ -~]*`./aeth help` lists them\n\Z")
 
     def test_no_page_builds(self):
         self.home.run("help", "chip")
@@ -68,7 +77,7 @@ class Pages(WithHome):
             self.assertEqual(self.home.run("help", "chip", out=full)[0], 5)
 
     def test_other_words_go_to_the_program(self):
-        for words in (("help", "chip", "app"), ("chip", "--help"), ("--version", "x"), ("", "a b", "*")):
+        for words in (("help", "chip", "app"), ("chip", "./--help"), ("chip", "app", "--help"), ("--version", "x"), ("", "a b", "*")):
             self.says("main base middle", 1, *words)
 
 
