@@ -68,7 +68,8 @@ class Server:
         self.coming, self.credits, self.landings, self.takings = {}, {}, [], []
 
     def send(self, cycle, opposite, flits):
-        """Sends words and credits in a slot of its own, before the stop."""
+        """Credits return; words and credits are sent in a slot of its own, before the stop."""
+        self.returned += self.credits.get(cycle, 0)
         while self.offered < len(self.words) and self.words[self.offered][0] <= cycle:
             self.offered += 1
         if cycle % self.slots not in self.starts or cycle >= self.stop:
@@ -88,9 +89,8 @@ class Server:
         opposite.owed -= credits
 
     def receive(self, cycle):
-        """Words land, credits return, and the receiver takes what it asks for."""
+        """Words land, and the receiver takes what it asks for."""
         self.landings += [cycle] * self.coming.get(cycle, 0)
-        self.returned += self.credits.get(cycle, 0)
         pull = ([2] + [pull for since, pull in self.pulls if since <= cycle])[-1]
         taken = min(pull, len(self.landings) - self.taken)
         self.takings += [cycle] * taken

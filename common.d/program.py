@@ -2,6 +2,7 @@
 
 A file may be one that gives its bytes once only, as a pipe does. So each is read once, and `aeth` gets copies in memory.
 """
+from collections.abc import Iterator
 from dataclasses import dataclass
 import os
 import pathlib
@@ -103,3 +104,26 @@ def text_of(*words: Word) -> str:
     if told.status:
         raise Passed(told.status, told.errors)
     return told.text
+
+
+def lines_of(*words: Word) -> Iterator[str]:
+    """What `aeth` prints of words, line by line as it comes, for texts that memory can't hold. Where `aeth` ends with another
+    status than 0, the script ends so, with its own lines; a text that isn't read to its end is broken off."""
+    build()
+    copies = [word.copy for word in words if isinstance(word, Input) and word.copy is not None]
+    spelled = [word.path if isinstance(word, Input) else str(word) for word in words]
+    try:
+        run = subprocess.Popen([str(AETH), *spelled], stdout=subprocess.PIPE, stderr=subprocess.PIPE, pass_fds=copies)
+    except OSError as error:
+        raise Stop(NOT_RUN, f"{AETH} can't be run: {error.strerror}") from error
+    except ValueError as error:
+        raise Stop(NOT_RUN, f"{AETH} can't be run: a word has a zero byte") from error
+    with run:
+        assert run.stdout and run.stderr
+        try:
+            yield from map(bytes.decode, run.stdout)
+            errors = run.stderr.read().decode("utf-8", "replace")
+            if run.wait():
+                raise Passed(run.returncode if run.returncode > 0 else 128 - run.returncode, errors)
+        finally:
+            run.kill()

@@ -3,13 +3,13 @@
 `aeth` has accepted or printed each of them, so nothing is judged here.
 """
 from collections.abc import Iterable, Iterator
-from dataclasses import dataclass, field
+from dataclasses import dataclass
 from typing import NamedTuple
 import csv
 import io
 
 from design_files import Application, Chip
-from plan_texts import Grant, Plan, lines_of
+from plan_texts import Grant, Plan
 
 csv.field_size_limit(1 << 30)  # a field may be as long as its file
 
@@ -114,29 +114,21 @@ class Switching:
         return switches + [self.switch(old.use, row) for old, row in zip(rows, rows[1:])]
 
 
-class Landing(NamedTuple):
-    """A line `land` of a log: a word that landed, with the cycles of its offer and its landing and its due cycle."""
-
-    place: int  # in its session, from 0 on
-    offered: int
-    landed: int
-    due: int
-    value: int
-
-
 @dataclass
 class SessionLog:
-    """A line `chan` of a log: a session of a channel from the cycle `go` on, with the words that landed."""
+    """A line `chan` of a log: a session of a channel from the cycle `go` on, with the words that landed, in their order: the
+    cycles of their offers and their landings, and their due cycles."""
 
     connection: str
     side: str
     go: int
-    state: str  # open, closing or ended
+    ended: bool
     offered: int
     landed: int
     taken: int
-    landings: list[Landing] = field(default_factory=list)
-    dropped: tuple[int, int] | None = None  # words that didn't land, and landed words that weren't taken; of an ended one
+    offers: list[int]
+    landings: list[int]
+    dues: list[int]
 
 
 @dataclass
@@ -149,25 +141,44 @@ class RunLog:
     flits: list[int]  # by link
 
 
+HEAD, CHAN, LAND = 3, 7, 6  # the fields of the first line, of a line `chan` without that word, and of a line `land`
+
+
+def session_of(fields: list[str]) -> SessionLog:
+    """The session of a line `chan`, without that word, and of what stands behind it."""
+    connection, side, go, state, offered, landed, taken = fields[:CHAN]
+    lands = fields[CHAN : CHAN + LAND * int(landed)]
+    return SessionLog(
+        connection, side, int(go), state == "ended", int(offered), int(landed), int(taken),
+        offers=list(map(int, lands[2::LAND])), landings=list(map(int, lands[3::LAND])), dues=list(map(int, lands[4::LAND])),
+    )
+
+
 def read_log(text: str) -> RunLog:
-    """The log of a run, of the text that `aeth simulate` prints."""
-    log = RunLog(0, [], {}, [])
-    for line in lines_of(text):
-        word, *fields = line.split(" ")
-        if word == "land":
-            log.sessions[-1].landings.append(Landing(*map(int, fields)))
-        elif word == "chan":
-            connection, side, go, state, offered, landed, taken = fields
-            log.sessions.append(SessionLog(connection, side, int(go), state, int(offered), int(landed), int(taken)))
-        elif word == "drop":
-            log.sessions[-1].dropped = int(fields[0]), int(fields[1])
-        elif word == "outside":
-            log.outside[fields[0], fields[1]] = int(fields[2])
-        elif word == "link":
-            log.flits.append(int(fields[1]))
-        elif word == "sim":
-            log.cycles = int(fields[1])
+    """The log of a run, of the text that `aeth simulate` prints. It may have a million words, so that whole sessions are
+    read at once."""
+    head, *chans = text.split("\nchan ")
+    words = head.split()
+    log = RunLog(int(words[HEAD - 1]), [], {}, [])
+    read_rest(log, words[HEAD:])
+    for chan in chans:
+        fields = chan.split()
+        log.sessions.append(session_of(fields))
+        read_rest(log, fields[CHAN + LAND * log.sessions[-1].landed :])
     return log
+
+
+def read_rest(log: RunLog, words: list[str]) -> None:
+    """The words of lines `drop`, `outside` and `link`, which stand behind the sessions of a channel."""
+    at = 0
+    while words[at : at + 1] not in ([], ["end"]):
+        if words[at] == "outside":
+            log.outside[words[at + 1], words[at + 2]] = int(words[at + 3])
+            at += 4
+        else:
+            if words[at] == "link":
+                log.flits.append(int(words[at + 2]))
+            at += 3
 
 
 class FlitRow(NamedTuple):

@@ -1,31 +1,36 @@
 """Makes a network as hardware, runs it in a simulator, and says whether it did what `aeth` says."""
+from argparse import Namespace
+from collections.abc import Sequence
 from pathlib import Path
 import tempfile
 
-from cosim_compare import Comparison, MOST_CYCLES_OF_LINKS
-from cosim_simulators import SIMULATORS, Progress, compiled, found, played  # noqa: F401
+from cosim_compare import MOST_CYCLES_OF_LINKS, Comparison
+from cosim_simulators import SIMULATORS, Broken, Progress, compiled, found, played
 from cosim_wave import write_wave
-from rtl import make_folder, stimuli_of
-from rtl_bench import Run
-from rtl_tables import printed, read_network
-from shapes import Refused
-from traffic import MOST_CYCLES
+from ending import UNWRITTEN, Result, Stop
+from program import Input, text_of
+from rtl import make_folder
+from rtl_bench import Run, Stimuli
+from rtl_tables import read_network
+from run_texts import read_receivers, read_switches, read_words
+
+__all__ = ["SIMULATORS", "cosim"]
 
 DIFFERENCE = 3
-WRITE_FAULT = 5
 
 
-def verdict_of(comparison, links, log, broken):
+def verdict_of(comparison: Comparison, run: Run, links: str, log: str, broken: Sequence[Broken]) -> tuple[str, bool]:
     """The verdict, and whether both did the same."""
     difference = comparison.of_links(links)
     if not difference and comparison.cycles > MOST_CYCLES_OF_LINKS:
         difference = comparison.of_audit()
     difference = difference or comparison.of_landings(log) or comparison.of_flits(log)
+    if not difference and comparison.network.has_tables:
+        difference = comparison.of_entries(run.entered())
     told = ""
     if broken:
-        first = broken[0]
         more = f", and {len(broken) - 1:,} further ones" if broken[1:] else ""
-        told = f"{first.name} of {first.place} doesn't hold in cycle {first.cycle}{more}\n"
+        told = f"{broken[0].name} of {broken[0].place} doesn't hold in cycle {broken[0].cycle}{more}\n"
     if difference:
         return difference.text() + (f"  promise   {told}" if told else ""), False
     if told:
@@ -34,34 +39,39 @@ def verdict_of(comparison, links, log, broken):
     return f"the same: {comparison.cycles:,} cycles, {flits:,} flits, {landed:,} words landed", True
 
 
-def cosim(given):
-    """The text of the verdict, and the status."""
-    if not 1 <= given.cycles <= MOST_CYCLES:
-        raise Refused(f"a run has 1 to {MOST_CYCLES:,} cycles")
-    files = given.chip, given.app, given.plan, given.words, given.receivers, given.switches
-    links = printed("links", *files, min(given.cycles, MOST_CYCLES_OF_LINKS))
-    log = printed("simulate", *files, given.cycles)
+def cosim(given: Namespace) -> Result:
+    """The verdict, with its status."""
+    network = read_network(given)
+    words, receivers, switches = (Input(path) for path in (given.words, given.receivers, given.switches))
+    files = [network.files.chip_file, network.files.app_file, network.plan_file, words, receivers, switches]
+    links = text_of("links", *files, min(given.cycles, MOST_CYCLES_OF_LINKS))
+    log = text_of("simulate", *files, given.cycles)
     simulator = found(given.simulator)
-    network = read_network(*files[:3], given.routers == "tables")
-    stimuli = stimuli_of(*files[3:], given.cycles)
-    progress = Progress()
+    stimuli = Stimuli(
+        list(read_words(words.data, given.cycles)), list(read_receivers(receivers.data, given.cycles)),
+        read_switches(switches.data, given.cycles), given.cycles,
+    )
+    run, progress = Run(network, stimuli), Progress()
     with tempfile.TemporaryDirectory(prefix="aeth-cosim-") as room:
         folder = Path(room) / "hardware"
-        sizes = make_folder(folder, network, Run(network, stimuli))
+        try:
+            made = make_folder(folder, network, run)
+        except OSError as error:
+            raise Stop(UNWRITTEN, f"{error.filename}: {error.strerror}") from error
         compiled(simulator, folder, given.wave is not None, progress)
-        broken = played(simulator, folder, sizes["FirstCycle"], progress)
+        broken = played(simulator, folder, made.sizes["FirstCycle"], progress)
         comparison = Comparison(network, files, given.cycles, folder)
-        text, is_same = verdict_of(comparison, links, log, broken)
+        text, is_same = verdict_of(comparison, run, links, log, broken)
         if given.wave is not None:
             keep_wave(folder / "network.vcd", given.wave, comparison)
     if is_same:
         text += f"; routers with {given.routers}, {simulator.name}\n"
-    return text, 0 if is_same else DIFFERENCE
+    return Result(text, 0 if is_same else DIFFERENCE)
 
 
-def keep_wave(dump, path, comparison):
+def keep_wave(dump: Path, path: str, comparison: Comparison) -> None:
     try:
         with open(dump, encoding="ascii", errors="replace") as source, open(path, "w", encoding="ascii") as out:
             write_wave(source, out, comparison.channels, comparison.scopes, comparison.cycles)
     except OSError as error:
-        raise Refused(f"{path}: {error.strerror}", WRITE_FAULT) from None
+        raise Stop(UNWRITTEN, f"{path}: {error.strerror}") from error

@@ -1,14 +1,15 @@
 """Simulators of SystemVerilog: how each compiles a folder and runs it, with its progress."""
 from dataclasses import dataclass
+from pathlib import Path
 import os
 import re
 import shutil
 import subprocess
 import sys
 
-from shapes import Refused
+from ending import Passed, Stop, tell
 
-NO_SIMULATOR = 7
+NO_SIMULATOR = 7  # or one that failed
 MOST_TEXT = 4_000  # of a simulator that failed
 FLAG = "AETH_WAVE"
 
@@ -19,13 +20,13 @@ class Simulator:
 
     name: str
     package: str
-    programs: tuple
-    compile: tuple
-    trace: tuple  # more words, for a dump
-    run: tuple
+    programs: tuple[str, ...]
+    compile: tuple[str, ...]
+    trace: tuple[str, ...]  # more words, for a dump
+    run: tuple[str, ...]
 
 
-def jobs():
+def jobs() -> str:
     return str(len(os.sched_getaffinity(0)))
 
 
@@ -57,44 +58,38 @@ class Broken:
 
 
 class Progress:
-    """One line on standard error, which is rewritten where that is a terminal; else a line for each stage."""
+    """One line on standard error that is rewritten, where that is a terminal."""
 
-    def __init__(self):
-        self.is_terminal = sys.stderr.isatty()
+    def __init__(self) -> None:
+        self.is_terminal = sys.stderr is not None and sys.stderr.isatty()
 
-    def stage(self, text):
-        sys.stderr.write(f"\r{text}\x1b[K" if self.is_terminal else f"{text}\n")
-        sys.stderr.flush()
-
-    def step(self, text):
+    def say(self, text: str) -> None:
         if self.is_terminal:
-            self.stage(text)
+            tell(f"\r{text}\033[K")
 
-    def end(self):
-        if self.is_terminal:
-            sys.stderr.write("\r\x1b[K")
-            sys.stderr.flush()
+    def end(self) -> None:
+        self.say("")
 
 
-def found(name):
+def found(name: str) -> Simulator:
     """The simulator of this name, if its programs are there."""
     simulator = SIMULATORS[name]
     for program in simulator.programs:
         if not shutil.which(program):
             package = PACKAGES.get(program, simulator.package)
-            raise Refused(f"there is no `{program}`: the Debian package `{package}` has it", NO_SIMULATOR)
+            raise Stop(NO_SIMULATOR, f"there is no `{program}`: the Debian package `{package}` has it")
     return simulator
 
 
-def failed(simulator, does, text, status):
+def failed(simulator: Simulator, does: str, text: str, status: int) -> Passed:
     """What is told of a simulator that failed: its own text, and a line."""
-    sys.stderr.write(text[-MOST_TEXT:] if text.endswith("\n") or not text else text[-MOST_TEXT:] + "\n")
-    return Refused(f"{simulator.name} {does}, with status {status}", NO_SIMULATOR)
+    text = text[-MOST_TEXT:] if text.endswith("\n") or not text else text[-MOST_TEXT:] + "\n"
+    return Passed(NO_SIMULATOR, f"{text}design: {simulator.name} {does}, with status {status}\n")
 
 
-def compiled(simulator, folder, with_wave, progress):
+def compiled(simulator: Simulator, folder: Path, with_wave: bool, progress: Progress) -> None:
     """Compiles the network and the bench of a folder."""
-    progress.stage(f"cosim: {simulator.name} compiles the network")
+    progress.say(f"design: {simulator.name} compiles the network")
     words = [*simulator.compile, *(simulator.trace if with_wave else ())]
     ran = subprocess.run(words, cwd=folder, stdout=subprocess.PIPE, stderr=subprocess.STDOUT, check=False)
     if ran.returncode:
@@ -102,18 +97,23 @@ def compiled(simulator, folder, with_wave, progress):
         raise failed(simulator, "didn't compile the network", ran.stdout.decode(errors="replace"), ran.returncode)
 
 
-def played(simulator, folder, first_cycle, progress):
+def told_by(line: bytes) -> str:
+    return line.decode(errors="replace")
+
+
+def played(simulator: Simulator, folder: Path, first_cycle: int, progress: Progress) -> list[Broken]:
     """Runs what was compiled, and answers the promises of the modules that weren't kept."""
-    progress.stage(f"cosim: {simulator.name} runs it")
+    progress.say(f"design: {simulator.name} runs it")
     words = [str(folder / simulator.run[0]) if "/" in simulator.run[0] else simulator.run[0], *simulator.run[1:]]
-    text, broken, done = [], [], False
+    text: list[str] = []
+    broken: list[Broken] = []
+    done = False
     with subprocess.Popen(words, cwd=folder, stdout=subprocess.PIPE, stderr=subprocess.STDOUT) as ran:
         try:
-            for line in ran.stdout:
-                line = line.decode(errors="replace")
+            for line in map(told_by, ran.stdout or ()):
                 told, promise = re.match(r"aeth_bench: (cycle|done)(.*)", line), BROKEN.search(line)
                 if told and told[1] == "cycle":
-                    progress.step(f"cosim: {simulator.name} runs it: cycle{told[2]}")
+                    progress.say(f"design: {simulator.name} runs it: cycle{told[2]}")
                 elif told:
                     done = True
                 elif promise:

@@ -1,8 +1,13 @@
 """The dump of a simulator as `draw wave` names things: a unit of time is a cycle of the run, and the links are on top."""
+from collections.abc import Iterator, Sequence
+from typing import TextIO, TypeAlias
 import re
 
+from rtl_bench import TAKEN
 from rtl_names import safe
-from waveform import fields_of  # noqa: F401
+from waveform import Channels
+
+Scope: TypeAlias = tuple[str, ...]
 
 FIELDS = ("flit", "route", "queue", "credits", "count", "first", "second")
 LEFT_OUT = {"clk_i", "rst_i"}
@@ -12,14 +17,14 @@ PERIOD = 1_000  # of a dump's units
 class Head:
     """The signals of a dump that are kept, by their scopes."""
 
-    def __init__(self, scopes):
-        names = {safe(scope, {"network"}): number for number, scope in enumerate(scopes)}
+    def __init__(self, scopes: Sequence[str]) -> None:
+        names = {safe(scope, TAKEN): number for number, scope in enumerate(scopes)}
         self.scopes, self.names = scopes, names
-        self.kept = {}  # by path the declarations of a scope
-        self.links = [{} for _ in scopes]  # of each link the identifiers of its fields
-        self.path = []
+        self.kept: dict[Scope, list[tuple[str, str]]] = {}  # by path the declarations of a scope
+        self.links: list[dict[str, str]] = [{} for _ in scopes]  # of each link the identifiers of its fields
+        self.path: list[str] = []
 
-    def place(self):
+    def place(self) -> Scope | None:
         """Where the scope that is read stands in what is written, if it is kept."""
         if "harness" not in self.path:
             return None
@@ -30,7 +35,7 @@ class Head:
             return tuple(path[1:])
         return None
 
-    def read(self, line):
+    def read(self, line: str) -> None:
         word = line.split()
         if word[:1] == ["$scope"]:
             self.path.append(word[2])
@@ -49,33 +54,36 @@ class Head:
             text = f"$var wire {wide} {word[3]} {name}{f' [{wide - 1}:0]' if wide > 1 else ''} $end"
             self.kept.setdefault(place, []).append((word[3], text))
 
-    def lines(self):
+    def lines(self) -> list[str]:
         """The declarations, scope within scope, the links first."""
-        lines, path = ["$timescale 1 ns $end"], ()
-        order = sorted(self.kept, key=lambda place: place[0] != "links")
+        lines = ["$timescale 1 ns $end"]
+        path: Scope = ()
+        numbers: dict[Scope, int] = {("links", scope): number for number, scope in enumerate(self.scopes)}
+        order = sorted(self.kept, key=lambda place: numbers.get(place, len(numbers)))
         for place in order:
             same = next((at for at, (one, other) in enumerate(zip(path, place)) if one != other), min(len(path), len(place)))
             lines += ["$upscope $end"] * (len(path) - same) + [f"$scope module {name} $end" for name in place[same:]]
             lines += [text for _, text in self.kept[place]]
             if place[0] == "links":
-                lines.append(f"$var string 1 {channel_sign(self.scopes.index(place[1]))} channel $end")
+                lines.append(f"$var string 1 {channel_sign(numbers[place])} channel $end")
             path = place
         return [*lines, *["$upscope $end"] * len(path), "$enddefinitions $end"]
 
 
-def channel_sign(link):
+def channel_sign(link: int) -> str:
     return f"channel_{link}"
 
 
 class Values:
     """The values of the kept signals, from cycle to cycle."""
 
-    def __init__(self, head, channels):
+    def __init__(self, head: Head, channels: Channels) -> None:
         self.head, self.channels = head, channels
         self.signs = {sign for declared in head.kept.values() for sign, _ in declared}
-        self.now, self.told = {}, {}
+        self.now: dict[str, str] = {}
+        self.told: dict[str, str] = {}
 
-    def read(self, line):
+    def read(self, line: str) -> None:
         if line[0] in "bBrR":
             value, _, sign = line.partition(" ")
             line = value + " "
@@ -84,14 +92,14 @@ class Values:
         if sign in self.signs:
             self.now[sign] = line
 
-    def channel(self, link):
+    def channel(self, link: int) -> str:
         signs = self.head.links[link]
-        number = lambda field: int(self.now.get(signs[field], "b0")[1:].strip() or "0", 2)
         if self.now.get(signs["flit"]) != "1":
             return "s- "
-        return f"s{self.channels.name(link, number('route'), number('queue'))} "
+        route, queue = (int(self.now[signs[field]].strip(" b"), 2) for field in ("route", "queue"))
+        return f"s{self.channels.name(link, route, queue)} "
 
-    def changes(self):
+    def changes(self) -> list[str]:
         """The lines of what has changed since they were last asked for."""
         for link, signs in enumerate(self.head.links):
             if signs:
@@ -101,7 +109,7 @@ class Values:
         return lines
 
 
-def write_wave(dump, out, channels, scopes, cycles):
+def write_wave(dump: Iterator[str], out: TextIO, channels: Channels, scopes: Sequence[str], cycles: int) -> None:
     """Writes the dump of a simulator, from a file to another one."""
     head = Head(scopes)
     for line in dump:
@@ -109,7 +117,8 @@ def write_wave(dump, out, channels, scopes, cycles):
             break
         head.read(line)
     out.write("\n".join(head.lines()) + "\n")
-    values, first, cycle = Values(head, channels), None, 0
+    values, cycle = Values(head, channels), 0
+    first: int | None = None
     for line in dump:
         line = line.strip()
         if line.startswith("#"):
@@ -128,7 +137,7 @@ def write_wave(dump, out, channels, scopes, cycles):
     out.write(f"#{cycles}\n")
 
 
-def put_changes(out, cycle, values):
+def put_changes(out: TextIO, cycle: int, values: Values) -> None:
     lines = values.changes()
     if cycle == 0:
         lines = ["$dumpvars", *lines, "$end"]

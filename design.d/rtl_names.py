@@ -1,4 +1,5 @@
 """Names of a chip as names of SystemVerilog."""
+from collections.abc import Container
 
 # Words of IEEE 1800-2017, appendix B, that a name of a chip may be: in small letters, digits and lines.
 KEYWORDS = frozenset("""
@@ -21,7 +22,7 @@ wildcard wire with within wor xnor xor
 """.split())
 
 
-def safe(name, taken):
+def safe(name: str, taken: Container[str]) -> str:
     """The name of an instance: the chip's own, or behind `N_`, which stands in no name of a chip, where that is a word of
     the language, begins with a digit or is taken. Two lines are one in the names that Verilator gives in C++."""
     if name in KEYWORDS or name in taken or name[0].isdigit() or name[0] == "_" or "__" in name:

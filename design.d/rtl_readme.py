@@ -1,5 +1,9 @@
 """The page of a folder with a network as hardware."""
+from argparse import Namespace
 from pathlib import Path
+
+from rtl_bench import Run
+from rtl_tables import Network
 
 TEXT = """# A network as hardware
 
@@ -32,7 +36,7 @@ where it hands words over, `arrival_.._o` and `taking_.._i` where they land. `la
 """
 
 
-def readme_text(network, run, given):
+def readme_text(network: Network, run: Run, given: Namespace) -> str:
     channels = "\n".join(f"{number}. {name} {side}" for number, (name, side) in enumerate(network.channels))
     return TEXT.format(
         chip=Path(given.chip).name, app=Path(given.app).name, plan=Path(given.plan).name,

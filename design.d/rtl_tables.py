@@ -1,12 +1,20 @@
 """A network as hardware: which queues of which interfaces are in use, and what its tables hold, read from what
 `aeth tables` and `aeth route-tables` print."""
-from dataclasses import dataclass, field
+from argparse import Namespace
+from collections.abc import Mapping
+from dataclasses import dataclass
+from functools import cached_property
+from typing import TypeAlias
 
-from aeth import run_aeth
-from files import read, rows_of
+from design_files import Application, Chip
+from files import Files, judged
+from plan_texts import Plan, read_plan, read_queues, rows_of
+from program import Input, text_of
 from shapes import Refused
 
 SIDES = ("fwd", "back")
+
+Ends: TypeAlias = tuple[str, str]  # a connection and a side
 
 
 @dataclass(frozen=True)
@@ -18,7 +26,7 @@ class Way:
     route: int
     remote: int  # the number of the queue in which its words land
     credits: int  # the words that this one has room for
-    slots: tuple
+    slots: tuple[int, ...]
 
 
 @dataclass(frozen=True)
@@ -27,100 +35,104 @@ class Queue:
     cases."""
 
     number: int
-    sends: tuple  # a connection and a side
-    receives: tuple
+    sends: Ends
+    receives: Ends
     room: int  # for words that land
     remote_room: int  # at the other end
 
 
-@dataclass
+@dataclass(frozen=True)
 class Network:
     """All that the hardware is made from."""
 
-    chip: dict
-    app: dict
-    plan: str
-    ways: dict  # by use case, and by connection and side
-    hops: dict  # by use case the fields of the lines of routers' tables; none where routers read headers
+    files: Files
+    plan_file: Input
+    ways: Mapping[str, Mapping[Ends, Way]]  # by use case
+    hops: Mapping[str, list[list[str]]]  # by use case the lines of routers' tables; none where routers read headers
     has_tables: bool
-    queues: dict = field(default_factory=dict)  # by interface, in the order of their numbers
 
     @property
-    def links(self):
-        return self.chip["link"]
+    def chip(self) -> Chip:
+        return self.files.chip
 
     @property
-    def uses(self):
-        return [case["name"] for case in self.app["use"]]
+    def app(self) -> Application:
+        return self.files.app
 
-    @property
-    def connections(self):
+    @cached_property
+    def plan(self) -> Plan:
+        return read_plan(self.plan_file.data)
+
+    @cached_property
+    def uses(self) -> list[str]:
+        return list(self.app.uses)
+
+    @cached_property
+    def connections(self) -> list[str]:
         """The connections that any use case has, in file order."""
         used = {connection for ways in self.ways.values() for connection, _ in ways}
-        return [one["name"] for one in self.app["connection"] if one["name"] in used]
+        return [name for name in self.app.connections if name in used]
 
-    @property
-    def channels(self):
+    @cached_property
+    def channels(self) -> list[Ends]:
         return [(connection, side) for connection in self.connections for side in SIDES]
 
-    def leading(self, end, node):
-        """The numbers of the links that lead to a node, or from it."""
-        return [number for number, link in enumerate(self.links) if link[end] == node]
+    @cached_property
+    def queues(self) -> dict[str, list[Queue]]:
+        """The queues in use of each interface that has some, in the order of their numbers."""
+        return queues_of(self.ways)
+
+    def arriving(self, node: str) -> list[int]:
+        """The numbers of the links that lead to a node."""
+        return [link.number for link in self.chip.links if link.target == node]
+
+    def sending(self, node: str) -> list[int]:
+        """Those of the links that lead from it: a router's ports."""
+        return [link.number for link in self.chip.links if link.source == node]
 
 
-def ways_of(text):
+def ways_of(text: str) -> dict[Ends, Way]:
     """The channels of a use case, from the text of its tables."""
-    slots = {}
-    for interface, slot, queue in rows_of(text, "entry"):
-        slots.setdefault((interface, queue), []).append(int(slot))
+    slots: dict[tuple[str, int], list[int]] = {}
+    for interface, slot, number in rows_of(text, "entry"):
+        slots.setdefault((interface, int(number)), []).append(int(slot))
     return {
-        (connection, side): Way(ni, int(queue), int(route), int(remote), int(credits), tuple(slots[ni, queue]))
-        for ni, queue, route, remote, credits, connection, side, *_ in rows_of(text, "queue")
+        (queue.connection, queue.side): Way(
+            queue.interface, queue.number, queue.route, queue.remote, queue.credits,
+            tuple(slots[queue.interface, queue.number]))
+        for queue in read_queues(text)
     }
 
 
-def other(channel):
+def other(channel: Ends) -> Ends:
     connection, side = channel
     return connection, SIDES[1 - SIDES.index(side)]
 
 
-def queues_of(ways):
+def queues_of(ways: Mapping[str, Mapping[Ends, Way]]) -> dict[str, list[Queue]]:
     """By interface the queues that are in use in any use case, each with the greatest rooms that it is given."""
-    rooms, places = {}, {}
+    rooms: dict[Ends, int] = {}
+    places: dict[Ends, tuple[str, int]] = {}
     for of_use in ways.values():
         for channel, way in of_use.items():
             rooms[channel] = max(way.credits, rooms.get(channel, 0))
             places[channel] = way.interface, way.queue
-    found = {}
+    found: dict[str, list[Queue]] = {}
     for channel, (interface, number) in places.items():
         lands = other(channel)
         found.setdefault(interface, []).append(Queue(number, channel, lands, rooms[lands], rooms[channel]))
     return {interface: sorted(queues, key=lambda queue: queue.number) for interface, queues in found.items()}
 
 
-def printed(*words):
-    """What `aeth` prints. Where it refuses something, its message and its status."""
-    status, text, errors = run_aeth(*words)
-    if status:
-        raise Refused(errors.strip() or f"`aeth {words[0]}` ended with status {status}", status)
-    return text
-
-
-def read_network(chip, app, plan, has_tables):
+def read_network(given: Namespace) -> Network:
     """The network of an accepted plan: `aeth` judges the files."""
-    printed("check", chip, app, plan)
-    try:
-        chip_file, app_file = read(chip), read(app)
-        with open(plan, encoding="ascii") as file:
-            plan_text = file.read()
-    except OSError as error:
-        raise Refused(f"{error.filename}: {error.strerror}", 4) from None
-    uses = [case["name"] for case in app_file["use"]]
-    ways = {use: ways_of(printed("tables", chip, app, plan, use)) for use in uses}
-    hops = {}
-    if has_tables:
-        hops = {use: rows_of(printed("route-tables", chip, app, plan, use), "hop") for use in uses}
-    network = Network(chip_file, app_file, plan_text, ways, hops, has_tables, queues_of(ways))
+    files, plan = judged(given.chip, given.app), Input(given.plan)
+    design = files.chip_file, files.app_file, plan
+    text_of("check", *design)
+    uses, has_tables = list(files.app.uses), given.routers == "tables"
+    ways = {use: ways_of(text_of("tables", *design, use)) for use in uses}
+    hops = {use: rows_of(text_of("route-tables", *design, use), "hop") for use in uses if has_tables}
+    network = Network(files, plan, ways, hops, has_tables)
     if not network.channels:
         raise Refused("no use case has a connection: there is no hardware to make")
     return network

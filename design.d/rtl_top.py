@@ -1,15 +1,19 @@
 """The top of a network in SystemVerilog: its links, routers and interfaces, by their own names."""
+from collections.abc import Callable, Iterable, Mapping, Sequence
+from typing import TypeVar
 import re
 
 from rtl_names import safe
-from rtl_tables import other
+from rtl_tables import Network, other
+
+T = TypeVar("T")
 
 QUEUE_BITS = 5
 LEVEL_BITS = 16
 WIDE = 110  # where a list goes on in a further line
 
 
-def listed(parts, indent):
+def listed(parts: Sequence[str], indent: int) -> str:
     """A concatenation, of which the first part is the lowest."""
     lines, line = [], ""
     for part in reversed(parts):
@@ -21,7 +25,7 @@ def listed(parts, indent):
     return "{" + ("\n" + " " * indent).join([*lines, line]) + "}"
 
 
-def instance(module, name, parameters, ports):
+def instance(module: str, name: str, parameters: Mapping[str, object], ports: Mapping[str, str]) -> list[str]:
     """The lines of an instance, within a block."""
     lines = [f"    {module}"]
     wide = max(len(port) for port in ports)
@@ -39,27 +43,26 @@ class Top:
 
     CLOCK = {"clk_i": "clk_i", "rst_i": "rst_i"}
 
-    def __init__(self, network, scopes):
+    def __init__(self, network: Network, scopes: Sequence[str]) -> None:
         self.network, self.scopes = network, scopes
         self.places = {connection: place for place, connection in enumerate(network.connections)}
-        self.absent = set()  # links at whose end no component is
-        self.names = set()
+        self.absent: set[int] = set()  # links at whose end no component is
 
-    def text(self):
-        interfaces = self.block("interfaces", self.network.chip["nis"], self.interface)
-        routers = self.block("routers", self.network.chip["routers"], self.router)
-        links = self.block("links", range(len(self.network.links)), self.link)
+    def text(self) -> str:
+        interfaces = self.block("interfaces", self.network.chip.interfaces, self.interface)
+        routers = self.block("routers", self.network.chip.routers, self.router)
+        links = self.block("links", range(len(self.network.chip.links)), self.link)
         head = self.head()
         parts = [head, self.wires(), self.switch_port(), links, routers, interfaces, ["endmodule", ""]]
         text = "\n".join("\n".join(part) for part in parts)
         return self.named(text)
 
-    def named(self, text):
+    def named(self, text: str) -> str:
         """The text with the names of instances, once all others are known."""
         others = set(re.findall(r"[a-z_]\w*", re.sub(r"//.*|<[^>]*>", "", text)))
         return re.sub(r"<([^>]*)>", lambda name: safe(name[1], others), text)
 
-    def head(self):
+    def head(self) -> list[str]:
         network = self.network
         lines = [
             "// Made by `./design rtl`: the network of a plan, with the names of its chip.",
@@ -100,9 +103,9 @@ class Top:
             lines.append(f"  {way:6} {kind} {name}{comma}" + (f"  // {tells}" if tells else ""))
         return [*lines, ");", ""]
 
-    def wires(self):
+    def wires(self) -> list[str]:
         lines = ["  // What enters each link, by its number in the chip, and what leaves it."]
-        for number in range(len(self.network.links)):
+        for number in range(len(self.network.chip.links)):
             lines.append(f"  flit_t entering_{number}, {self.leaving(number)};")
         last = len(self.places) - 1
         use = "use_case" if self.network.has_tables else "unused_use_case"
@@ -116,10 +119,10 @@ class Top:
             "",
         ]
 
-    def leaving(self, number):
+    def leaving(self, number: int) -> str:
         return f"{'unused_' if number in self.absent else ''}leaving_{number}"
 
-    def switch_port(self):
+    def switch_port(self) -> list[str]:
         use = "use_case" if self.network.has_tables else "unused_use_case"
         ports = {
             **self.CLOCK, "start_i": "start_i", "switch_i": "switch_i", "closing_i": "closing_i", "ready_o": "ready_o",
@@ -129,22 +132,22 @@ class Top:
         lines = instance("aeth_switch_port", "switch_port", {"Connections": len(self.places)}, ports)
         return [line[2:] if line.startswith("  ") else line for line in "\n".join(lines).split("\n")] + [""]
 
-    def block(self, name, things, text_of):
+    def block(self, name: str, things: Iterable[T], text_of: Callable[[T], list[str]]) -> list[str]:
         lines = [f"  if (1) begin : {name}"]
         for thing in things:
             lines += text_of(thing)
         return [*lines, "  end", ""]
 
-    def link(self, number):
-        link = self.network.links[number]
+    def link(self, number: int) -> list[str]:
+        link = self.network.chip.links[number]
         ports = {**self.CLOCK, "flit_i": f"entering_{number}", "flit_o": self.leaving(number)}
-        lines = instance("aeth_link", f"<{self.scopes[number]}>", {"Delay": link.get("delay", 1)}, ports)
-        return [f"    // Link {number}, from {link['from']} to {link['to']}.", *lines]
+        lines = instance("aeth_link", f"<{self.scopes[number]}>", {"Delay": link.delay}, ports)
+        return [f"    // Link {number}, from {link.source} to {link.target}.", *lines]
 
-    def router(self, name):
+    def router(self, name: str) -> list[str]:
         network = self.network
-        number = network.chip["routers"].index(name)
-        arriving, sending = network.leading("to", name), network.leading("from", name)
+        number = network.chip.routers.index(name)
+        arriving, sending = network.arriving(name), network.sending(name)
         if not arriving or not sending:
             self.absent.update(arriving)
             silent = [f"    assign entering_{link} = '0;" for link in sending]
@@ -158,15 +161,15 @@ class Top:
         if not network.has_tables:
             return instance("aeth_router", f"<{name}>", parameters, ports)
         parameters = {
-            "Number": number, **parameters, "Slots": network.chip["slots"], "UseCases": len(network.uses),
+            "Number": number, **parameters, "Slots": network.chip.slots, "UseCases": len(network.uses),
         }
         more = {"run_i": "run_i", "use_case_i": "use_case", "row_valid_i": "row_valid_i", "row_i": "row_i"}
         return instance("aeth_table_router", f"<{name}>", parameters, {**ports, **more})
 
-    def interface(self, name):
+    def interface(self, name: str) -> list[str]:
         network = self.network
-        number = network.chip["nis"].index(name)
-        (leaving,), (entering,) = network.leading("from", name), network.leading("to", name)
+        number = network.chip.interfaces.index(name)
+        (leaving,), (entering,) = network.sending(name), network.arriving(name)
         queues = network.queues.get(name)
         if not queues:
             self.absent.add(entering)
@@ -176,7 +179,7 @@ class Top:
         places = [self.places[queue.sends[0]] for queue in queues]
         parameters = {
             "Number": number,
-            "Slots": network.chip["slots"],
+            "Slots": network.chip.slots,
             "Queues": len(queues),
             "NumberOf": listed([f"{QUEUE_BITS}'d{queue.number}" for queue in queues], 22),
             "ReceiveWords": listed([f"{LEVEL_BITS}'d{queue.room}" for queue in queues], 22),

@@ -1,153 +1,179 @@
-"""A chip, an application and a plan, as the pictures need them.
+"""Owns a design as the pictures need it: the channels of each use case with their grants and what they are guaranteed, and
+the number and the colour of each connection, which are the same in all use cases.
 
 The files are read only after `aeth` has accepted them, so nothing is judged here.
 """
-from collections import defaultdict
-from dataclasses import dataclass
+from collections import Counter, defaultdict
+from collections.abc import Iterable, Iterator, Sequence
+from dataclasses import dataclass, field
+from functools import cached_property
+from typing import NamedTuple
 
-import toml_lines
+from design_files import Application, Chip, Connection, Link
+from plan_texts import Grant, Plan, read_queues
+
+SIDES = ("fwd", "back")
+COLOURS = 8
+
+
+class Key(NamedTuple):
+    """A channel in a group of use cases."""
+
+    connection: str
+    side: str
+    group: int
 
 
 @dataclass(frozen=True)
-class Link:
-    """A link of the chip: it leads from a node to a node, and a flit takes `delay` cycles on it."""
+class Promise:
+    """What `tables` tells of a channel: words in each round of the table, cycles, and words that its receiver has room for."""
 
-    number: int
-    source: str
-    target: str
-    delay: int
+    rate: int
+    latency: int
+    buffer: int
 
 
 @dataclass(frozen=True)
 class Channel:
-    """One side of a connection, with the path and the starts of its grant, and what `tables` tells of it."""
+    """One side of a connection in a use case: its grant, and what it is guaranteed."""
 
-    connection: str
+    connection: Connection
     side: str
-    sender: str
-    receiver: str
-    path: tuple  # numbers of links
-    starts: tuple  # slots in which flits enter the first link
-    rate: int  # words per slot table
-    latency: int  # cycles from a word's offer to its landing
-    buffer: int  # words that the receiver has room for
+    grant: Grant
+    promise: Promise
 
     @property
-    def name(self):
-        return f"{self.connection} {self.side}"
+    def name(self) -> str:
+        return f"{self.connection.name} {self.side}"
 
-    def nodes(self, links):
+    @property
+    def sender(self) -> str:
+        return self.connection.sender(self.side)
+
+    @property
+    def receiver(self) -> str:
+        return self.connection.receiver(self.side)
+
+    def nodes(self, links: Sequence[Link]) -> list[str]:
         """The nodes of its path, from the sender's interface to the receiver's."""
-        return [links[self.path[0]].source] + [links[number].target for number in self.path]
+        return [links[self.grant.links[0]].source] + [links[number].target for number in self.grant.links]
+
+
+@dataclass(frozen=True)
+class Passage:
+    """A link of a channel's path, with the slots in which the channel's flits enter it."""
+
+    link: Link
+    slots: list[int]
+
+
+def passages(chip: Chip, grant: Grant) -> Iterator[Passage]:
+    """The links of a grant's path, from the sender on."""
+    offset = 0
+    for number in grant.links:
+        link = chip.links[number]
+        yield Passage(link, [(start + offset) % chip.slots for start in grant.starts])
+        offset += link.delay
 
 
 @dataclass(frozen=True)
 class Design:
-    """All that a picture of a plan is drawn from."""
+    """A chip, an application and an accepted plan, with what each channel is guaranteed in each group."""
 
-    slots: int
-    routers: list
-    interfaces: list
-    links: list
-    seats: dict  # from an interface to its cores, by seat
-    channels: list
-    use: str
+    chip: Chip
+    app: Application
+    plan: Plan
+    promises: dict[Key, Promise] = field(default_factory=dict)
 
-    def router_of(self, interface):
-        return next(link.target for link in self.links if link.source == interface)
+    def channels(self, use: str) -> list[Channel]:
+        """The channels of a use case, in the order of the plan."""
+        group, members = self.app.groups[use], self.app.members[use]
+        return [
+            Channel(self.app.connections[grant.connection], grant.side, grant, self.promises[key_of(grant)])
+            for grant in self.plan.grants if grant.group == group and grant.connection in members
+        ]
 
-    def passages(self, channel):
-        """The links of a channel's path, each with the slots in which the channel's flits enter it."""
-        offset = 0
-        for number in channel.path:
-            link = self.links[number]
-            yield link, [(start + offset) % self.slots for start in channel.starts]
-            offset += link.delay
+    @cached_property
+    def grants(self) -> dict[Key, Grant]:
+        return {key_of(grant): grant for grant in self.plan.grants}
 
-    def entries(self):
-        """For each router the slots in which it sends what comes from one node on to another: its slot table."""
-        found = {router: defaultdict(list) for router in self.routers}
-        for channel in self.channels:
-            passages = list(self.passages(channel))
-            for (before, _), (link, slots) in zip(passages, passages[1:]):
-                found[link.source][before.source, link.target] += slots
-        return found
+    @cached_property
+    def numbers(self) -> dict[str, int]:
+        return numbers_of(self.app)
 
-    def used_slots(self):
-        """How many slots of each link are in use."""
-        used = [0] * len(self.links)
-        for channel in self.channels:
-            for number in channel.path:
-                used[number] += len(channel.starts)
-        return used
+    @cached_property
+    def colours(self) -> dict[str, int]:
+        """A colour for each connection, the same in all use cases."""
+        return colours_of(self.plan.grants, self.app)
 
 
-def read_toml(data):
-    return toml_lines.read(data)[0]
+def key_of(grant: Grant) -> Key:
+    return Key(grant.connection, grant.side, grant.group)
 
 
-def use_names(data):
-    """The names of an application's use cases, in file order."""
-    return [case["name"] for case in read_toml(data)["use"]]
+def numbers_of(app: Application) -> dict[str, int]:
+    """The number of each connection, from 0 on in file order."""
+    return {name: number for number, name in enumerate(app.connections)}
 
 
-def read_links(chip):
-    return [Link(number, link["from"], link["to"], link.get("delay", 1)) for number, link in enumerate(chip["link"])]
+def together_in(app: Application) -> dict[int, dict[str, set[str]]]:
+    """Of each group the connections that some use case has together with each one of it."""
+    found: dict[int, dict[str, set[str]]] = defaultdict(lambda: defaultdict(set))
+    for use, connections in app.members.items():
+        for connection in connections:
+            found[app.groups[use]][connection] |= connections
+    return found
 
 
-def group_of(use, app):
-    """The number of a use case's group. Smooth pairs join use cases; groups count from 0 by their first one."""
-    names = [case["name"] for case in app["use"]]
-    first = {name: number for number, name in enumerate(names)}
-    for _ in names:
-        for case in app["use"]:
-            for other in case.get("smooth", []):
-                first[case["name"]] = first[other] = min(first[case["name"]], first[other])
-    return sorted(set(first.values())).index(first[use])
+def colours_of(grants: Iterable[Grant], app: Application) -> dict[str, int]:
+    """A colour for each connection with a grant: of those that share most links with others in a use case first, the colour
+    that is met least."""
+    on_link: dict[tuple[int, int], set[str]] = defaultdict(set)
+    names: dict[str, None] = {}
+    for grant in grants:
+        names[grant.connection] = None
+        for number in grant.links:
+            on_link[grant.group, number].add(grant.connection)
+    together = together_in(app)
+    met: dict[str, Counter[str]] = defaultdict(Counter)
+    for (group, _), connections in on_link.items():
+        for connection in connections:
+            met[connection].update((connections & together[group][connection]) - {connection})
+    colours: dict[str, int] = {}
+    taken: Counter[int] = Counter()
+    for name in sorted(names, key=lambda name: -met[name].total()):
+        clashes: Counter[int] = Counter()
+        for other, times in met[name].items():
+            if other in colours:
+                clashes[colours[other]] += times
+        colours[name] = min(range(COLOURS), key=lambda colour: (clashes[colour], taken[colour], colour))
+        taken[colours[name]] += 1
+    return colours
 
 
-def rows_of(text, word):
-    """The fields after `word` of the lines that begin with it."""
-    return [line.split(" ")[1:] for line in text.splitlines() if line.split(" ")[0] == word]
+def used_slots(chip: Chip, grants: Iterable[Grant]) -> list[int]:
+    """How many slots of each link some grants take."""
+    used = [0] * len(chip.links)
+    for grant in grants:
+        for number in grant.links:
+            used[number] += len(grant.starts)
+    return used
 
 
-def numbers(text):
-    return tuple(int(number) for number in text.split(","))
+def promises_in(tables: str, group: int) -> dict[Key, Promise]:
+    """What the text of `tables` in a use case of a group guarantees."""
+    return {
+        Key(queue.connection, queue.side, group): Promise(queue.rate, queue.latency, queue.credits)
+        for queue in read_queues(tables)
+    }
 
 
-def seats_of(plan):
-    """The cores at each interface, in the order of their seats."""
-    seats = {}
-    for core, interface, seat in sorted(rows_of(plan, "seat"), key=lambda row: int(row[2])):
-        seats.setdefault(interface, []).append(core)
-    return seats
-
-
-def channels_of(app, plan, tables, use):
-    """The channels of a use case, by connection and side, in the order of the plan."""
-    members = next(case["connections"] for case in app["use"] if case["name"] == use)
-    ends = {connection["name"]: (connection["from"], connection["to"]) for connection in app["connection"]}
-    promises = {(row[5], row[6]): (int(row[7]), int(row[8]), int(row[4])) for row in rows_of(tables, "queue")}
-    group = str(group_of(use, app))
-    channels = []
-    for connection, its_group, side, links, starts in rows_of(plan, "grant"):
-        if its_group == group and connection in members:
-            sender, receiver = ends[connection] if side == "fwd" else ends[connection][::-1]
-            promise = promises[connection, side]
-            channels.append(Channel(connection, side, sender, receiver, numbers(links), numbers(starts), *promise))
-    return channels
-
-
-def read_design(chip_data, app_data, plan_data, use, tables):
-    """The design of the bytes of three files and of the text that `aeth tables` prints of them."""
-    chip, app = read_toml(chip_data), read_toml(app_data)
-    plan = plan_data.decode("ascii")
-    return Design(
-        slots=chip["slots"],
-        routers=chip["routers"],
-        interfaces=chip["nis"],
-        links=read_links(chip),
-        seats=seats_of(plan),
-        channels=channels_of(app, plan, tables, use),
-        use=use,
-    )
+def uses_for_all(app: Application) -> list[str]:
+    """Use cases that have each connection of their group among them, few of them: their tables tell of all channels."""
+    wanted = {(app.groups[use], name) for use, names in app.members.items() for name in names}
+    found: list[str] = []
+    while wanted:
+        use = max(app.uses, key=lambda use: sum((app.groups[use], name) in wanted for name in app.members[use]))
+        found.append(use)
+        wanted -= {(app.groups[use], name) for name in app.members[use]}
+    return found

@@ -1,17 +1,20 @@
-"""The picture of a plan in one use case: the chip, the channels in its tables of slots, and a legend of channels."""
-from collections import Counter, defaultdict
+"""Owns the picture of a plan in one use case: the chip, the channels in its tables of slots, and a legend of channels."""
+from collections.abc import Iterable, Sequence
+from dataclasses import dataclass
 
-from chip_map import ChipMap
+from cells import cells_of, way_of
+from chip_map import ChipMap, Strip
 import chip_parts
+from design import Channel, Design, passages, used_slots
+from design_files import Link
 import svg
+from svg import MARGIN, Part, Picture, Sentence
 
-MARGIN = 24
 LEAST_WIDTH = 480
-MOST_WIDTH = 900  # of a line of sentences
 ARROW = f" {svg.ARROW} "
 ROW = 16  # the height of a line of the legend
 LEAST_ROWS = 8  # of the legend, before a further column is begun
-NUMBERS = (("rate", 44), ("latency", 58), ("buffer", 52))  # what the legend tells of a channel, and the room for it
+SWATCH = 44  # the room of a channel's colour and its number
 
 RULES = """
 .big{font-size:12px}.core{fill:none;stroke-width:.6}.line{marker-end:url(#tip)}
@@ -23,205 +26,185 @@ RULES = """
 """
 
 
-def colours_of(design):
-    """A colour for each connection: of those that share most links with others first, the colour that is met least."""
-    on_link = defaultdict(set)
-    for channel in design.channels:
-        for number in channel.path:
-            on_link[number].add(channel.connection)
-    met = defaultdict(Counter)
-    for connections in on_link.values():
-        for connection in connections:
-            met[connection].update(connections - {connection})
-    names = dict.fromkeys(channel.connection for channel in design.channels)
-    colours, taken = {}, Counter()
-    for name in sorted(names, key=lambda name: -sum(met[name].values())):
-        clashes = Counter()
-        for other, times in met[name].items():
-            if other in colours:
-                clashes[colours[other]] += times
-        colours[name] = min(range(svg.COLOURS), key=lambda colour: (clashes[colour], taken[colour], colour))
-        taken[colours[name]] += 1
-    return colours
+def rate_of(rate: int, slots: int) -> str:
+    """A rate in words in 1,000 cycles, of words in each round of a table."""
+    return svg.decimal(1000 * rate / slots)
 
 
-def tells_of(design, channel):
+def tells_of(design: Design, channel: Channel) -> str:
     """What a channel is, in words."""
+    promise, slots = channel.promise, design.chip.slots
     return (
-        f"{channel.name}, {channel.sender} to {channel.receiver}: {channel.rate} words in "
-        f"{svg.count(design.slots, 'cycle')}, "
-        f"latency {channel.latency} cycles, buffer {channel.buffer} words; "
-        f"by {ARROW.join(channel.nodes(design.links))}, starts in {' '.join(map(str, channel.starts))}"
+        f"{channel.name}, {channel.sender} to {channel.receiver}: {rate_of(promise.rate, slots)} words in 1,000 cycles "
+        f"({promise.rate} in {slots}), latency {svg.count(promise.latency, 'cycle')}, "
+        f"buffer {svg.count(promise.buffer, 'word')}; by {ARROW.join(channel.nodes(design.chip.links))}, "
+        f"starts in {' '.join(map(str, channel.grant.starts))}"
     )
 
 
-def sign(text, x, y, turned):
-    """A number whose middle is at a place; it is turned where a cell is higher than it is wide."""
-    if turned:
-        return svg.tag("text", text, class_="on", transform=f"translate({svg.number(x - 3)} {svg.number(y)})rotate(90)")
-    return svg.tag("text", text, class_="on", x=x, y=y + 3)
+@dataclass(frozen=True)
+class Column:
+    """What the legend tells of a channel in a column: its head of two lines, and the room for it."""
 
-
-def cells_of(chip_map, channel, place):
-    """A channel's cells in the tables of all links of its path, with its number, if it has one, where there is room."""
-    strip, path, signs = chip_map.strip, [], []
-    for link, slots in chip_map.design.passages(channel):
-        lane = chip_map.lanes[link.number]
-        for slot in slots:
-            x, y, along = lane.cell(strip, slot)
-            path.append(f"M{x} {y}{along}{strip.cell - 1}")
-            if strip.has_numbers and place:
-                half = (strip.cell - 1) / 2
-                middle = (x, y + half) if lane.upright else (x + half, y)
-                signs.append(sign(str(place), *middle, lane.upright and strip.is_wide))
-    width = strip.height - 1 if channel.side == "fwd" else strip.height * (0.7 if strip.is_wide else 0.5)
-    return svg.tag("path", d="".join(path), stroke_width=width) + "".join(signs)
-
-
-def way_of(chip_map, channel):
-    """A channel's whole path as one line, which shows where the pointer rests on the channel."""
-    routes = [chip_map.lanes[number].route for number in channel.path]
-    return svg.tag("path", class_="way", d="M" + "L".join(routes))
+    head: str
+    unit: str
+    room: int
 
 
 class Legend:
     """A list of channels in as many columns as there is room for."""
 
-    def __init__(self, channels, width, top):
-        self.channels = channels
+    def __init__(self, design: Design, channels: Sequence[Channel], width: float, top: float) -> None:
+        self.slots, self.numbers = design.chip.slots, design.numbers
+        self.kinds = [
+            Column("words in", "1,000 cycles", 86), Column("words in", svg.count(self.slots, "cycle"), 72),
+            Column("latency", "cycles", 58), Column("buffer", "words", 52),
+        ]
         longest = max([len("channel")] + [len(channel.name) for channel in channels])
         self.name_width = 8 + svg.text_width("n" * min(longest, 26), 11)
-        self.column = 44 + self.name_width + sum(room for _, room in NUMBERS) + MARGIN
-        self.columns = min(-(-len(channels) // LEAST_ROWS), max(1, int((width + MARGIN) // self.column)))
-        self.rows = max(1, -(-len(channels) // max(1, self.columns)))
+        self.column = SWATCH + self.name_width + sum(kind.room for kind in self.kinds) + MARGIN
+        self.columns = max(1, min(-(-len(channels) // LEAST_ROWS), int((width + MARGIN) // self.column)))
+        self.rows = max(1, -(-len(channels) // self.columns))
         self.top = top
-        self.bottom = top + (self.rows + 1) * ROW
+        self.bottom = top + (self.rows + 2) * ROW
 
-    def head(self):
+    def head(self) -> str:
         """The names of the columns."""
         parts = []
         for column in range(self.columns):
-            x = column * self.column + 44 + self.name_width
-            parts.append(svg.label("channel", column * self.column + 44, self.top, "less"))
-            for name, room in NUMBERS:
-                x += room
-                parts.append(svg.label(name, x, self.top, "less end"))
+            x = column * self.column + SWATCH + self.name_width
+            parts.append(svg.label("channel", column * self.column + SWATCH, self.top, "less"))
+            for kind in self.kinds:
+                x += kind.room
+                parts.append(svg.label(kind.head, x, self.top - 4, "less end"))
+                parts.append(svg.label(kind.unit, x, self.top + 9, "less end"))
         return "".join(parts)
 
-    def line(self, place, channel):
-        """One channel's line, with its colour as a cell and its number among all channels."""
-        column, row = divmod(self.channels.index(channel), self.rows)
-        left, y = column * self.column, self.top + (row + 1) * ROW
+    def line(self, place: int, channel: Channel) -> str:
+        """The line of a channel at a place of the list, with its colour as a cell and the number of its connection."""
+        column, row = divmod(place, self.rows)
+        left, y = column * self.column, self.top + (row + 1) * ROW + 9
+        promise = channel.promise
         parts = [
             svg.tag("path", d=f"M{svg.number(left)} {y - 4}h14", stroke_width=12 if channel.side == "fwd" else 6),
-            svg.label(str(place + 1), left + 39, y, "less end"),
-            svg.label(channel.name, left + 44, y, "name", self.name_width),
+            svg.label(str(self.numbers[channel.connection.name]), left + SWATCH - 5, y, "less end"),
+            svg.label(channel.name, left + SWATCH, y, "name", self.name_width),
         ]
-        x = left + 44 + self.name_width
-        for (_, room), value in zip(NUMBERS, (channel.rate, channel.latency, channel.buffer)):
-            x += room
-            parts.append(svg.label(str(value), x, y, "end"))
+        x = left + SWATCH + self.name_width
+        values = (rate_of(promise.rate, self.slots), str(promise.rate), str(promise.latency), str(promise.buffer))
+        for kind, value in zip(self.kinds, values):
+            x += kind.room
+            parts.append(svg.label(value, x, y, "end"))
         return "".join(parts)
 
 
-def draw_channels(chip_map, legend, chosen):
+def draw_channels(chip_map: ChipMap, design: Design, use: str, legend: Legend, chosen: Sequence[str]) -> str:
     """Each channel as one group of its cells, its line of the legend and its way. Where some are chosen the cells of all
     others are grey."""
-    design, colours = chip_map.design, colours_of(chip_map.design)
-    parts = []
-    for place, channel in enumerate(design.channels):
-        if chosen and channel not in chosen:
-            parts.append(svg.tag("g", svg.title(tells_of(design, channel)), cells_of(chip_map, channel, 0), class_="other"))
+    parts, place = [], 0
+    for channel in design.channels(use):
+        tells = svg.title(tells_of(design, channel))
+        if chosen and channel.name not in chosen:
+            cells = cells_of(chip_map, channel.grant, channel.side)
+            parts.append(svg.tag("g", tells, cells, class_="other"))
             continue
-        parts.append(svg.tag(
-            "g",
-            svg.title(tells_of(design, channel)),
-            cells_of(chip_map, channel, place + 1),
-            legend.line(place, channel),
-            way_of(chip_map, channel),
-            class_=f"c k{colours[channel.connection]}" + (" chosen" if chosen else ""), role="img", tabindex="0",
-        ))
-    return svg.tag("g", "\n".join(parts), **({} if chosen else {"id": "channels"}))
+        kind = f"c k{design.colours[channel.connection.name]}" + (" chosen" if chosen else "")
+        parts.append(
+            f'<g class="{kind}" role="img" tabindex="0">{tells}'
+            f"{cells_of(chip_map, channel.grant, channel.side, str(design.numbers[channel.connection.name]))}"
+            f"{legend.line(place, channel)}"
+            f'<path class="way" d="{way_of(chip_map, channel.grant.links)}"/></g>'
+        )
+        place += 1
+    if chosen:
+        return svg.tag("g", "\n".join(parts))
+    return svg.tag("g", "\n".join(parts), id="channels")
 
 
-def draw_passages(design, channels, top, width):
-    """A list of the links of each channel's path with the slots in which its flits enter them, and its lowest edge."""
+def draw_passages(design: Design, channels: Iterable[Channel], top: float, width: float) -> Part:
+    """A list of the links of each channel's path with the slots in which its flits enter them."""
     parts, y = [], top
     for channel in channels:
         parts.append(svg.label(f"{channel.name}, {channel.sender} to {channel.receiver}", 0, y, "bold", width))
         y += ROW
-        for link, slots in design.passages(channel):
-            taken = svg.count(len(slots), "slot").split(" ")[1] + " " + ", ".join(map(str, sorted(slots)))
+        for passage in passages(design.chip, channel.grant):
+            link, slots = passage.link, sorted(passage.slots)
+            taken = f"{svg.plural('slot', slots)} {', '.join(map(str, slots))}"
             parts.append(svg.label(f"{link.source}{ARROW}{link.target}", 8, y, None, 200))
             parts.append(svg.label(f"link {link.number}", 216, y, "less"))
             parts.append(svg.label(taken, 280, y, None, width - 280))
             y += ROW
         y += ROW // 2
-    return parts, y
+    return Part(parts, y)
 
 
-def summary(design):
+def summary(design: Design, use: str) -> list[str]:
     """What the picture shows, in sentences."""
-    used, slots = design.used_slots(), design.slots
+    chip, channels = design.chip, design.channels(use)
+    used, slots = used_slots(chip, (channel.grant for channel in channels)), chip.slots
     share = round(100 * sum(used) / (slots * len(used))) if used else 0
-    fullest = sorted(design.links, key=lambda link: (-used[link.number], link.number))[:4]
-    named = [f"{link.source} to {link.target} {used[link.number]}" for link in fullest if used[link.number]]
-    connections = len({channel.connection for channel in design.channels})
+    fullest = sorted(chip.links, key=lambda link: (-used[link.number], link.number))[:4]
+    named = [named_load(link, used[link.number]) for link in fullest if used[link.number]]
     parts = [
-        f"{svg.count(len(design.routers), 'router')}, {svg.count(len(design.interfaces), 'interface')} and "
-        f"{svg.count(len(used), 'link')} with {svg.count(slots, 'slot')} each; {svg.count(connections, 'connection')} "
-        f"with {svg.count(len(design.channels), 'channel')}. "
-        f"Of all slots {share} % are in use."
+        f"{svg.count(len(design.app.members[use]), 'connection')}, {svg.count(len(channels), 'channel')}. "
+        f"{share} % of the {svg.count(slots, 'slot')} of {svg.count(len(used), 'link')} are in use."
     ]
     if named:
-        parts.append(f"The fullest links, of {slots} slots: {', '.join(named)}.")
+        parts.append(f"The fullest links, of {svg.count(slots, 'slot')}: {', '.join(named)}.")
     return parts
 
 
-def reading(chip_map, chosen):
+def named_load(link: Link, used: int) -> str:
+    return f"link {link.number} ({link.source} to {link.target}) {used}"
+
+
+def reading(chip_map: ChipMap, chosen: bool) -> str:
     """How to read the picture."""
     strip = chip_map.strip
-    rows = f"in rows of {strip.row} " if strip.rows > 1 else ""
-    numbers = ", with its channel's number in the list" if strip.has_numbers else ""
-    grey = " Grey cells are those of channels that weren't chosen." if chosen else ""
+    rows = f", in rows of {strip.row}," if strip.rows > 1 else ""
+    numbers = ", with its number" if strip.has_numbers else ""
+    delays = " and its delay" if chip_map.has_delays else ""
+    grey = " Grey: channels that weren't chosen." if chosen else ""
     return (
-        f"Beside each link stands its table: slots 0 to {strip.slots - 1} {rows}from the left, and downwards where "
-        f"it is upright. A cell is a slot, in the colour of its connection{numbers}; it is full for a forward channel and "
-        f"lower for a back one.{grey} The more of a link is in use, the wider its line. The rate is in words in "
-        f"{svg.count(strip.slots, 'cycle')}, the buffer in words. The latency is in cycles: how much later than a steady "
-        "server of that rate a word lands at the most."
+        f"Beside each link: its slots 0 to {strip.slots - 1}{rows} and at their end its number{delays}. A cell has the colour of "
+        f"its connection{numbers}; it is full for a channel forward and lower for one back.{grey} The more is in use, the wider the line."
     )
 
 
-def sentences_of(told, reading_of_it):
-    """The sentences below the name of a picture: what it tells, and how it is read."""
-    return [(text, None) for text in told] + [(reading_of_it, "less")]
+LATENCY = "Latency: how much later than by a steady server of the rate a word lands at the most."
 
 
-def draw_head(lines, name, width):
-    """The name of the picture and the sentences below it, and how high they are."""
-    parts, y = [svg.label(name, MARGIN, MARGIN + 14, "head", width, 18)], MARGIN + 34
-    for sentence, kind in lines:
-        for text in svg.wrapped(sentence, min(width, MOST_WIDTH), 11):
-            parts.append(svg.label(text, MARGIN, y, kind))
-            y += 15
-        y += 4
-    return parts, y
+def map_of(design: Design) -> ChipMap:
+    """The map of a design, which is the same for all use cases."""
+    numbers = {design.numbers[grant.connection] for grant in design.plan.grants}
+    return ChipMap(design.chip, design.plan.cores_at(), Strip(design.chip.slots, sorted(numbers)))
 
 
-def draw_plan(design, chosen=()):
-    """The whole picture, as a text: of all channels, or of the chosen ones with all others in grey."""
-    chip_map = ChipMap(design)
+def draw_plan(
+    design: Design, use: str, chosen: Sequence[str] = (), chip_map: ChipMap | None = None, bare: bool = False
+) -> Picture:
+    """The whole picture: of all channels, or of the chosen ones, by name, with all others in grey. A bare one has neither
+    its name nor sentences above it."""
+    chip_map = chip_map or map_of(design)
     width = max(chip_map.width, LEAST_WIDTH)
-    told = summary(design)
-    head, top = draw_head(sentences_of(told, reading(chip_map, chosen)), f"Use case {design.use}", width)
-    legend = Legend(list(chosen) or design.channels, width, chip_map.height + 2 * MARGIN)
-    inner = [legend.head(), *chip_parts.draw_chip(chip_map), draw_channels(chip_map, legend, chosen)]
-    bottom = legend.bottom
+    channels = design.channels(use)
+    shown = [channel for channel in channels if not chosen or channel.name in chosen]
+    told = summary(design, use)
+    how = reading(chip_map, bool(chosen))
+    head = Part([], MARGIN - 8) if bare else svg.head(
+        f"Use case {use}", [*map(Sentence, told), Sentence(how, "less")], width
+    )
+    legend = Legend(design, shown, width, chip_map.height + 2 * MARGIN)
+    grants = [channel.grant for channel in channels]
+    inner = chip_parts.draw_chip(chip_map, grants, used_slots(design.chip, grants))
+    inner += [legend.head(), draw_channels(chip_map, design, use, legend, chosen)]
+    inner.append(svg.label(LATENCY, 0, legend.bottom + 4, "less", width))
+    bottom = legend.bottom + 4
     if chosen:
-        passages, bottom = draw_passages(design, chosen, bottom + 2 * ROW, width)
-        inner += passages
-    body = svg.tag("g", "\n" + "\n".join(inner) + "\n", transform=f"translate({MARGIN} {top + 8})")
-    height = top + 8 + bottom + MARGIN
-    parts = [chip_parts.definitions(chip_map), *head, body]
-    return svg.picture(width + 2 * MARGIN, height, f"Plan of use case {design.use}", " ".join(told), RULES, parts)
+        passed = draw_passages(design, shown, bottom + 2 * ROW, width)
+        inner += passed.elements
+        bottom = passed.bottom
+    body = svg.tag("g", "\n" + "\n".join(inner) + "\n", transform=f"translate({MARGIN} {svg.number(head.bottom + 8)})")
+    parts = [chip_parts.definitions(chip_map.strip), *head.elements, body]
+    height = head.bottom + 8 + bottom + MARGIN
+    return svg.picture(width + 2 * MARGIN, height, f"Plan of use case {use}", " ".join(told), RULES, parts)

@@ -1,24 +1,28 @@
-"""The picture of a refusal: the chip, and the links on which the paths of a refused channel came to an end.
-
-`aeth explain` prints **cuts**: links from a sender on, on which the slots that were still free don't suit the channel.
-Each path that it could take begins with one of them. The last link of a cut is the one at which it is too much.
+"""Owns the picture of a refusal: the chip as it was in the turn of a refused channel, the links on which its paths came to an
+end, and the channels that fill these.
 """
 from collections import defaultdict
 from dataclasses import dataclass
 
-from chip_map import ChipMap
+from allocation import State, in_the_way
+from cells import draw_cells
+from chip_map import ChipMap, Strip, sign_of
 import chip_parts
-from design import Design, group_of, numbers, read_links, read_toml, rows_of
-from plan_picture import ARROW, LEAST_WIDTH, MARGIN, ROW, draw_head, sentences_of
+from design import colours_of, numbers_of, passages
+from design_files import Application, Chip, Link
+from plan_picture import ARROW, LEAST_WIDTH, ROW
+from plan_texts import Grant
+from refusals import Ended, Trial
 import svg
+from svg import MARGIN, Part, Picture, Sentence
 
-MOST_TOLD = 12  # cuts in the title of a link
-COLUMN = 250  # of the list of links
-LEAST_ROWS = 8  # of the list, before a further column is begun
+MOST_LISTED = 40  # links of the list
+MOST_NAMED = 6  # channels of a link in the list
 
 RULES = """
 .big{font-size:12px}.core{fill:none;stroke-width:.6}.line,.full{marker-end:url(#tip)}
-.end-of{fill:none;stroke-width:2}
+.on{font-size:9px;text-anchor:middle;pointer-events:none}
+.end-of{fill:none;stroke-width:2}.target{fill:none;stroke-width:2;stroke-dasharray:5 3}
 .way{stroke-width:2;stroke-linejoin:round;visibility:hidden;pointer-events:none}
 .c:hover .way,.c:focus .way{visibility:visible}.c:hover .name,.c:focus .name{font-weight:bold}
 #links:hover .c:not(:hover),#links:focus-within .c:not(:focus):not(:hover){opacity:.15}
@@ -28,182 +32,242 @@ RULES = """
 
 @dataclass(frozen=True)
 class Refusal:
-    """A channel that was refused, with the cuts of its paths, and what it asked for."""
+    """A channel that was refused: what it asked for, the cuts of its paths, and what was granted before its turn."""
 
-    number: int  # from 1 on
+    chip: Chip
+    app: Application
+    trial: Trial
     among: int  # so many refusals
-    connection: str
-    group: int
-    side: str
-    turn: int
-    cuts: list  # of numbers of links
-    sender: str
-    receiver: str
-    uses: list  # of the group, those that have the connection
     need: int  # slots
-    latency: int
+    state: State
+    is_told: bool  # whether the grants before its turn are known
 
     @property
-    def name(self):
-        return f"{self.connection} {self.side}"
+    def name(self) -> str:
+        return f"{self.trial.unit.connection} {self.trial.unit.side}"
 
-    def by_last_link(self):
-        """The cuts by the link at which they end: those with most cuts first."""
-        cuts = defaultdict(list)
-        for cut in self.cuts:
-            cuts[cut[-1]].append(cut)
-        return sorted(cuts.items(), key=lambda found: (-len(found[1]), found[0]))
+    @property
+    def sender(self) -> str:
+        return self.app.connections[self.trial.unit.connection].sender(self.trial.unit.side)
 
+    @property
+    def receiver(self) -> str:
+        return self.app.connections[self.trial.unit.connection].receiver(self.trial.unit.side)
 
-def tries_of(text):
-    """The fields of each `try` line of a text of certificates, each with the cuts below it."""
-    tries = []
-    for line in text.splitlines():
-        word, *fields = line.split(" ")
-        if word == "try":
-            tries.append((fields, []))
-        elif word == "cut":
-            tries[-1][1].append(numbers(fields[0]))
-    return tries
+    @property
+    def uses(self) -> list[str]:
+        """The use cases of its group that have its connection."""
+        unit = self.trial.unit
+        return [use for use in self.app.uses_of(unit.group) if self.app.is_in(unit.connection, use)]
 
-
-def read_refusal(app_data, certificates, needs, number):
-    """The refusal of a number, from the texts that `aeth explain` and `aeth app` print; none where there are fewer."""
-    app, tries = read_toml(app_data), tries_of(certificates)
-    if number > len(tries):
-        return None
-    (connection, group, side, turn), cuts = tries[number - 1]
-    asked = next(asked for asked in app["connection"] if asked["name"] == connection)
-    ends = (asked["from"], asked["to"]) if side == "fwd" else (asked["to"], asked["from"])
-    uses = [
-        case["name"] for case in app["use"]
-        if connection in case["connections"] and group_of(case["name"], app) == int(group)
-    ]
-    need = next(row[1:] for row in rows_of(needs, "need") if row[0] == connection)[side == "back"]
-    wish = asked[side]["latency"]
-    return Refusal(number, len(tries), connection, int(group), side, int(turn), cuts, *ends, uses, int(need), wish)
+    @property
+    def latency(self) -> int:
+        return self.app.connections[self.trial.unit.connection].wish(self.trial.unit.side).latency
 
 
-def bare_design(chip_data, app_data):
-    """A chip with the cores that the application fixes, and without channels."""
-    chip, seats = read_toml(chip_data), {}
-    for core in read_toml(app_data)["core"]:
-        if "ni" in core:
-            seats.setdefault(core["ni"], []).append(core["name"])
-    return Design(chip["slots"], chip["routers"], chip["nis"], read_links(chip), seats, [], "")
+@dataclass(frozen=True)
+class Load:
+    """What takes the slots of a link: each channel with its slots there, the one with most first."""
+
+    channels: list[tuple[Grant, list[int]]]
+
+    @property
+    def used(self) -> int:
+        return len({slot for _, slots in self.channels for slot in slots})
 
 
-def draw_link(chip_map, link):
-    """A link's line, with its name where the line goes by corridors."""
-    lane = chip_map.lanes[link.number]
-    parts = [svg.tag("path", class_="line", d="M" + lane.route, stroke_width=1)]
-    if lane.apart:
-        parts.append(svg.label(f"{link.source}{ARROW}{link.target}", lane.left, lane.top - 3, "less", chip_map.room))
-    return svg.tag("g", svg.title(f"link {link.number}, {link.source} to {link.target}"), *parts)
+def loads_of(refusal: Refusal) -> dict[int, Load]:
+    """What takes the slots of each link which the refused channel can't have."""
+    found: dict[int, list[tuple[Grant, list[int]]]] = defaultdict(list)
+    for grant in in_the_way(refusal.app, refusal.state, refusal.trial.unit):
+        for passage in passages(refusal.chip, grant):
+            found[passage.link.number].append((grant, passage.slots))
+    return {
+        link: Load(sorted(channels, key=lambda one: (-len(one[1]), one[0].line))) for link, channels in found.items()
+    }
 
 
-def nodes_of(cut, links):
+def nodes_of(cut: tuple[int, ...], links: list[Link]) -> str:
     return ARROW.join([links[cut[0]].source] + [links[number].target for number in cut])
 
 
+def filled(load: Load | None, slots: int, most: int) -> str:
+    """How full a link is, and by which channels, in words."""
+    if load is None:
+        return f"0 of {svg.count(slots, 'slot')}"
+    named = [f"{grant.connection} {grant.side} {len(taken)}" for grant, taken in load.channels[:most]]
+    more = [f"and {len(load.channels) - most} more"] if len(load.channels) > most else []
+    return f"{load.used} of {svg.count(slots, 'slot')} by {', '.join(named + more)}"
+
+
 class EndedLinks:
-    """The links at which cuts end, on the map and in a list below it."""
+    """The links at which cuts end, on the map and in a list below it, each with the channels that fill it."""
 
-    def __init__(self, chip_map, refusal, width, top):
-        self.chip_map, self.links, self.refusal = chip_map, chip_map.design.links, refusal
-        self.ended = refusal.by_last_link()
-        columns = max(1, min(-(-len(self.ended) // LEAST_ROWS), int(width // COLUMN)))
-        self.rows = -(-len(self.ended) // columns)
-        self.top, self.bottom = top, top + (self.rows + 1) * ROW
+    def __init__(self, chip_map: ChipMap, refusal: Refusal, top: float) -> None:
+        self.chip_map, self.links, self.refusal = chip_map, refusal.chip.links, refusal
+        self.loads = loads_of(refusal)
+        self.order = refusal.trial.by_cuts
+        self.numbers = numbers_of(refusal.app)
+        self.colours = colours_of(refusal.state.grants, refusal.app)
+        self.listed = self.order[:MOST_LISTED]
+        self.top = top
+        self.bottom = top + (len(self.listed) + 1 + (len(self.order) > MOST_LISTED)) * ROW if self.order else top
 
-    def draw(self):
-        parts = [self.draw_one(place, number, cuts) for place, (number, cuts) in enumerate(self.ended)]
-        lefts = [column * COLUMN for column in range(-(-len(parts) // max(1, self.rows)))]
-        heads = [svg.label("cuts", left + 38, self.top, "less end") for left in lefts]
-        heads += [svg.label("last link", left + 46, self.top, "less") for left in lefts]
-        return [*heads, svg.tag("g", "\n".join(parts), id="links")] if parts else []
+    def draw(self, width: float) -> list[str]:
+        if not self.order:
+            return []
+        parts = [self.draw_one(place, number, width) for place, number in enumerate(self.order)]
+        heads = [("cuts", 38, "less end"), ("last link", 46, "less"), ("slots in use", 230, "less")]
+        rest = len(self.order) - len(self.listed)
+        last = [svg.label(f"{svg.count(rest, 'further link')} on the map", 46, self.bottom, "less")] if rest else []
+        texts = [svg.label(text, x, self.top, kind) for text, x, kind in heads]
+        return [*texts, *last, svg.tag("g", "\n".join(parts), id="links")]
 
-    def draw_one(self, place, number, cuts):
-        """One link with all cuts that end at it."""
-        lane, link = self.chip_map.lanes[number], self.links[number]
-        routes = ("L".join(self.chip_map.lanes[each].route for each in cut) for cut in cuts)
-        wide = 2.5 + 4.5 * len(cuts) / len(self.refusal.cuts)
+    def draw_one(self, place: int, number: int, width: float) -> str:
+        """One link with all cuts that end at it, and the cells of the channels that take its slots."""
+        lane, link, ended = self.chip_map.lanes[number], self.links[number], self.refusal.trial.ended[number]
+        wide = 2.5 + 4.5 * ended.cuts / self.refusal.trial.cuts
+        ways = "".join(f"M{self.chip_map.lanes[each].route}" for each in ended.links)
         return svg.tag(
             "g",
-            svg.title(self.tells(link, cuts)),
-            svg.tag("path", class_="full", d="M" + lane.route, stroke_width=wide),
-            svg.label(str(len(cuts)), lane.left, lane.top + 9, "bold"),
-            self.line(place, link, len(cuts)),
-            svg.tag("path", class_="way", d="".join(f"M{route}" for route in routes)),
+            svg.title(self.tells(link, ended)),
+            f'<path class="full" d="M{lane.route}" stroke-width="{svg.number(wide)}"/>',
+            self.cells(number),
+            self.line(place, link, ended.cuts, width) if place < len(self.listed) else "",
+            f'<path class="way" d="{ways}"/>',
             class_="c k0", role="img", tabindex="0",
         )
 
-    def tells(self, link, cuts):
-        told = [nodes_of(cut, self.links) for cut in cuts[:MOST_TOLD]]
-        if len(cuts) > MOST_TOLD:
-            told.append(f"and {len(cuts) - MOST_TOLD} more")
-        name = f"link {link.number}, {link.source} to {link.target}"
-        return f"{name}: {svg.count(len(cuts), 'cut')}: {'; '.join(told)}"
+    def cells(self, number: int) -> str:
+        load = self.loads.get(number)
+        return "".join(
+            f'<g class="k{self.colours[grant.connection]}">'
+            + draw_cells(
+                self.chip_map, [(number, slot) for slot in slots], grant.side, str(self.numbers[grant.connection])
+            ) + "</g>"
+            for grant, slots in (load.channels if load else [])
+        )
 
-    def line(self, place, link, cuts):
+    def tells(self, link: Link, ended: Ended) -> str:
+        told = [nodes_of(cut, self.links) for cut in ended.first]
+        if ended.cuts > len(ended.first):
+            told.append(f"and {ended.cuts - len(ended.first)} more")
+        load = f"; in use are {filled(self.loads.get(link.number), self.refusal.chip.slots, 99)}" if self.refusal.is_told else ""
+        name = f"link {link.number}, {link.source} to {link.target}"
+        return f"{name}: {svg.count(ended.cuts, 'cut')}: {'; '.join(told)}{load}"
+
+    def line(self, place: int, link: Link, cuts: int, width: float) -> str:
         """The link's line in the list."""
-        column, row = divmod(place, self.rows)
-        left, y = column * COLUMN, self.top + (row + 1) * ROW
+        y = self.top + (place + 1) * ROW
+        load = filled(self.loads.get(link.number), self.refusal.chip.slots, MOST_NAMED) if self.refusal.is_told else ""
         return "".join([
-            svg.tag("path", d=f"M{left} {y - 4}h14", stroke_width=8),
-            svg.label(str(cuts), left + 38, y, "end"),
-            svg.label(f"{link.source}{ARROW}{link.target}", left + 46, y, "name", 130),
-            svg.label(f"link {link.number}", left + 180, y, "less"),
+            f'<path d="M0 {svg.number(y - 4)}h14" stroke-width="8"/>',
+            svg.label(f"{cuts:,}", 38, y, "end"),
+            svg.label(f"{link.number}: {link.source}{ARROW}{link.target}", 46, y, "name", 178),
+            svg.label(load, 230, y, "less", width - 230),
         ])
 
 
-def draw_ends(chip_map, refusal):
-    """A thick frame around the interfaces at which the channel could begin."""
-    begins = {chip_map.design.links[cut[0]].source for cut in refusal.cuts}
+def draw_link(chip_map: ChipMap, link: Link, ended: Ended | None) -> str:
+    """A link's line, its table with no channel in it yet, and its number; the cuts that end at it stand there too."""
+    strip, lane = chip_map.strip, chip_map.lanes[link.number]
+    turn = f"matrix(0 1 1 0 {lane.left} {lane.top})" if lane.upright else f"translate({lane.left} {lane.top})"
+    told = "" if ended is None else f": {svg.count(ended.cuts, 'cut')}"
+    return svg.tag(
+        "g",
+        svg.title(f"link {link.number}, {link.source} to {link.target}"),
+        svg.tag("path", class_="line", d="M" + lane.route, stroke_width=1),
+        chip_parts.draw_sign(strip, link, lane, chip_map.room, told),
+        f'<use href="#table" transform="{turn}"/>',
+    )
+
+
+def draw_others(chip_map: ChipMap, refusal: Refusal) -> str:
+    """The cells of the channels that take slots which the refused channel can't have, in grey."""
+    grants = in_the_way(refusal.app, refusal.state, refusal.trial.unit)
+    cells: dict[str, list[tuple[int, int]]] = {"fwd": [], "back": []}
+    for grant in grants:
+        cells[grant.side] += [(p.link.number, slot) for p in passages(refusal.chip, grant) for slot in p.slots]
+    return svg.tag("g", *(draw_cells(chip_map, some, side) for side, some in cells.items()), class_="other")
+
+
+def draw_ends(chip_map: ChipMap, refusal: Refusal) -> list[str]:
+    """A thick frame around each interface at which the channel could begin, and a broken one around that of its receiver."""
+    begins = {refusal.chip.links[int(link)].source for link in refusal.trial.starts}
+    target = refusal.state.seat_of(refusal.receiver)
     parts = []
-    for interface in chip_map.design.interfaces:
-        if interface in begins:
-            left, top, width, height = chip_map.interface_box(interface)
-            parts.append(svg.tag("rect", class_="end-of line", x=left, y=top, width=width, height=height, rx=4))
+    for interface in refusal.chip.interfaces:
+        for kind, is_so in (("end-of line", interface in begins), ("target line", interface == target)):
+            if is_so:
+                box = chip_map.interface_box(interface)
+                more = 3 if kind == "target line" and interface in begins else 0
+                parts.append(svg.tag(
+                    "rect", class_=kind, x=box.left - more, y=box.top - more, width=box.width + 2 * more,
+                    height=box.height + 2 * more, rx=4,
+                ))
     return parts
 
 
-def summary(design, refusal):
+def seat_told(refusal: Refusal, core: str) -> str:
+    """Where a core sits, in words."""
+    seat = refusal.state.seat_of(core)
+    return f"{core} (at {seat})" if seat else f"{core} (without a seat yet)"
+
+
+def summary(refusal: Refusal) -> list[str]:
     """What was refused, in sentences."""
+    slots, trial = refusal.chip.slots, refusal.trial
     asked = (
-        f"Channel {refusal.name}, from {refusal.sender} to {refusal.receiver}, in {', '.join(refusal.uses)}. In turn "
-        f"{refusal.turn} it needed {refusal.need} of the {svg.count(design.slots, 'slot')} of each link on a path, for a latency "
-        f"of {svg.count(refusal.latency, 'cycle')} at most."
+        f"Channel {refusal.name}, from {seat_told(refusal, refusal.sender)} to {seat_told(refusal, refusal.receiver)}, in "
+        f"{', '.join(refusal.uses)}. In turn {trial.unit.turn} it needed {refusal.need} of the {svg.count(slots, 'slot')} of each "
+        f"link on a path, for a latency of {svg.count(refusal.latency, 'cycle')} at most."
     )
-    if not refusal.cuts:
+    if not trial.cuts:
         return [asked, "No path was left for it at all."]
-    one = "one cut" if len(refusal.cuts) == 1 else f"one of {len(refusal.cuts)} cuts"
+    one = "one cut" if trial.cuts == 1 else f"one of {trial.cuts:,} cuts"
     return [asked, (
         f"Each path that it could take begins with {one}: links from a sender on, on which the slots that earlier grants leave "
         "free are too few, or too far apart for the latency."
     )]
 
 
+def fullest(refusal: Refusal) -> str:
+    """Which links end most cuts and what fills them, in a sentence; an empty text where there is no cut."""
+    loads = loads_of(refusal) if refusal.is_told else {}
+    told = []
+    for number in refusal.trial.by_cuts[:3]:
+        link = refusal.chip.links[number]
+        load = f", in use are {filled(loads.get(number), refusal.chip.slots, MOST_NAMED)}" if refusal.is_told else ""
+        cuts = svg.count(refusal.trial.ended[number].cuts, "cut")
+        told.append(f"link {number} ({link.source} to {link.target}) ends {cuts}{load}")
+    return "; ".join(told)
+
+
 READING = (
-    "A coloured link is the last one of as many cuts as the number beside it tells; the more, the wider. In a browser these "
-    "cuts stand out where the pointer rests on it or on its line in the list. Frames are thick where the channel could begin. "
-    "The cores shown are those whose interface the application fixes."
+    "Coloured links end the cuts, the wider the more; their tables show what fills them. Grey cells are slots in use elsewhere. "
+    "Frames are thick where the channel could begin, and broken where its receiver sits."
 )
 
 
-def draw_refusal(chip_data, app_data, refusal):
-    """The whole picture, as a text."""
-    chip_map = ChipMap(bare_design(chip_data, app_data))
-    design, width = chip_map.design, max(chip_map.width, LEAST_WIDTH)
-    told = summary(design, refusal)
-    title = f"Refusal {refusal.number} of {refusal.among}"
-    head, top = draw_head(sentences_of(told, READING), title, width)
-    ended = EndedLinks(chip_map, refusal, width, chip_map.height + 2 * MARGIN)
-    inner = [draw_link(chip_map, link) for link in design.links]
-    inner += [chip_parts.draw_router(chip_map, router, f"router {router}") for router in design.routers]
-    inner += [chip_parts.draw_interface(chip_map, interface) for interface in design.interfaces]
-    inner += draw_ends(chip_map, refusal) + ended.draw()
-    body = svg.tag("g", "\n" + "\n".join(inner) + "\n", transform=f"translate({MARGIN} {top + 8})")
-    parts = [svg.tag("defs", chip_parts.TIP), *head, body]
-    height = top + 8 + ended.bottom + MARGIN
+def draw_refusal(refusal: Refusal, bare: bool = False) -> Picture:
+    """The whole picture. A bare one has neither its name nor sentences above it."""
+    numbers = sorted({numbers_of(refusal.app)[grant.connection] for grant in refusal.state.grants})
+    trial = refusal.trial
+    signs = [
+        f"{sign_of(link)}: {svg.count(trial.ended[link.number].cuts, 'cut')}"
+        for link in refusal.chip.links if link.number in trial.ended
+    ]
+    chip_map = ChipMap(refusal.chip, refusal.state.seats, Strip(refusal.chip.slots, numbers), signs)
+    width = max(chip_map.width, LEAST_WIDTH)
+    told = summary(refusal)
+    title = f"Refusal {trial.number} of {refusal.among}"
+    head = Part([], MARGIN - 8) if bare else svg.head(title, [*map(Sentence, told), Sentence(READING, "less")], width)
+    ended = EndedLinks(chip_map, refusal, chip_map.height + 2 * MARGIN)
+    inner = [draw_link(chip_map, link, trial.ended.get(link.number)) for link in refusal.chip.links]
+    inner += [chip_parts.draw_router(chip_map, router, f"router {router}") for router in refusal.chip.routers]
+    inner += [chip_parts.draw_interface(chip_map, interface) for interface in refusal.chip.interfaces]
+    inner += [draw_others(chip_map, refusal), *draw_ends(chip_map, refusal), *ended.draw(width)]
+    body = svg.tag("g", "\n" + "\n".join(inner) + "\n", transform=f"translate({MARGIN} {svg.number(head.bottom + 8)})")
+    parts = [chip_parts.definitions(chip_map.strip), *head.elements, body]
+    height = head.bottom + 8 + ended.bottom + MARGIN
     return svg.picture(width + 2 * MARGIN, height, f"{title}: {refusal.name}", " ".join(told), RULES, parts)

@@ -1,69 +1,107 @@
-"""The report of a design: one page with its verdict, its channels, and its pictures."""
-from design import read_design, read_toml
-from plan_picture import draw_plan
-from report_data import add_promises, add_run, lines_of
-from report_page import page
-from run_picture import draw_run
+"""Owns the report of a design: its verdict, and what stands on its page."""
+from collections.abc import Sequence
+
+from design import Design
+from design_files import Application, Chip
+from plan_picture import draw_plan, map_of, summary
+from plan_texts import RefusedUnit
+from progress import Progress
+from refusal_picture import Refusal, draw_refusal, fullest
+from refusal_picture import summary as told_of
+from report_data import Line, add_promises, add_refusals, add_run, lines_of
+from report_page import Report, Shown, Verdict, page
+from run_picture import broken_promises, draw_run
+from run_picture import summary as run_summary
+from runs import Run
+from svg import count, plural
+
+MOST_NAMED = 3  # channels in a sentence
 
 
-def counted(number, thing):
-    return f"{number:,} {thing}" if number == 1 else f"{number:,} {thing}s"
+def named(names: Sequence[str]) -> str:
+    """The first of some names, and whether there are more."""
+    return ", ".join(list(names[:MOST_NAMED]) + [".."] * (len(names) > MOST_NAMED))
 
 
-def outside_of(run):
+def outside_of(run: Run) -> str:
     """How many words came outside of all sessions, with the three channels that had most of them."""
     channels = sorted((channel for channel in run.channels if channel.outside), key=lambda channel: -channel.outside)
     if not channels:
         return ""
-    names = [f"{channel.connection} {channel.side}" for channel in channels[:3]] + [".."] * (len(channels) > 3)
-    words = counted(sum(channel.outside for channel in channels), "word")
-    return f"; {words} came outside of all sessions, of {', '.join(names)}"
+    words = count(sum(channel.outside for channel in channels), "word")
+    return f"; {words} came outside of all sessions, of {named([channel.name for channel in channels])}"
 
 
-def verdict_of(lines, refused, run):
-    """One line: whether everything is granted and, for a run, how many words were late or overdue."""
-    channels = counted(len(lines), "channel")
-    if refused:
-        return f"Not everything is granted: {counted(len(refused), 'unit')} refused.", False
-    tells = f"Everything is granted: {channels}."
-    if run is None:
-        return tells, True
-    landed, late = sum(line.landed for line in lines), sum(line.late for line in lines)
-    overdue, dropped = sum(line.overdue for line in lines), sum(line.dropped for line in lines)
-    tells += f" In {counted(run.cycles, 'cycle')} {counted(landed, 'word')} landed, {late:,} late"
-    tells += f", {overdue:,} overdue" if overdue else ""
-    tells += f"; {counted(dropped, 'word')} dropped in switches" if dropped else ""
-    return f"{tells}{outside_of(run)}.", not (late or overdue)
-
-
-def refusal(line, groups):
-    """A line `refused unit ..`, in words, with the use cases of its group."""
-    connection, group, side, turn = line.split(" ")[2:]
-    uses = ", ".join(use for use, number in groups.items() if number == int(group))
-    return (
-        f"Connection {connection} in group {group} ({uses}): its channel {side} had no admissible path with a suitable set of "
-        f"free slots, in turn {turn}."
+def late_of(lines: Sequence[Line]) -> Verdict:
+    """How many words were late or overdue, and whether a promise was broken or had ended before."""
+    late, overdue = sum(line.late for line in lines), sum(line.overdue for line in lines)
+    failed = sum(line.failed for line in lines)
+    told = f"{late:,} late" + (f", {overdue:,} overdue" if overdue else "")
+    if failed:
+        return Verdict(f"{told}, {failed:,} of them against a promise", "bad")
+    if not (late or overdue):
+        return Verdict(told, "good")
+    names = list(dict.fromkeys(line.name for line in lines if line.late or line.overdue))
+    return Verdict(
+        f"{told}, each after its receiver hadn't kept its delay, with which the promise ends: {plural('channel', names)} "
+        f"{named(names)}", "note",
     )
 
 
-def refused_report(title, chip, app, errors):
-    """The report of a design of which units are refused: what was refused, and what is wished."""
-    lines, groups = lines_of(read_toml(chip), read_toml(app))
-    refused = [refusal(line, groups) for line in errors.splitlines() if line.startswith("refused unit ")]
-    verdict, is_good = verdict_of(list(lines.values()), refused, None)
-    return page(title, verdict, is_good, refused, list(lines.values()), [], False)
+def verdict_of(lines: Sequence[Line], run: Run | None) -> Verdict:
+    """One line: how much is granted and, for a run, how many words were late or overdue."""
+    tells = f"Everything is granted: {count(len(lines), 'channel')}."
+    if run is None:
+        return Verdict(tells, "good")
+    landed, dropped, late = sum(line.landed for line in lines), sum(line.dropped for line in lines), late_of(lines)
+    tells += f" In {count(run.cycles, 'cycle')} {count(landed, 'word')} landed, {late.text}"
+    tells += f"; {count(dropped, 'word')} dropped in switches" if dropped else ""
+    return Verdict(f"{tells}{outside_of(run)}.", late.kind)
 
 
-def draw_report(title, chip, app, plan, tables, run=None):
-    """The page of a plan, with the text that `aeth tables` prints of each use case, and of a run."""
-    lines, groups = lines_of(read_toml(chip), read_toml(app))
-    add_promises(lines, groups, plan.decode("ascii"), tables)
+def refused_sentence(app: Application, unit: RefusedUnit, refusal: Refusal | None) -> str:
+    """A refused unit in words, with the use cases of its group, and which links were in its way."""
+    why = fullest(refusal) if refusal else ""
+    return (
+        f"Connection {unit.connection} in group {unit.group} ({', '.join(app.uses_of(unit.group))}): its channel {unit.side} had "
+        f"no admissible path with a suitable set of free slots, in turn {unit.turn}." + (f" What was in the way: {why}." if why else "")
+    )
+
+
+def refused_report(
+    title: str, chip: Chip, app: Application, units: Sequence[RefusedUnit], refusals: Sequence[Refusal], progress: Progress
+) -> str:
+    """The report of a design of which units are refused: which, why, and what is wished. The first refusals have pictures."""
+    lines = lines_of(app, chip.slots)
+    add_refusals(lines, units)
+    by_number = {refusal.trial.number: refusal for refusal in refusals}
+    sentences = [refused_sentence(app, unit, by_number.get(number)) for number, unit in enumerate(units, 1)]
+    pictures = []
+    for refusal in refusals:
+        number = refusal.trial.number
+        progress.say(f"picture of refusal {number} of {len(units)}")
+        name = f"Refusal {number} of {refusal.among}: {refusal.name}"
+        pictures.append(Shown(name, f"refusal-{number}", told_of(refusal), draw_refusal(refusal, bare=True)))
+    total = len({(line.key.connection, line.key.group) for line in lines.values()})
+    tells = f"Not everything is granted: {count(len(units), 'unit')} of {total:,} {'is' if len(units) == 1 else 'are'} refused."
+    return page(Report(title, Verdict(tells, "bad"), sentences, list(lines.values()), pictures, False))
+
+
+def draw_report(title: str, design: Design, run: Run | None, progress: Progress) -> str:
+    """The page of a plan, and of a run."""
+    lines = lines_of(design.app, design.chip.slots)
+    add_promises(lines, design)
     pictures = []
     if run:
-        add_run(lines, groups, run)
-        pictures.append(("The run", draw_run(run, [])))
-    for use, text in tables.items():
-        pictures.append((f"Use case {use}", draw_plan(read_design(chip, app, plan, use, text), [])))
+        progress.say("picture of the run")
+        add_run(lines, run)
+        told = [run_summary(run, run.channels), *broken_promises(run.channels)]
+        pictures.append(Shown("The run", "run", told, draw_run(run, bare=True)))
+    chip_map = map_of(design)
+    for place, use in enumerate(design.app.uses, 1):
+        progress.say(f"picture of use case {place} of {len(design.app.uses)}")
+        picture = draw_plan(design, use, chip_map=chip_map, bare=True)
+        pictures.append(Shown(f"Use case {use}", f"use-{use}", summary(design, use), picture))
     rows = list(lines.values())
-    verdict, is_good = verdict_of(rows, [], run)
-    return page(title, verdict, is_good, [], rows, pictures, run is not None)
+    progress.say("the page")
+    return page(Report(title, verdict_of(rows, run), [], rows, pictures, run is not None))

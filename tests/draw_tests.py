@@ -11,9 +11,10 @@ import unittest
 import xml.etree.ElementTree as xml
 
 from chips import app, chip, grid
-from design import Link
+from design_files import Link
 from home import Home, PROGRAM, TOP
 from placing import place_routers
+from sessions import Receiver
 import toml_lines
 
 EXAMPLES = TOP / "examples"
@@ -139,7 +140,7 @@ class Plans(WithProgram):
                 for row in rows:
                     name = f"{row[6]} {row[7]}"
                     title = next(t for t in shown if t.startswith(f"{name}, "))
-                    self.assertIn(f"{row[8]} words in", title)
+                    self.assertIn(f"({row[8]} in ", title)
                     self.assertIn(f"latency {row[9]} cycles, buffer {row[5]} words", title)
                     self.assertEqual(self.cells(root, f"{name},"), cells[name] * starts[name])
 
@@ -162,11 +163,11 @@ class Plans(WithProgram):
         ends = [(k, (k + 5) % 16) for k in range(16)]
         files = self.made("many", chip(*grid(4, 4, False), 64), app(16, ends))
         root = read(self.draw("plan", *files, "main"))
-        for place, title in enumerate(t for t in texts(root, "title") if re.match(r"c\d+ (fwd|back), ", t)):
+        for title in [t for t in texts(root, "title") if re.match(r"c\d+ (fwd|back), ", t)]:
             group = next(e for e in root.iter() if e.get("role") == "img" and texts(e, "title")[0] == title)
             cells = next(e for e in group if tag(e) == "path").get("d").count("M")
             numbers = [e.text for e in group if e.get("class") == "on"]
-            self.assertEqual(numbers, [str(place + 1)] * cells)
+            self.assertEqual(numbers, [re.match(r"c(\d+)", title)[1]] * cells)
 
     def test_links_of_a_torus_go_beside_the_tables(self):
         ends = [(0, 2), (1, 7), (3, 5), (6, 0), (8, 4), (2, 8), (4, 1)]
@@ -190,6 +191,48 @@ class Plans(WithProgram):
             for left, top, right, bottom in strips:
                 apart = max(x0, x1) <= left or min(x0, x1) >= right or max(y0, y1) <= top or min(y0, y1) >= bottom
                 self.assertTrue(apart, (x0, y0, x1, y1))
+
+    def test_routers_that_arent_joined(self):
+        """The pair without the two links between its routers."""
+        lines = (EXAMPLES / "pair.toml").read_text().splitlines(keepends=True)
+        the_chip = self.home.put("apart.toml", "".join(line for line in lines if '"r0", to = "r1"' not in line))
+        self.assertIn("routers 2 nis 2 links 4", self.aeth("chip", the_chip))
+        the_app = self.home.put("near.toml", app(2, [(0, 1)]).replace('"n1"', '"n0"'))
+        empty = self.home.put("empty.plan", "")
+        plan = self.home.put("apart.plan", self.aeth("allocate", the_chip, the_app))
+        root = read(self.draw("plan", the_chip, the_app, plan, "main"))
+        lefts = [float(e.get("x")) for e in root.iter() if e.get("class") == "bold mid big"]
+        self.assertEqual(len(set(lefts)), 2)
+        self.assertEqual(self.home.draw("report", the_chip, the_app, plan)[::2], (0, ""))
+        self.assertEqual(self.home.draw("report", the_chip, "examples/one.toml", empty)[::2], (0, ""))
+        self.assertIn("No path was left for it at all.", texts(read(self.draw("refusal", the_chip, "examples/one.toml"))))
+
+    def test_links_have_their_numbers_at_their_tables(self):
+        """And their delays: `wide.toml` has a link on which a flit takes 2 cycles."""
+        plan = self.home.put("wide.plan", self.aeth("allocate", "examples/wide.toml", PAIR[1]))
+        root = read(self.draw("plan", "examples/wide.toml", PAIR[1], plan, "u1"))
+        links = tomllib.loads((EXAMPLES / "wide.toml").read_text())["link"]
+        signs = [e.text for e in root.iter() if e.get("class") == "less small"]
+        told = [f"{number}, {link['delay']} cycles" if link.get("delay", 1) > 1 else str(number) for number, link in enumerate(links)]
+        self.assertEqual(sorted(signs), sorted(told))
+
+    def test_colours_and_numbers_are_those_of_the_application(self):
+        """In `decode` and in `menu`, between which a switch is smooth, and in `record`."""
+        shown = {}
+        for use in ("decode", "menu", "record"):
+            for group in read(self.draw("plan", *VIDEO, use)).iter():
+                if re.fullmatch(r"c k\d", group.get("class", "")):
+                    name = texts(group, "title")[0].split(" ")[0]
+                    number = next(e.text for e in group if e.get("class") == "less end")
+                    self.assertEqual(shown.setdefault(name, (group.get("class"), number)), (group.get("class"), number))
+        names = [one["name"] for one in tomllib.loads((EXAMPLES / "video.toml").read_text())["connection"]]
+        self.assertEqual({name: int(number) for name, (_, number) in shown.items()}, {name: at for at, name in enumerate(names)})
+
+    def test_few_lines_stand_above_a_picture(self):
+        for picture in (self.draw("plan", *VIDEO, "decode"), self.draw("run", *VIDEO_RUN, "900")):
+            root = read(picture)
+            above = [e for e in root if tag(e) == "text" and float(e.get("y")) > 45 and e.get("class") == "less" and float(e.get("x")) == 24]
+            self.assertLessEqual(len([e for e in above if float(e.get("y")) < 140]), 3)
 
     def test_width(self):
         root = read(self.draw("plan", *VIDEO, "decode"))
@@ -226,8 +269,8 @@ class Runs(WithProgram):
             self.assertEqual(shown[channel], rest, channel)
             total.update(rest._asdict() | {"outside": 0})
         told = " ".join(texts(root))
-        self.assertIn(f"{total['landed']} landed, {total['late']} of them late; {total['overdue']} overdue", told)
-        self.assertIn(f"{total['dropped']} dropped; {total['outside']} offered outside", told)
+        self.assertIn(f"{total['landed']:,} landed, {total['late']:,} of them late; {total['overdue']:,} overdue", told)
+        self.assertIn(f"{total['dropped']:,} dropped; {total['outside']:,} offered outside", told)
         return shown
 
     def overdue(self, rows, dues, cycles):
@@ -271,6 +314,96 @@ class Runs(WithProgram):
         root = read(self.draw("run", *PAIR_RUN, "24"))
         lane = next(e for e in root.iter() if e.get("class") == "lane")
         self.assertEqual(texts(lane)[:3], ["c0 fwd", "14", "4"])
+
+
+class Promises(WithProgram):
+    """What a promise covers, and what it doesn't."""
+
+    def log(self, name, words, receivers, switches, cycles):
+        """The design of two connections of a core, one within its interface and one over a longer path, and a run of it."""
+        conn = (
+            '[[connection]]\nname = "{}"\nfrom = "cpu"\nto = "{}"\nfwd = {{words = 1, per = 4, latency = 40, delay = 3}}\n'
+            "back = {{words = 0, per = 1, latency = 40, delay = 0}}\n"
+        )
+        the_app = self.home.put(f"{name}.app", (
+            'version = 1\ndetour = 0\ncore = [{name = "cpu", ni = "n0"}, {name = "dsp", ni = "n0"}, {name = "mem", ni = "n1"}]\n'
+            + conn.format("near", "dsp") + conn.format("far", "mem")
+            + '[[use]]\nname = "work"\nconnections = ["near", "far"]\n[[use]]\nname = "rest"\nconnections = []\n'
+        ))
+        # Near goes over 2 links, in slot 0 of 8: latency 5, rate 2. Far goes over 3 links.
+        plan = self.home.put(f"{name}.plan", (
+            "plan 1 8\nseat cpu n0 0\nseat dsp n0 1\nseat mem n1 0\ngrant near 0 fwd 0,1 0\ngrant near 0 back 0,1 1\n"
+            "grant far 0 fwd 0,4,3 2\ngrant far 0 back 2,5,1 1\nend\n"
+        ))
+        files = [
+            self.home.put(f"{name}.words", "connection,side,cycle,value\n" + words),
+            self.home.put(f"{name}.pulls", "connection,side,cycle,pull\n" + receivers),
+            self.home.put(f"{name}.switches", "cycle,use,drain\n0,work,0\n" + switches),
+        ]
+        return (PAIR[0], the_app, plan, *files, cycles)
+
+    def shown(self, run):
+        """The title of the lane of `near` forward, and its numbers."""
+        title = next(t for t in texts(read(self.draw("run", *run)), "title") if t.startswith("near fwd: "))
+        return title, rest_of(title)
+
+    def test_a_closing_session_promises_up_to_the_landing_of_its_last_flit(self):
+        """A word of cycle 1 would be sent in cycle 8, and is due in cycle 10. A switch in cycle 8 stops the channel, so that its
+        last flit has landed 2 cycles later, and the word isn't promised; what it closes is finished in cycle 11, since the
+        other channel has 3 links."""
+        run = self.log("close", "near,fwd,1,7\n", "", "8,rest,0\n", "40")
+        log = self.aeth("simulate", *run)
+        self.assertIn("chan near fwd 0 ended 1 0 0\ndrop 1 0\n", log)
+        self.assertEqual(self.shown(run)[1], Rest(1, 0, 0, 0, 1, 0))
+        page = self.home.draw("report", *run)[1]
+        self.assertIn('class="verdict good">Everything is granted: 4 channels. In 40 cycles 0 words landed, 0 late;', page)
+
+    def test_late_words_of_a_receiver_that_takes_nothing(self):
+        """The buffer of `near` is full when nothing is taken from cycle 20 on. The first word after that lands in cycle 26; 3
+        cycles later it isn't taken, and the promise ends."""
+        words = "".join(f"near,fwd,{cycle},0\n" for cycle in range(0, 100, 4))
+        run = self.log("stall", words, "near,fwd,20,0\n", "", "200")
+        log = lines_of(self.aeth("simulate", *run))["near fwd"]
+        after = min(int(fields[2]) for word, fields in log if word == "land" and int(fields[2]) >= 20)
+        title, rest = self.shown(run)
+        self.assertGreater(rest.overdue, 0)
+        self.assertIn(
+            f"; in cycle {after + 3} its receiver hadn't taken a word within its delay of 3 cycles, so that the promise ended there",
+            title,
+        )
+        page = self.home.draw("report", *run)[1]
+        self.assertRegex(page, r'class="verdict note">.*each after its receiver hadn.*t kept its delay.* near fwd')
+
+    def test_no_promise_is_broken_where_receivers_keep_their_delays(self):
+        """Whatever switches cut off."""
+        for drain in (0, 3, 17):
+            switches = self.home.put("cut.csv", f"cycle,use,drain\n0,decode,0\n{500 + drain},menu,{drain}\n1200,record,{drain}\n")
+            free = self.home.put("free.csv", "connection,side,cycle,pull\n")
+            page = self.home.draw("report", *VIDEO_RUN[:4], free, switches, "2000")[1]
+            self.assertRegex(page, r'class="verdict good">[^<]* 0 late[;.]')
+
+
+class Receivers(unittest.TestCase):
+    """When a receiver takes its words, by hand."""
+
+    def test_takes(self):
+        for cycles, pulls, landings, takes in (
+            ([], [], [3, 3, 3, 4], [3, 3, 4, 4]),
+            ([0], [1], [3, 3, 3, 9], [3, 4, 5, 9]),
+            ([0], [0], [3, 3], [None, None]),
+            ([0, 6], [0, 1], [3, 3], [6, 7]),
+            ([4, 4, 8], [0, 1, 0], [3, 3, 3, 4, 4, 4, 4, 7], [3, 3, 4, 5, 6, 7, None, None]),
+            ([5, 9], [0, 3], [4, 5, 6, 8, 8], [4, 9, 9, 9, 10]),
+        ):
+            receiver = Receiver(cycles, pulls)
+            self.assertEqual(list(receiver.takes(landings)), takes)
+
+    def test_a_promise_ends_where_a_word_isnt_taken_within_the_delay(self):
+        receiver = Receiver([0, 6], [0, 1])
+        self.assertEqual(receiver.broken_from([3, 3, 8], 4), None)
+        self.assertEqual(receiver.broken_from([3, 3, 8], 3), 6)
+        self.assertEqual(receiver.broken_from([3, 8, 8], 0), 3)
+        self.assertEqual(Receiver([0], [0]).broken_from([5], 9), 14)
 
 
 class Inputs(WithProgram):
@@ -321,21 +454,29 @@ class Inputs(WithProgram):
         for words in ((), ("nosuch",), ("plan", *PAIR), ("plan", *PAIR, "u1", "c0", "up"), ("run", *PAIR_RUN)):
             status, out, said = self.home.draw(*words)
             self.assertEqual((status, out), (1, ""))
-            self.assertTrue(said.startswith("usage: draw plan"))
+            self.assertRegex(said, r"\Adraw: .*; `\./draw help` tells more\n\Z")
         self.assertIn("draw: `nosuch` is none of plan, run,", self.home.draw("nosuch")[2])
-        self.assertIn("draw: `up` is no side: fwd or back\n", self.home.draw("plan", *PAIR, "u1", "c0", "up")[2])
-        self.assertIn("draw: wave takes 7 words, not 1\n", self.home.draw("wave", "chip.toml")[2])
+        self.assertIn("draw: `up` is no side: fwd or back;", self.home.draw("plan", *PAIR, "u1", "c0", "up")[2])
+        self.assertIn("draw: wave takes 7 words, not 1;", self.home.draw("wave", "chip.toml")[2])
+
+    def test_a_page_for_each_kind(self):
+        for kind in ("plan", "run", "report", "refusal", "wave"):
+            for words in ((kind, "--help"), (kind, *PAIR, "-h")):
+                status, page, said = self.home.draw(*words)
+                self.assertEqual((status, said), (0, ""))
+                self.assertEqual(re.findall(r"^draw (\w+) ", page, re.M), [kind])
+            self.assertEqual(self.home.draw("help", kind)[1], page)
 
     def test_what_cant_be_written(self):
         with open("/dev/full", "wb") as full:
             for words in (("plan", *PAIR, "u1"), ("help",)):
                 status, _, said = self.home.draw(*words, out=full)
-                self.assertEqual((status, said), (5, "draw: the picture can't be written: No space left on device\n"))
+                self.assertEqual((status, said), (5, "draw: what was asked for can't be written: No space left on device\n"))
         ours, theirs = os.pipe()
         os.close(ours)
         status, _, said = self.home.draw("plan", *PAIR, "u1", out=theirs)
         os.close(theirs)
-        self.assertEqual((status, said), (5, "draw: the picture can't be written: Broken pipe\n"))
+        self.assertEqual((status, said), (5, "draw: what was asked for can't be written: Broken pipe\n"))
 
     def test_closed_streams(self):
         for streams, status in ((">&-", 5), (">/dev/full 2>&-", 5), ("<&- >/dev/null", 0)):
@@ -374,6 +515,21 @@ class Places(unittest.TestCase):
             places = self.shuffled(routers, pairs)
             far = [sum(abs(a - b) for a, b in zip(places[one], places[other])) for one, other in pairs]
             self.assertLessEqual(sum(d > 1 for d in far), many % 2)
+
+    def test_parts_that_arent_joined_stand_beside_each_other(self):
+        for routers, pairs in (
+            (["r0", "r1"], []),
+            ([f"r{k}" for k in range(9)], [("r0", "r1"), ("r2", "r3"), ("r3", "r4"), ("r4", "r2"), ("r5", "r6"), ("r6", "r7")]),
+            ([f"{one}{k}" for k in range(9) for one in "ab"], [
+                (f"{one}{k}", f"{one}{k + step}") for one in "ab" for step in (1, 3) for k in range(9) if k + step < 9 and (step == 3 or k % 3 < 2)
+            ]),
+        ):
+            places = self.places(routers, pairs)
+            self.assertEqual(set(places), set(routers))
+            self.assertEqual(len(set(places.values())), len(routers))
+            self.assertEqual(min(places.values()), (0, 0))
+        far = [abs(places[one][0] - places[other][0]) + abs(places[one][1] - places[other][1]) for one, other in pairs]
+        self.assertEqual(set(far), {1})
 
     def test_any_other_chip(self):
         chance = random.Random(1)

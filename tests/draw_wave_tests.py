@@ -1,11 +1,15 @@
 """Tests of `./draw wave`: the form of its dumps, and their values against the log of the links."""
 from collections import defaultdict
 import re
+import subprocess
 import unittest
 
 from chips import chip
-from design import Link, rows_of
+from design_files import Link, read_application, read_chip
 from draw_tests import EXAMPLES, VIDEO_RUN, WithProgram
+from home import TOP
+from plan_texts import read_plan, rows_of
+from run_texts import read_flits
 from waveform import draw_wave, identifier, scope_names
 
 ONE = ("examples/pair.toml", "examples/one.toml", "examples/one.plan")
@@ -85,12 +89,18 @@ def rows_in(log):
     return [tuple(map(int, line.split(","))) for line in log.splitlines()[1:]]
 
 
+def dump_of(the_chip, the_app, plan, log, cycles):
+    """The dump of the bytes of three files, and of the text of a log."""
+    files = read_chip(the_chip), read_application(the_app), read_plan(plan)
+    return draw_wave(*files, read_flits(log.encode()), cycles)
+
+
 class Dumps(unittest.TestCase):
     """Of logs that stand here, without the program."""
 
     def dump(self, log, cycles, the_app="one.toml", plan=None):
         the_chip, the_app = [(EXAMPLES / file).read_bytes() for file in ("pair.toml", the_app)]
-        return Dump(draw_wave(the_chip, the_app, plan or (EXAMPLES / "one.plan").read_bytes(), log, cycles))
+        return Dump(dump_of(the_chip, the_app, plan or (EXAMPLES / "one.plan").read_bytes(), log, cycles))
 
     def test_the_worked_run(self):
         log = (EXAMPLES / "one.links.csv").read_text()
@@ -107,7 +117,7 @@ class Dumps(unittest.TestCase):
 
     def test_signals_of_the_example_for_a_viewer(self):
         files = [(EXAMPLES / name).read_bytes() for name in ("mesh.toml", "video.toml")]
-        scopes = Dump(draw_wave(*files, b"plan 1 64\nend\n", HEAD, 9)).scopes
+        scopes = Dump(dump_of(*files, b"plan 1 64\nend\n", HEAD, 9)).scopes
         shown = re.findall(r"^links\.(\w+)\.(\w+)(?:\[31:0\])?$", (EXAMPLES / "video.gtkw").read_text(), re.M)
         self.assertEqual(len(shown), 16)
         for scope, field in shown:
@@ -126,6 +136,17 @@ class Dumps(unittest.TestCase):
             dump = self.dump(HEAD + log, cycles)
             self.assertEqual([row[:5] for row in dump.rows()], rows_in(HEAD + log))
             self.assertEqual([time for time, _ in dump.states], times, log)
+
+    def test_readme_lays_a_dump_beside_that_of_a_design(self):
+        """Each time is shifted, that of cycle 0 too: its flit enters where the design's cycle 0 begins."""
+        command = re.search(r"^(awk -v start=.*?) video\.vcd > beside\.vcd$", (TOP / "README.md").read_text(), re.M | re.S)[1]
+        start, period = (int(re.search(rf"{name}=(\d+)", command)[1]) for name in ("start", "period"))
+        files = [(EXAMPLES / name).read_bytes() for name in ("pair.toml", "one.toml", "one.plan")]
+        dump = dump_of(*files, HEAD + "0,0,2147483649,1,2\n3,0,2147483649,3,4\n", 9)
+        beside = subprocess.run(["sh", "-c", command], input=dump, capture_output=True, text=True, check=True).stdout
+        times = [int(line[1:]) for line in beside.splitlines() if line.startswith("#")]
+        self.assertEqual(times, [start + period * cycle for cycle in (0, 1, 3, 4, 9)])
+        self.assertEqual(re.sub(r"^#\d+$", "#", beside, flags=re.M).replace("1 ps", "1 ns"), re.sub(r"^#\d+$", "#", dump, flags=re.M))
 
     def test_channels_by_queue_and_end(self):
         """Two cores of one connection each at `n0`, on seats 0 and 2, and one of both at `n1`."""

@@ -43,7 +43,7 @@ class Home:
         self.room = pathlib.Path(tempfile.mkdtemp(prefix="aeth-tests-"))
         self.top, self.builds = self.room / name, self.room / "builds"
         self.top.mkdir()
-        for name in ("aeth", "aeth.d", "draw", "draw.d", "design", "design.d", "common.d", "examples", "docs"):
+        for name in ("aeth", "aeth.d", "draw", "draw.d", "design", "design.d", "common.d", "rtl", "examples", "docs"):
             copy = shutil.copytree if (TOP / name).is_dir() else shutil.copy2
             copy(TOP / name, self.top / name)
         self.put("HANDLES", "Handles allowed: none.\n")
