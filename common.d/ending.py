@@ -143,6 +143,4 @@ def ended(script: str, work: Callable[[list[str]], Result], words: list[str]) ->
 
 def end(script: str, work: Callable[[list[str]], Result]) -> None:
     """Runs a script with the words of its command line, and ends the process."""
-    status = ended(script, work, sys.argv[1:])
-    sys.stdout = sys.stderr = None  # type: ignore[assignment]  # all is written: nothing is left to fail
-    sys.exit(status)
+    os._exit(ended(script, work, sys.argv[1:]))  # all is written: nothing is left that may fail

@@ -1,19 +1,46 @@
-"""Chip and application files: what they say, and texts that say the same."""
-from pathlib import Path
+"""A chip and an application that `aeth` has judged, and texts of TOML that say what such files do."""
+from dataclasses import dataclass
+from functools import cached_property
+from typing import Any
 import json
-import sys
 
-sys.path.insert(0, str(Path(__file__).resolve().parent.parent / "draw.d"))
-import toml_lines  # noqa: E402: its folder is told above
-from design import group_of  # noqa: E402
-from runs import Switching  # noqa: E402, F401
+from design_files import Application, Chip, application_of, chip_of, tree_of
+from program import Input, text_of as printed
+from toml_lines import Tree
 
 
-def read(path):
-    return toml_lines.read(Path(path).read_bytes())[0]
+@dataclass(frozen=True)
+class Files:
+    """The files of a chip and of an application, which `aeth` accepts, and what they say."""
+
+    chip_file: Input
+    app_file: Input
+
+    @cached_property
+    def chip_tree(self) -> Tree:
+        return tree_of(self.chip_file.data)
+
+    @cached_property
+    def app_tree(self) -> Tree:
+        return tree_of(self.app_file.data)
+
+    @cached_property
+    def chip(self) -> Chip:
+        return chip_of(self.chip_tree)
+
+    @cached_property
+    def app(self) -> Application:
+        return application_of(self.app_tree)
 
 
-def spelled(value):
+def judged(chip: str, app: str) -> Files:
+    """The files of two paths, where `aeth` accepts them: else the script ends as it does."""
+    files = Files(Input(chip), Input(app))
+    printed("app", files.chip_file, files.app_file)
+    return files
+
+
+def spelled(value: Any) -> str:
     """A value in TOML, on one line."""
     if isinstance(value, dict):
         return "{" + ", ".join(f"{key} = {spelled(inner)}" for key, inner in value.items()) + "}"
@@ -22,7 +49,7 @@ def spelled(value):
     return json.dumps(value, ensure_ascii=False)
 
 
-def text_of(root):
+def text_of(root: Tree) -> str:
     """A file that says what these keys and values do: tables of an array in a line each."""
     lines = []
     for key, value in root.items():
@@ -31,13 +58,3 @@ def text_of(root):
         else:
             lines.append(f"{key} = {spelled(value)}\n")
     return "".join(lines)
-
-
-def groups_of(app):
-    """The number of each use case's group."""
-    return {case["name"]: group_of(case["name"], app) for case in app["use"]}
-
-
-def rows_of(text, word):
-    """The fields after `word` of the lines that begin with it."""
-    return [line.split(" ")[1:] for line in text.splitlines() if line.split(" ")[0] == word]

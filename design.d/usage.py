@@ -1,5 +1,8 @@
 """Which word of a command can't be right, where `aeth` answers `usage`."""
+from collections.abc import Sequence
 import re
+
+from ending import printable, shortened
 
 WORDS = {
     "slots": "SIZE NEED GAP FREE",
@@ -28,29 +31,30 @@ MOST_WORK = 4_096
 NAME = "[a-z0-9_]{1,32}"
 
 
-def number(word):
+def number(word: str) -> int | None:
     """What a word of plain decimals says, or none."""
     return int(word) if re.fullmatch("0|[1-9][0-9]{0,9}", word) else None
 
 
-def wrong_number(command, name, word):
+def wrong_number(command: str, name: str, word: str) -> str | None:
     low, high = NUMBERS[name]
     if (command, name) == ("links", "CYCLES"):
         high = MOST_CYCLES_OF_LINKS
-    if number(word) is None:
+    found = number(word)
+    if found is None:
         return f"a number from {low} to {high:,}, in digits alone and without a 0 at the front"
-    return None if low <= number(word) <= high else f"{low} to {high:,}"
+    return None if low <= found <= high else f"{low} to {high:,}"
 
 
-def wrong_slots(word, size):
+def wrong_slots(word: str, size: int) -> str | None:
     """What is wrong with a list of slots of a table."""
-    slots = [] if word == "-" else [number(part) for part in word.split(",")]
-    if None not in slots and slots == sorted(set(slots)) and all(slot < size for slot in slots):
+    slots = [] if word == "-" else [size if slot is None else slot for slot in map(number, word.split(","))]
+    if slots == sorted(set(slots)) and all(slot < size for slot in slots):
         return None
     return f"a rising list of slots below {size} with commas, or - for none"
 
 
-def wrong_chain(word):
+def wrong_chain(word: str) -> str | None:
     """What is wrong with a chain."""
     *items, last = [item.split(":") for item in word.split(",")]
     ends = all(re.fullmatch(NAME, item[0]) and item[1:2] in (["fwd"], ["back"]) for item in (*items, last))
@@ -60,7 +64,7 @@ def wrong_chain(word):
     return f"1 to {MOST_ITEMS} items CONN:SIDE:WORK with commas, the last one CONN:SIDE, with WORK from 1 to {MOST_WORK:,}"
 
 
-def wrong_word(command, name, word, words):
+def wrong_word(command: str, name: str, word: str, words: dict[str, str]) -> str | None:
     """What a word has to be, where it isn't so."""
     if name in NUMBERS:
         return wrong_number(command, name, word)
@@ -73,12 +77,17 @@ def wrong_word(command, name, word, words):
     return None if word else "the path of a file"
 
 
-def usage(words):
+def shown(word: str) -> str:
+    """A word as it can be shown."""
+    return shortened(printable(word))
+
+
+def usage(words: Sequence[str]) -> list[str]:
     """The first word that can't be right, or their number, and the page that tells more."""
     if not words or words[0] not in WORDS:
-        named = f"There is no command `{words[0]}`" if words and words[0] != "help" else "These words are no command"
+        named = f"There is no command `{shown(words[0])}`" if words and words[0] != "help" else "These words are no command"
         return [f"{named}: `./aeth help` lists them."]
-    command, given = words[0], [str(word) for word in words[1:]]
+    command, given = words[0], words[1:]
     names = WORDS[command].split(" ")
     page = f"`./aeth help {command}` tells more."
     if not sum(name[0] != "[" for name in names) <= len(given) <= len(names):
@@ -89,5 +98,5 @@ def usage(words):
     for name, word in by_name.items():
         wrong = wrong_word(command, name, word, by_name)
         if wrong:
-            return [f"{name} is `{word}`, and must be {wrong}. {page}"]
+            return [f"{name} is `{shown(word)}`, and must be {wrong}. {page}"]
     return [f"A word isn't as `{command}` has it: {page}"]

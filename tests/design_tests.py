@@ -13,6 +13,8 @@ from home import Home, PROGRAM, TOP
 
 sys.path.append(str(TOP / "design.d"))
 import files  # noqa: E402: its folder is told above
+import given  # noqa: E402
+import rules  # noqa: E402
 import toml_lines  # noqa: E402
 import usage  # noqa: E402
 import where  # noqa: E402
@@ -31,6 +33,7 @@ class Designs(unittest.TestCase):
     @classmethod
     def setUpClass(cls):
         cls.home = Home(PROGRAM)
+        cls.home.run("slots", "1", "1", "1", "0")  # it is built, and says so, in the first call
 
     @classmethod
     def tearDownClass(cls):
@@ -232,10 +235,11 @@ class Traces(Designs):
              "these switches are 30 cycles apart, and each takes its drain of 31 and more"),
             (("words", *self.FILES, "decode", "1000001"), "a run has 1 to 1,000,000 cycles"),
             (("receivers", *self.FILES, "menu", "9", "--stall", "vin_mem,fwd,0"), "no channel vin_mem fwd is in menu"),
-            (("words", *self.FILES, "./none", "9"), "./none: No such file or directory"),
         ):
             with self.subTest(words=words):
                 self.assertEqual(self.run_script("design", *words), (1, "", f"design: {tells}\n"))
+        unread = self.run_script("design", "words", *self.FILES, "./none", "9")
+        self.assertEqual(unread, (4, "", "design: ./none: No such file or directory\n"))
 
     def test_what_is_no_file_of_switches(self):
         head, row = "cycle,use,drain\n", "there must be a cycle, a use case and a drain, numbers of 0 to 1,000,000"
@@ -245,17 +249,17 @@ class Traces(Designs):
             (head, ": the first switch must be in cycle 0, with a drain of 0"),
             (head + "1,menu,0\n", ": the first switch must be in cycle 0, with a drain of 0"),
             (head + "0,menu,1\n", ": the first switch must be in cycle 0, with a drain of 0"),
-            (head + "0,menu,0\n5,decode,0\n5,menu,0\n", ": the cycles of switches must rise"),
+            (head + "0,menu,0\n5,decode,0\n4,menu,0\n", ", row 3: cycle 4 is before that of the row above, 5"),
             (head + "0,menu,0\n5,decode,-1\n", f", row 2: {row}"),
             (head + "0,menu,0\n1_0,decode,0\n", f", row 2: {row}"),
             (head + "0,menu,0\n5,decode\n", f", row 2: {row}"),
             (head + "0,play,0\n", ", row 1: no use case has the name play: they are decode, menu, record"),
-            (head + "".join(f"{cycle},menu,0\n" for cycle in range(1025)), None),
+            (head + "".join(f"{cycle},menu,0\n" for cycle in range(1025)), ": a run has at most 1,024 rows of switches"),
         ):
             with self.subTest(text=text[:60]):
                 path = self.file("wrong.csv", text)
-                tells = f"{path}{tells}" if tells else "a run has at most 1,024 rows of switches"
-                self.assertEqual(self.run_script("design", "words", *self.FILES, path, "9"), (1, "", f"design: {tells}\n"))
+                ran = self.run_script("design", "words", *self.FILES, path, "9")
+                self.assertEqual(ran, (1, "", f"design: {path}{tells}\n"))
 
     def test_with_a_plan_no_word_is_outside(self):
         """Those of a whole period in its first cycle, in the sessions that the switches open."""
@@ -332,10 +336,10 @@ class Refusals(Designs):
         self.assertEqual(status, 2, errors)
         return errors.replace(str(path), "FILE"), line
 
-    def test_a_pipe_is_told_of(self):
+    def test_a_pipe_is_read_once(self):
         status, _, errors = self.home.design("where", "chip", "/dev/stdin", given=b"version = 1\n")
         self.assertEqual(status, 2, errors)
-        self.assertIn("  /dev/stdin is a pipe, which can't be read again", errors)
+        self.assertIn("  /dev/stdin: the root, key `link` is missing\n", errors)
 
     def test_files_of_toml(self):
         one = ("app", "pair.toml", "one.toml")
@@ -360,9 +364,9 @@ class Refusals(Designs):
         many = ", ".join(f'"k{count}"' for count in range(65))
         slots = "`slots` isn't 1 to 128 where `version` is 2, and 1 to 64 elsewhere.\n"
         for words, old, new, tells, allowed in (
-            (pair, "slots = 8", f"slots = {10**20}", f"{10**20} is past 64 bits", "64 bits"),
+            (pair, "slots = 8", f"slots = {10**20}", f"the number {10**20} is past 64 bits", "64 bits"),
             (pair, "slots = 8", "a = " + 81 * "[" + 81 * "]", "arrays or inline tables stand too deep", "80 arrays"),
-            (one, "detour = 0", "detour = 1e309", "inf is past 64 bits", "aren't TOML"),
+            (one, "detour = 0", "detour = 1e309", "the number 1e309 is past 64 bits", "aren't TOML"),
             (pair, "slots = 8", "slot = 8", "the root, key `slot` is unknown: `slots` may be meant", "are `version` (integer), `slots` (integer),"),
             (pair, "slots = 8", "slots = [8]", "the root, key `slots` has another type", "`slots` (integer)"),
             (pair, "slots = 8", "slots = 65", "`slots` is 65", slots),
@@ -520,7 +524,7 @@ class Refusals(Designs):
             "chain a b c u c:fwd,c:back f g 1", "chain a b c u c:fwd, f g 1", "chain a b c u : f g 1", "check a b",
         ):
             status, _, _ = self.run_script("aeth", *words.split())
-            says = where.usage(words.split())[0].startswith("A word isn't as")
+            says = usage.usage(words.split())[0].startswith("A word isn't as")
             self.assertEqual(status != 1, says, words)
 
     def test_words_of_each_command(self):
@@ -532,11 +536,11 @@ class Words(unittest.TestCase):
     """What is said of lines of `aeth`, without the program."""
 
     def told(self, command, line, *words):
-        return "\n".join(where.told(line, dict(zip(where.FILES[command], map(str, words)))))
+        return "\n".join(where.told(given.Given([command, *map(str, words)]), line))
 
     def test_logs_of_links(self):
         log = EXAMPLES / "one.links.csv"
-        words = ("audit", EXAMPLES / "pair.toml", "one.toml", "one.plan", "one.switches.csv", log)
+        words = ("audit", EXAMPLES / "pair.toml", "one.toml", "one.plan", "one.switches.csv", log, 7)
         for line, tells in (
             ("refused log 3 OutOfOrder 2 4", (f"{log}, line 2: 4,0,", f"{log}, line 3: 5,4,", "the row isn't in a later cycle")),
             ("refused log 1 BadRow 1 -", ("line 2: 4,0,", "The columns `cycle,link,header,first,second` have numbers. Cycles are 0")),
@@ -567,19 +571,17 @@ class Words(unittest.TestCase):
                     self.assertIn(text, told)
 
     def test_chains(self):
-        words = ("pair.toml", "local.toml", "local.plan", "main", "c1:fwd:3,c0:back", "words", "receivers")
+        words = ("pair.toml", "local.toml", "local.plan", "main", "c1:fwd:3,c0:back", "words", "receivers", 9)
         told = self.told("chain", "refused chain 3 NotJoined 2 c0", *words)
         self.assertIn("Item 2 of the chain: c0:back", told)
         self.assertIn("Rule 3 of chains, NotJoined, is broken where from the second item on: the channel doesn't begin", told)
 
-    def test_each_command_with_files(self):
-        """It knows the files of each command that has some, and where the rules of each file stand."""
+    def test_each_kind_of_file(self):
+        """It knows where the rules of each kind of file stand, and which words are paths."""
         formats = (TOP / "docs/FORMATS.md").read_text(encoding="utf-8")
-        words = {"CHIP", "APP", "PLAN", "USE", "WORDS", "RECEIVERS", "SWITCHES", "LOG", "CERT", "CHAIN"}
-        for command, given in re.findall(r"^aeth ([a-z-]+) (.*)", formats, re.M):
-            files_of = [word.lower() for word in re.findall(r"\w+", given) if word in words]
-            if files_of:
-                self.assertEqual(where.FILES[command], files_of)
+        named = re.findall(r"^\| ([A-Z, ]+) \| the paths? of ", formats, re.M)
+        self.assertEqual({kind.lower() for kinds in named for kind in kinds.split(", ")}, set(rules.SECTIONS))
+        self.assertEqual({kind.lower() for kind in given.FILES}, set(rules.SECTIONS))
 
 
 class Readers(unittest.TestCase):
