@@ -253,8 +253,9 @@ class Folders(WithHardware):
             self.assertIn(name, text)
         rows = words().replace("load", "module").replace("copy", "7__x"), RECEIVERS.replace("load", "module"), SWITCHES
         run = [self.home.put(f"words.{place}.csv", text) for place, text in enumerate(rows)]
-        for simulator in ("icarus", "verilator"):
-            self.assertIn("the same: 240 cycles", self.cosim(chip, app, plan, *run, CYCLES, "--with", simulator))
+        self.assertIn("the same: 240 cycles", self.cosim(chip, app, plan, *run, CYCLES))
+        words_ = "verilator", "--lint-only", "-Wall", "-f", "network.f", "--top-module", "aeth_network"
+        self.assertEqual(self.shell(folder, *words_), (0, ""))
 
 
 class Waves(WithHardware):
@@ -289,6 +290,18 @@ def flits_of(dump):
                 found[scope, int(time)] = {
                     field: value for (other, field), value in values.items() if other == scope}
     return found
+
+
+class Reports(WithHardware):
+    def test_a_report_has_the_verdict(self):
+        files = [*self.example("pair", "two"), *(f"examples/two.{name}.csv" for name in ("words", "receivers", "switches"))]
+        status, page, errors = self.run_script("draw", "report", *files, 24, "--cosim")
+        self.assertEqual((status, errors), (0, ""))
+        line = "Hardware: the same: 24 cycles, 18 flits, 6 words landed; routers with headers, Icarus Verilog."
+        self.assertIn(f'<p class="verdict good">{line}</p>', page)
+        told = self.run_script("draw", "report", *files[:3], "--cosim")
+        self.assertEqual(told[:2], (1, ""))
+        self.assertIn("--cosim stands behind the words of a run", told[2])
 
 
 class Statuses(WithHardware):
