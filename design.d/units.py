@@ -10,10 +10,11 @@ from turns import Trial
 
 MOST_TRIED = 3  # units that are tried with other latencies
 HELP = (
-    "More slots, a greater detour, a lower rate or a greater latency may help, or cores without an `ni` of their own: "
-    "`./design fit` tries tables and detours, and `./aeth explain` tells which links were too full, or `./draw refusal` shows "
-    "them."
+    "More slots, a greater detour%s may help, or cores without an `ni` of their own: `./design fit` tries tables and detours, "
+    "and `./aeth explain` tells which links were too full, or `./draw refusal` shows them."
 )
+OF_WISH = ", a lower rate or a greater latency"
+OF_RATE = " or a lower rate"  # where no latency helps
 
 
 def group_named(given: Given, group: int) -> str:
@@ -64,7 +65,8 @@ class Units:
         self.given, self.refused = given, refused
         self.ways = Ways(given.chip)
         self.tried = 0
-        self.some_apart, self.may_help = False, False
+        self.some_apart = False
+        self.may_help: set[str] = set()  # which of a wish may, beside the table and the detour
 
     def told(self, unit: RefusedUnit) -> list[str]:
         """A refused unit in words, with why, as far as it can be told."""
@@ -77,9 +79,9 @@ class Units:
             self.tried += 1
             why, is_apart = why_no_slots(self.given, self.refused, unit)
             self.some_apart |= is_apart
-            self.may_help |= not is_apart
+            self.may_help |= set() if is_apart else {OF_RATE if why else OF_WISH}
         elif why is None:
-            self.may_help = True
+            self.may_help.add(OF_WISH)
         return lines + ([why] if why else [])
 
     def at_the_end(self) -> Iterator[str]:
@@ -87,4 +89,4 @@ class Units:
         if self.some_apart:
             yield what_fits(self.given)
         if self.may_help:
-            yield HELP
+            yield HELP % (OF_WISH if OF_WISH in self.may_help else OF_RATE)

@@ -438,10 +438,10 @@ class Refusals(Designs):
     def refused(self, chip, app):
         """What is said of the one unit that is refused."""
         status, _, errors = self.run_script("design", "where", "allocate", chip, app)
-        line, tells, more = errors.splitlines()
+        line, tells, *more = errors.splitlines()
         self.assertEqual((status, line.split(" ")[:2]), (3, ["refused", "unit"]))
         self.assertIn("had no admissible path with a suitable set of free slots.", tells)
-        return more
+        return "\n".join(more)
 
     def test_a_latency_below_every_path(self):
         """It is told one below the delay of the quickest path, and with that delay the channel is granted."""
@@ -474,7 +474,7 @@ class Refusals(Designs):
         other = connection.replace("c0", "c1").replace("words = 1, per = 2", "words = 2, per = 1")
         two = one.replace("[[use]]", other + "[[use]]")
         more = self.refused(EXAMPLES / "pair.toml", self.file("app", two))
-        self.assertIn("More slots, a greater detour, a lower rate or a greater latency may help", more)
+        self.assertIn("More slots, a greater detour or a lower rate may help, or cores without", more)
 
     def test_a_carriage_return(self):
         words = (EXAMPLES / "pair.toml", EXAMPLES / "one.toml")

@@ -242,7 +242,7 @@ use = [{name = "main", connections = ["wide", "quick"]}]
         app = self.file((self.APP % 4096).replace("words = 1, per = 64", "words = 3, per = 2"), "few.toml")
         told = self.where("allocate", self.chip_of(32), app)
         self.assertIn("No path that it may take has slots enough that are free, whatever its latency is.", told)
-        self.assertIn("More slots, a greater detour,", told)
+        self.assertIn("More slots, a greater detour or a lower rate may help", told)
 
 
 class Endings(unittest.TestCase):
