@@ -9,6 +9,7 @@ import re
 import shutil
 import subprocess
 import sys
+import tomllib
 import unittest
 
 from draw_wave_tests import Dump
@@ -200,7 +201,7 @@ class Folders(WithHardware):
         """Each write of a use case, taken apart by the layout of rtl/aeth_types.svh."""
         files = self.example("mesh", "video")
         folder, _ = self.folder("headers", *files)
-        nis = re.findall(r'"(n\d+)"', re.search(r"(?m)^nis = .*", (TOP / files[0]).read_text(encoding="utf-8"))[0])
+        nis = tomllib.loads((TOP / files[0]).read_text(encoding="utf-8"))["nis"]
         for use in ("decode", "menu", "record"):
             said = self.run_script("aeth", "tables", *files, use)[1].splitlines()[1:-1]
             told = []
@@ -254,8 +255,8 @@ class Folders(WithHardware):
         rows = words().replace("load", "module").replace("copy", "7__x"), RECEIVERS.replace("load", "module"), SWITCHES
         run = [self.home.put(f"words.{place}.csv", text) for place, text in enumerate(rows)]
         self.assertIn("the same: 240 cycles", self.cosim(chip, app, plan, *run, CYCLES))
-        words_ = "verilator", "--lint-only", "-Wall", "-f", "network.f", "--top-module", "aeth_network"
-        self.assertEqual(self.shell(folder, *words_), (0, ""))
+        lint = "verilator", "--lint-only", "-Wall", "-f", "network.f", "--top-module", "aeth_network"
+        self.assertEqual(self.shell(folder, *lint), (0, ""))
 
 
 class Waves(WithHardware):
