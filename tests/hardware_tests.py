@@ -277,7 +277,7 @@ def flits_of(dump):
     head, body = dump.split("$enddefinitions $end\n")
     signs = {}
     for scope, text in re.findall(r"\$scope module (\w+_\w+) \$end\n((?:\$(?:var|comment) .*\n)+)", head):
-        for sign, field in re.findall(r"\$var \w+ \d+ (\S+) (\w+)", text):
+        for sign, field in re.findall(r"\$var \w+ \d+ (\S+) (\w+)", text if "$var string" in text else ""):
             signs.setdefault(sign, []).append((scope, field))
     values, found = {}, {}
     for part in re.split(r"(?m)^#", body)[1:]:
