@@ -94,10 +94,10 @@ class Values:
 
     def channel(self, link: int) -> str:
         signs = self.head.links[link]
-        if self.now.get(signs["flit"]) != "1":
+        route, queue = (self.now.get(signs[field], "x").strip(" b") for field in ("route", "queue"))
+        if self.now.get(signs["flit"]) != "1" or set(route + queue) - set("01"):
             return "s- "
-        route, queue = (int(self.now[signs[field]].strip(" b"), 2) for field in ("route", "queue"))
-        return f"s{self.channels.name(link, route, queue)} "
+        return f"s{self.channels.name(link, int(route, 2), int(queue, 2))} "
 
     def changes(self) -> list[str]:
         """The lines of what has changed since they were last asked for."""

@@ -15,7 +15,7 @@ vvp -n network.vvp                                                     # runs us
 gtkwave network.vcd                                                    # looks at it
 ```
 
-or with Verilator `verilator --binary --assert -f bench.f --top-module aeth_bench` and `obj_dir/Vaeth_bench`. The run leaves
+or with Verilator: `verilator --binary --assert -f bench.f --top-module aeth_bench` and `obj_dir/Vaeth_bench`. The run leaves
 `log.csv`, a row for each flit that enters a link, which `aeth audit` judges once it is sorted, and `landings.csv`, a row for
 each word that lands.
 
@@ -28,6 +28,12 @@ each word that lands.
 | `tables/{use}.hex` | the writes that load a use case into empty tables, one in a cycle |
 | `tables/OLD.NEW.hex` | the writes of a switch from one use case to another |
 | `run/` | the words, receivers and switches of the run, and the rows of routers' tables |
+
+How many cells it takes, as Yosys counts them:
+
+```sh
+yosys -p "read_verilog -sv -Irtl -DSYNTHESIS $(grep 'sv$' network.f | tr '\\n' ' '); synth -top aeth_network; stat"
+```
 
 A core's side of a channel are four ports of `aeth_network`, which rtl/aeth_types.svh explains: `offer_.._i` and `ready_.._o`
 where it hands words over, `arrival_.._o` and `taking_.._i` where they land. `landings.csv` calls channels by number:

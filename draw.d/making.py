@@ -8,6 +8,7 @@ from dataclasses import dataclass
 import os
 import pathlib
 import re
+import subprocess
 
 from allocation import Allocation, state_of
 from design import Design, Key, Promise, promises_in, uses_for_all
@@ -15,11 +16,12 @@ from design_files import Application, Chip, read_application, read_chip
 from ending import NO_WORDS, Passed, Stop, printable, shortened
 from plan_picture import draw_plan
 from plan_texts import Need, RefusedUnit, read_needs, read_plan, read_refused
-from program import Input, answer, lines_of, text_of
+from program import HOME, Input, answer, lines_of, text_of
 from progress import Progress
 from refusal_picture import Refusal, draw_refusal
 from refusals import Trial, read_trials
 from report import draw_report, refused_report
+from report_page import Verdict
 from run_picture import draw_run
 from run_texts import read_flits
 from runs import Run, RunFiles, read_run
@@ -106,6 +108,7 @@ def run(
 def report(chip: str, app: str, plan_file: str, *of_run: str) -> str:
     """The page of a plan and, where the last words name its files and cycles, of a run. A plan that `allocate` didn't
     print, since it refused units, is told with these."""
+    with_hardware, of_run = of_run[4:] != (), of_run[:4]
     cycles = cycles_of(of_run[3], MOST_CYCLES) if of_run else 0
     progress, title = Progress("draw"), title_of(app)
     files = DesignFiles(Input(chip), Input(app), Input(plan_file))
@@ -122,9 +125,23 @@ def report(chip: str, app: str, plan_file: str, *of_run: str) -> str:
         design, shown = design_of(files), None
     else:
         design, shown = run_of(files, run_files, cycles, progress)
-    page = draw_report(title, design, shown, progress)
+    hardware = hardware_verdict(files, run_files, cycles, progress) if run_files and with_hardware else None
+    page = draw_report(title, design, shown, progress, hardware)
     progress.end()
     return page
+
+
+def hardware_verdict(files: DesignFiles, run_files: RunFiles, cycles: int, progress: Progress) -> Verdict:
+    """What `design cosim` says of the run as hardware. Where it can't say anything the script ends so, with its lines."""
+    progress.say("the hardware is made and simulated")
+    inputs = *files.words, run_files.words, run_files.receivers, run_files.switches
+    words = [str(HOME / "design"), "cosim", *(file.path for file in inputs), str(cycles)]
+    copies = [file.copy for file in inputs if file.copy is not None]
+    ran = subprocess.run(words, capture_output=True, pass_fds=copies, check=False)
+    if ran.returncode not in (0, 3):
+        raise Passed(ran.returncode, ran.stderr.decode("utf-8", "replace"))
+    line = ran.stdout.decode("ascii", "replace").partition("\n")[0]
+    return Verdict(f"Hardware: {line}.", "bad" if ran.returncode else "good")
 
 
 def title_of(path: str) -> str:

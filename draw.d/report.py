@@ -88,8 +88,10 @@ def refused_report(
     return page(Report(title, Verdict(tells, "bad"), sentences, list(lines.values()), pictures, False))
 
 
-def draw_report(title: str, design: Design, run: Run | None, progress: Progress) -> str:
-    """The page of a plan, and of a run."""
+def draw_report(
+    title: str, design: Design, run: Run | None, progress: Progress, hardware: Verdict | None = None
+) -> str:
+    """The page of a plan, of a run, and of the run as hardware."""
     lines = lines_of(design.app, design.chip.slots)
     add_promises(lines, design)
     pictures = []
@@ -105,4 +107,4 @@ def draw_report(title: str, design: Design, run: Run | None, progress: Progress)
         pictures.append(Shown(f"Use case {use}", f"use-{use}", summary(design, use), picture))
     rows = list(lines.values())
     progress.say("the page")
-    return page(Report(title, verdict_of(rows, run), [], rows, pictures, run is not None))
+    return page(Report(title, verdict_of(rows, run), [], rows, pictures, run is not None, hardware))

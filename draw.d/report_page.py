@@ -58,6 +58,7 @@ class Report:
     lines: list[Line]
     pictures: list[Shown]
     has_run: bool
+    hardware: Verdict | None = None
 
 
 RATE = "words in 1,000\u00a0cycles"
@@ -194,6 +195,8 @@ def page(report: Report) -> str:
         f"<h1>{title}</h1>",
         f'<p class="verdict {report.verdict.kind}">{escape(report.verdict.text)}</p>',
     ]
+    if report.hardware:
+        parts.append(f'<p class="verdict {report.hardware.kind}">{escape(report.hardware.text)}</p>')
     if report.refused:
         items = "".join(f"<li>{escape(sentence)}</li>" for sentence in report.refused)
         parts.append(f'<h2>What is refused</h2><ul class="refused">{items}</ul>')

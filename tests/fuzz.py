@@ -351,7 +351,7 @@ def why_wrong(case, ran):
 
 def load(script):
     """Loads the modules of a script, with the program itself in place of what builds it, and gives its code."""
-    sys.path[:0] = [str(TOP / f"{script}.d"), str(TOP / "common.d")]
+    sys.path[:0] = [str(TOP / folder) for folder in (f"{script}.d", "common.d", "draw.d")]
     for folder in (f"{script}.d", "common.d"):
         for file in sorted((TOP / folder).glob("*.py")):
             module = importlib.import_module(file.stem)

@@ -9,6 +9,7 @@ import re
 import shutil
 import subprocess
 import sys
+import tomllib
 import unittest
 
 from draw_wave_tests import Dump
@@ -200,7 +201,7 @@ class Folders(WithHardware):
         """Each write of a use case, taken apart by the layout of rtl/aeth_types.svh."""
         files = self.example("mesh", "video")
         folder, _ = self.folder("headers", *files)
-        nis = re.findall(r'"(n\d+)"', re.search(r"(?m)^nis = .*", (TOP / files[0]).read_text(encoding="utf-8"))[0])
+        nis = tomllib.loads((TOP / files[0]).read_text(encoding="utf-8"))["nis"]
         for use in ("decode", "menu", "record"):
             said = self.run_script("aeth", "tables", *files, use)[1].splitlines()[1:-1]
             told = []
@@ -253,8 +254,9 @@ class Folders(WithHardware):
             self.assertIn(name, text)
         rows = words().replace("load", "module").replace("copy", "7__x"), RECEIVERS.replace("load", "module"), SWITCHES
         run = [self.home.put(f"words.{place}.csv", text) for place, text in enumerate(rows)]
-        for simulator in ("icarus", "verilator"):
-            self.assertIn("the same: 240 cycles", self.cosim(chip, app, plan, *run, CYCLES, "--with", simulator))
+        self.assertIn("the same: 240 cycles", self.cosim(chip, app, plan, *run, CYCLES))
+        lint = "verilator", "--lint-only", "-Wall", "-f", "network.f", "--top-module", "aeth_network"
+        self.assertEqual(self.shell(folder, *lint), (0, ""))
 
 
 class Waves(WithHardware):
@@ -275,7 +277,7 @@ def flits_of(dump):
     head, body = dump.split("$enddefinitions $end\n")
     signs = {}
     for scope, text in re.findall(r"\$scope module (\w+_\w+) \$end\n((?:\$(?:var|comment) .*\n)+)", head):
-        for sign, field in re.findall(r"\$var \w+ \d+ (\S+) (\w+)", text):
+        for sign, field in re.findall(r"\$var \w+ \d+ (\S+) (\w+)", text if "$var string" in text else ""):
             signs.setdefault(sign, []).append((scope, field))
     values, found = {}, {}
     for part in re.split(r"(?m)^#", body)[1:]:
@@ -289,6 +291,18 @@ def flits_of(dump):
                 found[scope, int(time)] = {
                     field: value for (other, field), value in values.items() if other == scope}
     return found
+
+
+class Reports(WithHardware):
+    def test_a_report_has_the_verdict(self):
+        files = [*self.example("pair", "two"), *(f"examples/two.{name}.csv" for name in ("words", "receivers", "switches"))]
+        status, page, errors = self.run_script("draw", "report", *files, 24, "--cosim")
+        self.assertEqual((status, errors), (0, ""))
+        line = "Hardware: the same: 24 cycles, 18 flits, 6 words landed; routers with headers, Icarus Verilog."
+        self.assertIn(f'<p class="verdict good">{line}</p>', page)
+        told = self.run_script("draw", "report", *files[:3], "--cosim")
+        self.assertEqual(told[:2], (1, ""))
+        self.assertIn("--cosim stands behind the words of a run", told[2])
 
 
 class Statuses(WithHardware):
