@@ -18,6 +18,7 @@ pub mod LaneLookups
 pub mod LastFlits
 pub mod LastLanes
 pub mod MuteParts
+pub mod LosingNothing
 pub mod NetworkLaws
 pub mod NetworkLogs
 pub mod NetworkRuns

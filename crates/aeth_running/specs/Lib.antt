@@ -1,5 +1,6 @@
 pub mod FirstLog
 pub mod Idle
+pub mod Lossless
 pub mod Network
 pub mod Quiet
 pub mod Routing

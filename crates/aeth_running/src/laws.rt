@@ -5,6 +5,7 @@ ghost use Rattle.aeth_refinement.specs.Carried.{IsPassed, words_from};
 ghost use Rattle.aeth_accepted.specs.Inputs.{AreAccepted, Inputs, run_of};
 ghost use Rattle.aeth_fabric.specs.Fabric.{fabric_of};
 ghost use Rattle.aeth_running.specs.Idle.{IsIdle};
+ghost use Rattle.aeth_running.specs.Lossless.{LosesNothing};
 ghost use Rattle.aeth_running.specs.Network.{first_network, played, ready_in};
 ghost use Rattle.aeth_running.specs.Quiet.{IsQuiet, brought_over, rested};
 ghost use Rattle.aeth_running.specs.Routing.{IsRoutingFor, Routing};
@@ -213,6 +214,20 @@ pub fn networks_lose_nothing()
     networks_run();
     aeth_fabric::laws::runs_have_fabrics();
     aeth_refinement::laws::no_flit_is_lost();
+    aeth_refinement::laws::queues_fit();
+}
+
+/// In no cycle does the network of accepted inputs lose anything, by whatever its routers send on. Each flit that came
+/// to a router in the cycle before goes on, behind its hop. Behind the cycle each receive queue in use has all words of
+/// its session that have landed and weren't taken, so it wasn't full when one came.
+pub fn cycles_lose_nothing()
+    ensures { (inputs : Inputs) → AreAccepted inputs → (routing : Routing)
+        → IsRoutingFor inputs routing → (t : ℕ) → t < inputs.cycles
+        → LosesNothing inputs (t + 1) (played t (first_network inputs routing)).components
+        (played (t + 1) (first_network inputs routing)).components }
+{
+    networks_run();
+    aeth_fabric::laws::runs_have_fabrics();
     aeth_refinement::laws::queues_fit();
 }
 

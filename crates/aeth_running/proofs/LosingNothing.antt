@@ -1,0 +1,79 @@
+-- Of a network that runs on accepted inputs each flit goes on at a router, and each receive queue has its words.
+use Rattle.std.proofs.Common.{◌≡◌, ◌≤◌, ◌<◌, ◌+◌, ◌∙◌, ℕ, zero, suc, Option, Some, sym, ap, arith}
+use Rattle.std.proofs.Common.{length, subst}
+use Rattle.aeth_clocked.specs.Wires.{flit_on}
+use Rattle.aeth_clocked.specs.declared.flit.Flit.{Flit}
+use Rattle.aeth_components.specs.View.{queue_of}
+use Rattle.aeth_router.specs.Ports.{hopped}
+use Rattle.aeth_refinement.specs.Accepted.{IsAccepted}
+use Rattle.aeth_refinement.specs.Carried.{Exact}
+use Rattle.aeth_refinement.specs.Fabric.{AtRouter, Fabric, Owns, server_at}
+use Rattle.aeth_refinement.proofs.Routers.{behind, goes_past, not_both, to_router}
+use Rattle.aeth_refinement.proofs.Routes.{hops-on}
+use Rattle.aeth_accepted.specs.Inputs.{Inputs}
+use Rattle.aeth_fabric.specs.Fabric.{fabric_of}
+use Rattle.aeth_running.specs.Lossless.{HasGoneOn, LosesNothing}
+use Rattle.aeth_running.specs.Network.{first_network, played}
+use Rattle.aeth_running.specs.Routing.{Routing}
+use Rattle.aeth_running.specs.Running.{IsRunning}
+use Rattle.aeth_running.proofs.NetworkWires.{exact, nothing-first, received, standing}
+
+-- Where wires are exact in two cycles, a flit that came to a router in the first goes on in the second.
+module _ (fabric : Fabric) (ok : IsAccepted fabric) (t : ℕ) (held : ℕ → Option Flit)
+    (before : Exact fabric t held) (m r : ℕ) (flit : Flit) (ends : fabric.end m ≡ AtRouter r)
+    (has : held m ≡ Some flit) where
+  pub gone-on : (wire : ℕ → Option Flit) → Exact fabric (suc t) wire
+      → (n : ℕ) × (fabric.start n ≡ AtRouter r) × (wire n ≡ Some (hopped flit))
+  gone-on wire after =
+      let comes = before.only m flit has in
+      let c = comes.number in
+      let i = comes.place in
+      let on = comes.on in
+      let next = goes_past fabric ok c i m on.known on.place
+      (not_both r (fabric.passage (fabric.opposite c)).ni (fabric.end m) ends) in
+      let through = to_router fabric ok c i m next.0 r on.known on.place next.1 ends in (
+        next.0,
+        through.1,
+        after.all next.0 c (suc i) comes.cycle
+            (behind fabric ok m next.0 t c i comes.cycle on next.1)
+            ∙ ap (λ (flit : Flit). Some flit)
+            (sym (ap hopped comes.is
+            ∙ hops-on fabric ok c i m next.0 comes.cycle on.known through.0)),
+      )
+
+module _ (inputs : Inputs) (ok : IsAccepted (fabric_of inputs)) (routing : Routing)
+    (running : (t : ℕ) → t ≤ inputs.cycles
+    → IsRunning inputs t (played t (first_network inputs routing)).components) where
+  -- So in each cycle of a network.
+  routers-send : (t : ℕ) → t < inputs.cycles → (m r : ℕ) (flit : Flit)
+      → (fabric_of inputs).end m ≡ AtRouter r
+      → flit_on (played t (first_network inputs routing)).components.wires m ≡ Some flit
+      → HasGoneOn (fabric_of inputs) r flit
+      (played (t + 1) (first_network inputs routing)).components.wires
+  routers-send zero early m r flit ends has =
+      absurd (cc (sym (nothing-first inputs routing running m) ∙ has))
+  routers-send (suc t) early m r flit ends has =
+      let first = first_network inputs routing in
+      let same : t + 1 ≡ suc t = omega arith in
+      let on = gone-on (fabric_of inputs) ok t (flit_on (played (t + 1) first).components.wires)
+      (exact inputs routing running t (omega (arith, early))) m r flit ends
+      (subst (λ n. flit_on (played n first).components.wires m ≡ Some flit) (sym same) has)
+      (flit_on (played (suc t + 1) first).components.wires)
+      (exact inputs routing running (suc t) early) in
+      record { wire = on.0; starts = on.1; has = on.2 }
+
+  pub loses-nothing : (t : ℕ) → t < inputs.cycles
+      → ((c : ℕ) → c < (fabric_of inputs).count → Owns (fabric_of inputs) c (t + 1)
+      → length (queue_of (played (t + 1) (first_network inputs routing)).components.parts
+      ((fabric_of inputs).passage c).ni ((fabric_of inputs).passage c).queue).received
+      ≤ (server_at (fabric_of inputs) ((fabric_of inputs).opposite c)).buffer)
+      → LosesNothing inputs (t + 1) (played t (first_network inputs routing)).components
+      (played (t + 1) (first_network inputs routing)).components
+  loses-nothing t early buffer = record {
+    routers = routers-send t early;
+    queues = λ c known owns. record {
+      words = received inputs routing running (t + 1) (omega (arith, early)) c known owns;
+      within = buffer c known owns;
+      room = (standing inputs routing running (t + 1) (omega (arith, early))).room c known;
+    };
+  }
