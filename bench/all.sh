@@ -3,7 +3,8 @@
 # be, and counts the rows that are above it: then the status is 1. The peer is plain optimised Rust, on one thread, with
 # bit masks and a pruned search, and without any proof. `inputs.py` makes the files, and the plans are those that
 # `aeth allocate` prints for these. Words after the name of the script choose rows by their names; without one all are
-# run but those that take minutes, and with `all` these too. It needs valgrind, GNU time and Python 3.11.
+# run but those that take minutes, and with `all` these too. A row whose name ends in `ms` is in milliseconds of a
+# processor. It needs valgrind, GNU time and Python 3.11.
 set -eu
 
 home=$(dirname -- "$(dirname -- "$(readlink -f -- "$0")")")
@@ -53,6 +54,21 @@ run() {
     show "$name" "$limit" "$peer" "$(instructions "$@")" "$(cat time)"
 }
 
+# A row of a whole run in milliseconds of a processor, the least of five, where the peer was measured so.
+run_time() {
+    is_chosen "$2" "$1" || return 0
+    name=$2 limit=$3 peer=$4
+    shift 4
+    least=
+    for _ in 1 2 3 4 5; do
+        /usr/bin/time -q -f '%U %S %M' -o time "$program" "$@" >text 2>&1 || true
+        read -r user system peak <time
+        spent=$(printf '%s %s\n' "$user" "$system" | awk '{ printf "%d", 1000 * ($1 + $2) }')
+        if [ -z "$least" ] || [ "$spent" -lt "$least" ]; then least=$spent; fi
+    done
+    show "$name" "$limit" "$peer" "$least" "$peak"
+}
+
 # The row of what a word of a trace takes when it is read: a run on a million of them, less one on the same file that is
 # refused at its header, both of which end behind the file.
 run_word() {
@@ -100,6 +116,7 @@ run long simulate_dense 150 2019582625 simulate chip app_hops plan words_dense r
 run long simulate_tables_dense 160 2006081720 \
     simulate-tables chip app_hops plan words_dense receivers_none switches_one 1000000
 run long simulate_delays 160 2193411327 simulate chip128 app_hops plan128 words_sparse receivers switches_one 1000000
+run_time short burst_ms 150 230 simulate chip app_hops plan words_burst receivers_late switches_one 1000000
 run short chain 61 802708730 chain chip app_hops plan u0 \
     c0:fwd:16,c46:back:9,c239:back:100,c406:back:1,c372:back:7,c2:back words_chain receivers_none 1000000
 run short demo - 36954704 demo 7

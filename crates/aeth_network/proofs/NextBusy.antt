@@ -16,7 +16,7 @@ use Rattle.aeth_components.specs.Lanes.{is_open}
 use Rattle.aeth_components.specs.Phases.{asked_of}
 use Rattle.aeth_components.specs.Turns.{sends_own}
 use Rattle.aeth_components.specs.declared.lane.Lane.{Lane}
-use Rattle.aeth_accepted.specs.Inputs.{Inputs}
+use Rattle.aeth_accepted.specs.Inputs.{Inputs, run_of}
 use Rattle.aeth_schedule.specs.Windows.{IsWithin}
 use Rattle.aeth_schedule.specs.declared.going.Going.{Going}
 use Rattle.aeth_schedule.specs.declared.windows.Window.{Window}
@@ -25,6 +25,7 @@ use Rattle.aeth_stimuli.specs.Stimuli.{Offer, Stimuli, Take}
 use Rattle.aeth_running.proofs.Played.{played-stimuli as first-stimuli}
 use Rattle.aeth_running.proofs.StillGoings.{no-goings}
 use Rattle.aeth_running.proofs.StillRows.{no-switches}
+use Rattle.aeth_running.specs.Idle.{IsIdle, IsNextBusyOf}
 use Rattle.aeth_running.specs.Network.{NetworkState, accepted_with, first_network, gone_with}
 use Rattle.aeth_running.specs.Network.{goings_in, offers_in, played, stepped, untils_in}
 use Rattle.aeth_running.specs.Routing.{Routing}
@@ -190,10 +191,10 @@ module _ (inputs : Inputs) (all : NetworkState) (quiet : (t k : ℕ) → t + k <
 
     module _ (b c d : ℕ) (row : IsFirst (λ t. HasOffer all.stimuli.offers t
         ⊎ HasWindow all.stimuli.schedule.windows t) all.time all.log.cycles b)
-        (ask : IsFirst (λ t. asks-at t) all.time b c)
-        (send : IsFirst (HasSender all.components.parts) all.time c d) where
+        (send : IsFirst (HasSender all.components.parts) all.time b c)
+        (ask : IsFirst (λ t. asks-at t) all.time c d) where
       ordered : (d ≤ c) × (c ≤ b) × (b ≤ all.log.cycles)
-      ordered = (send.most, ask.most, row.most)
+      ordered = (ask.most, send.most, row.most)
 
       no-offer : (t : ℕ) → all.time ≤ t → t < b → offers_in all.stimuli t ≡ []
       no-offer t since less =
@@ -215,12 +216,12 @@ module _ (inputs : Inputs) (all : NetworkState) (quiet : (t k : ℕ) → t + k <
             unoffered = no-offer (all.time + k) (omega arith) (omega arith);
             unswitched = no-window (all.time + k) (omega arith) (omega arith);
             mute = λ number part at. mute-unless (all.time + k) part (λ sends.
-                send.before (all.time + k) (omega arith) less
+                send.before (all.time + k) (omega arith) (omega arith)
                 (record { number = number; part = part; at = at; sends = sends }));
             unasked = unasked-of k (omega arith)
                 (no-window all.time (omega arith) (omega arith))
                 (no-offer all.time (omega arith) (omega arith))
-                (ask.before (all.time + k) (omega arith) (omega arith));
+                (ask.before (all.time + k) (omega arith) less);
           }
 
       still-before : (k : ℕ) → all.time + k ≤ d → AreStill k all
@@ -241,23 +242,23 @@ module _ (inputs : Inputs) (all : NetworkState) (quiet : (t k : ℕ) → t + k <
       busy-then : d < all.log.cycles → IsQuiet all (d - all.time) → ⊥
       busy-then early quiet =
           let (one, two, three) = ordered in
-          let since = send.least in
+          let since = ask.least in
           let cycles = cycles-of inputs all of in
           let k = d - all.time in
           let now : all.time + k ≡ d = omega arith in
           elim (cases_lt d c) [
             | inl sooner ↦
-                let has = send.holds sooner in
-                let mute = quiet.mute has.number has.part has.at in
-                let sends = ap (λ t. sends_own t has.part) now ∙ has.sends in
-                cc (sym sends ∙ mute)
+                asks-of k (omega arith)
+                (no-window all.time (omega arith) (omega arith))
+                (no-offer all.time (omega arith) (omega arith))
+                quiet.unasked (subst asks-at (sym now) (ask.holds sooner))
             | inr same_c ↦ elim (cases_lt c b) [
-              | inl asks ↦
-                  let same : c ≡ all.time + k = omega arith in
-                  asks-of k (omega arith)
-                  (no-window all.time (omega arith) (omega arith))
-                  (no-offer all.time (omega arith) (omega arith))
-                  quiet.unasked (subst asks-at same (ask.holds asks))
+              | inl sends ↦
+                  let same : all.time + k ≡ c = omega arith in
+                  let has = send.holds sends in
+                  let mute = quiet.mute has.number has.part has.at in
+                  let own = ap (λ t. sends_own t has.part) same ∙ has.sends in
+                  cc (sym own ∙ mute)
               | inr same_b ↦
                   let same : b ≡ all.time + k = omega arith in
                   elim (row.holds (omega arith)) [
@@ -274,7 +275,7 @@ module _ (inputs : Inputs) (all : NetworkState) (quiet : (t k : ℕ) → t + k <
       pub next-busy-is : IsNextBusy all d
       next-busy-is =
           let (one, two, three) = ordered in
-          let since = send.least in
+          let since = ask.least in
           let cycles = cycles-of inputs all of in
           let k = d - all.time in
           let still = still-before k (omega arith) in
@@ -301,3 +302,32 @@ module _ (inputs : Inputs) (all : NetworkState) (quiet : (t k : ℕ) → t + k <
           busy = λ early still. some
               (subst IsStill (ap (λ n. played n all) none ∙ played-zero all) still).empty;
         }
+
+-- Of accepted inputs it is the next cycle of their run that isn't idle.
+module _ (inputs : Inputs) (all : NetworkState) (of : IsNetworkOf inputs all)
+    (law : (t : ℕ) → t < inputs.cycles → IsStill (played t (first_network inputs all.routing))
+    ↔ IsIdle (run_of inputs) t) where
+  -- Behind so many cycles more the network is the first one behind all of them.
+  behind-all : (later t : ℕ) → all.time + later ≡ t
+      → played later all ≡ played t (first_network inputs all.routing)
+  behind-all later t sum =
+      let first = first_network inputs all.routing in
+      ap (played later) of.is ∙ played-sum later all.time first ∙ ap (λ n. played n first) sum
+
+  pub next-of-run : (t : ℕ) → IsNextBusy all t → IsNextBusyOf (run_of inputs) all.time inputs.cycles t
+  next-of-run t next =
+      let cycles = cycles-of inputs all of in
+      let since = next.from in
+      let within = next.to in
+      record {
+        since = since;
+        within = omega arith;
+        idle = λ earlier from less.
+            (law earlier (omega arith)).0
+            (subst IsStill (behind-all (earlier - all.time) earlier (omega arith))
+            (next.still (earlier - all.time) (omega arith)));
+        busy = λ early idle.
+            next.busy (omega arith)
+            (subst IsStill (sym (behind-all (t - all.time) t (omega arith)))
+            ((law t early).1 idle));
+      }

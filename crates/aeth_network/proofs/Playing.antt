@@ -7,6 +7,7 @@ use Rattle.aeth_schedule.specs.Rooms.{rooms_of}
 use Rattle.aeth_schedule.specs.Switching.{loaded_of}
 use Rattle.aeth_schedule.specs.Values.{values_of}
 use Rattle.aeth_running.proofs.Played.{stepped-log, stepped-routing, stepped-time}
+use Rattle.aeth_running.specs.Lossless.{LosesNothing}
 use Rattle.aeth_running.specs.Network.{NetworkState, first_network, played, stepped}
 use Rattle.aeth_running.specs.Routing.{IsRoutingFor, Routing}
 use Rattle.aeth_running.specs.Told.{network_log, told}
@@ -123,6 +124,27 @@ still-of inputs old new is early steps =
           ∙ played-more old.time new.time (first_network inputs old.routing) time
           ∙ ap (λ routing. played new.time (first_network inputs routing)) same;
     }
+
+-- And it loses nothing in a cycle.
+pub loses-of : (inputs : Inputs) (old new : NetworkState) → IsNetworkOf inputs old
+    → old.time < old.log.cycles → new ≡ stepped old
+    → ((t : ℕ) → t < inputs.cycles
+    → LosesNothing inputs (t + 1) (played t (first_network inputs old.routing)).components
+    (played (t + 1) (first_network inputs old.routing)).components)
+    → LosesNothing inputs new.time old.components new.components
+loses-of inputs old new is early steps law =
+    let first = first_network inputs old.routing in
+    let t = old.time in
+    let cycles = cycles-of inputs old is in
+    let time : new.time ≡ t + 1 = ap (λ (all : NetworkState). all.time) steps ∙ stepped-time old in
+    let next : new ≡ played (t + 1) first =
+    steps ∙ ap stepped is.is ∙ played-more t (t + 1) first refl in
+    subst (λ n. LosesNothing inputs n old.components new.components) (sym time)
+    (subst (λ (all : NetworkState). LosesNothing inputs (t + 1) all.components new.components)
+    (sym is.is)
+    (subst (λ (all : NetworkState).
+    LosesNothing inputs (t + 1) (played t first).components all.components) (sym next)
+    (law t (omega arith))))
 
 pub many-of : (inputs : Inputs) (old : NetworkState) (cycles : ℕ) → IsNetworkOf inputs old
     → old.time + cycles ≤ inputs.cycles → IsNetworkOf inputs (played cycles old)

@@ -1,6 +1,7 @@
 //! A network, cycle by cycle, and the log of its run.
 #![tactic(auto)]
 
+mod beginning;
 mod given;
 mod giving;
 mod logging;

@@ -6,6 +6,8 @@ ghost use Rattle.aeth_components.specs.Turns.{flits_on};
 ghost use Rattle.aeth_accepted.specs.Inputs.{Inputs, run_of};
 ghost use Rattle.aeth_stimuli.specs.Stimuli.{stimuli_of};
 ghost use Rattle.aeth_running.specs.FirstLog.{first_log};
+ghost use Rattle.aeth_running.specs.Idle.{IsNextBusyOf};
+ghost use Rattle.aeth_running.specs.Lossless.{LosesNothing};
 ghost use Rattle.aeth_running.specs.Network.{first_network, played, stepped};
 ghost use Rattle.aeth_running.specs.Routing.{ByHeaders, IsRoutingFor};
 ghost use Rattle.aeth_running.specs.Quiet.{AreStill, IsNextBusy};
@@ -17,9 +19,9 @@ ghost use Rattle.aeth_network.specs.First.{IsFirstState};
 ghost use Rattle.aeth_network.specs.Routes.{routing_in};
 ghost use Rattle.aeth_network.specs.Runs.{AreWiresOf, IsNetworkOf};
 
+use crate::beginning::log_before;
 use crate::given::{Cursors, Given};
 use crate::giving::{offer, take};
-use crate::logging::first_log;
 use crate::next::{next_own, next_taking, place_before};
 use crate::places::behind;
 use crate::routing::enter;
@@ -126,7 +128,7 @@ impl RoutedNetwork {
 
     /// One more cycle of the run: sessions go, words are offered, receivers take as their rows say, rows
     /// enter the tables of routers, and the components do a cycle with its events. It takes no memory and
-    /// can't fail.
+    /// can't fail. Of accepted inputs it loses no flit and no word.
     pub fn cycle(&mut self, order: &Order)
         requires order { length order.now ≡ length self.old.components.parts }
         requires time { self.old.time < self.old.log.cycles }
@@ -134,6 +136,8 @@ impl RoutedNetwork {
         ensures parts { length self.new.components.parts ≡ length self.old.components.parts }
         ensures run { (inputs : Inputs) → IsNetworkOf inputs self.old
             → IsNetworkOf inputs self.new }
+        ensures lossless { (inputs : Inputs) → IsNetworkOf inputs self.old
+            → LosesNothing inputs self.new.time self.old.components self.new.components }
     {
         self.cycle_from::<Brand>(order, Blank::new(1));
     }
@@ -147,9 +151,12 @@ impl RoutedNetwork {
         ensures parts { length self.new.components.parts ≡ length self.old.components.parts }
         ensures run { (inputs : Inputs) → IsNetworkOf inputs self.old
             → IsNetworkOf inputs self.new }
+        ensures lossless { (inputs : Inputs) → IsNetworkOf inputs self.old
+            → LosesNothing inputs self.new.time self.old.components self.new.components }
         ensures counted { steps.new ≤ steps.old + 2 * flits_on self.old.components.wires
             + 2 * flits_on self.new.components.wires }
     {
+        aeth_running::laws::cycles_lose_nothing();
         if self.time < self.cursors.quiet_until {
             self.cycle_with_words(order, steps);
         } else {
@@ -216,6 +223,8 @@ impl RoutedNetwork {
         ensures parts { length self.new.components.parts ≡ length self.old.components.parts }
         ensures run { (inputs : Inputs) → IsNetworkOf inputs self.old
             → IsNetworkOf inputs self.new }
+        ensures lossless { (inputs : Inputs) → IsNetworkOf inputs self.old
+            → LosesNothing inputs self.new.time self.old.components self.new.components }
     {
         let mut steps = Steps::<L>::open(blank);
         self.cycle_counted(order, &mut steps);
@@ -223,10 +232,23 @@ impl RoutedNetwork {
 
     /// The next cycle in which something happens: a flit is on a wire or is sent, a word is offered or
     /// taken, or a switch does something. All cycles before it leave the network as it is. Where there
-    /// is none it is the number of cycles of the run.
+    /// is none it is the number of cycles of the run. Of a network of accepted inputs it is the next cycle
+    /// of their run that isn't idle.
     ///
-    /// It costs no time in the cycles that are passed over.
+    /// The cycles that are passed over cost no time. Rows of receivers are looked at up to the next word, switch or
+    /// slot in which an interface sends, and no further.
     pub fn next_busy(&self) -> u32
+        ensures next { IsNextBusy self.now result }
+        ensures run { (inputs : Inputs) → IsNetworkOf inputs self.now
+            → IsNextBusyOf (run_of inputs) self.now.time inputs.cycles result }
+    {
+        aeth_running::laws::idle_cycles_are_still();
+        self.next_unstill()
+    }
+
+    // The next cycle that doesn't leave the network as it is. What components send by themselves bounds how far
+    // receivers' rows are looked at.
+    fn next_unstill(&self) -> u32
         ensures { IsNextBusy self.now result }
     {
         aeth_running::laws::quiet_cycles_are_still();
@@ -234,8 +256,8 @@ impl RoutedNetwork {
         if self.state.components.are_wires_empty() {
             let next = self.given.next(self.cursors, time, self.cycles());
             let components = &self.state.components;
-            let next = next_taking(components, &self.given.takes, self.cursors.take, time, next);
-            next_own(components, time, next)
+            let next = next_own(components, time, next);
+            next_taking(components, &self.given.takes, self.cursors.take, time, next)
         } else {
             time
         }
@@ -341,23 +363,6 @@ fn with_given(alloc: Global, inputs: &RunInputs, given: Given) -> Result<RoutedN
     let log = log_before(alloc, inputs, &given)?;
     let state = State::of(alloc, inputs, &given.schedule, &given.tables)?;
     Ok(begun(inputs, given, state, log))
-}
-
-// The log of accepted inputs that are given this, before their first cycle.
-fn log_before(alloc: Global, inputs: &RunInputs, given: &Given) -> Result<SimLog, NoMemory>
-    requires { stimuli_with given.now ≡ stimuli_of inputs.now }
-    ensures { IfOk result (λ log. log ≡ first_log inputs.now) }
-{
-    aeth_events::laws::stimuli_are_stimuli();
-    inputs.are_accepted();
-    first_log(
-        alloc,
-        inputs.chip(),
-        inputs.app(),
-        inputs.words(),
-        given.schedule.goings(),
-        inputs.cycles(),
-    )
 }
 
 // The network of accepted inputs that is given this, with its first state and the log before its first

@@ -5,6 +5,8 @@ ghost use Rattle.aeth_group.specs.Members.{groups_of};
 ghost use Rattle.aeth_components.specs.Turns.{flits_on};
 ghost use Rattle.aeth_report.specs.RunLog.{log_of};
 ghost use Rattle.aeth_accepted.specs.Inputs.{AreAccepted, Inputs, run_of};
+ghost use Rattle.aeth_running.specs.Idle.{IsNextBusyOf};
+ghost use Rattle.aeth_running.specs.Lossless.{LosesNothing};
 ghost use Rattle.aeth_running.specs.Network.{first_network, played, stepped};
 ghost use Rattle.aeth_running.specs.Routing.{ByHeaders};
 ghost use Rattle.aeth_running.specs.Quiet.{AreStill, IsNextBusy};
@@ -124,7 +126,8 @@ impl Network {
     }
 
     /// One more cycle of the run: sessions go, words are offered, receivers take as their rows say,
-    /// and the components do a cycle with its events. It takes no memory and can't fail.
+    /// and the components do a cycle with its events. It takes no memory and can't fail. Of accepted inputs it
+    /// loses no flit and no word.
     pub fn cycle(&mut self, order: &Order)
         requires order { length order.now ≡ length self.old.components.parts }
         requires time { self.old.time < self.old.log.cycles }
@@ -132,12 +135,15 @@ impl Network {
         ensures parts { length self.new.components.parts ≡ length self.old.components.parts }
         ensures run { (inputs : Inputs) → IsNetworkOf inputs self.old
             → IsNetworkOf inputs self.new }
+        ensures lossless { (inputs : Inputs) → IsNetworkOf inputs self.old
+            → LosesNothing inputs self.new.time self.old.components self.new.components }
     {
         self.routed.cycle(order);
     }
 
-    /// The same, which counts the steps of components: each that drives or latches. All others rest, so
-    /// there are at most two for each wire that had a flit before, and two for each that has one behind.
+    /// The same, which counts the steps: each flit that comes to a component, and each interface that sends. All
+    /// others rest, so there are at most two for each wire that had a flit before, and two for each that has one
+    /// behind.
     pub fn cycle_counted<L: Ledger>(&mut self, order: &Order, steps: &mut Steps<L>)
         requires order { length order.now ≡ length self.old.components.parts }
         requires time { self.old.time < self.old.log.cycles }
@@ -145,6 +151,8 @@ impl Network {
         ensures parts { length self.new.components.parts ≡ length self.old.components.parts }
         ensures run { (inputs : Inputs) → IsNetworkOf inputs self.old
             → IsNetworkOf inputs self.new }
+        ensures lossless { (inputs : Inputs) → IsNetworkOf inputs self.old
+            → LosesNothing inputs self.new.time self.old.components self.new.components }
         ensures counted { steps.new ≤ steps.old + 2 * flits_on self.old.components.wires
             + 2 * flits_on self.new.components.wires }
     {
@@ -153,9 +161,12 @@ impl Network {
 
     /// The next cycle in which something happens: a flit is on a wire or is sent, a word is offered or
     /// taken, or a switch does something. All cycles before it leave the network as it is. Where there
-    /// is none it is the number of cycles of the run.
+    /// is none it is the number of cycles of the run. Of accepted inputs it is the next cycle of their run that
+    /// isn't idle.
     pub fn next_busy(&self) -> u32
-        ensures { IsNextBusy self.now result }
+        ensures next { IsNextBusy self.now result }
+        ensures run { (inputs : Inputs) → IsNetworkOf inputs self.now
+            → IsNextBusyOf (run_of inputs) self.now.time inputs.cycles result }
     {
         self.routed.next_busy()
     }

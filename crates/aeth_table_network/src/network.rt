@@ -4,6 +4,7 @@ ghost use Rattle.std.specs.Prelude.{◌≡◌, ◌<◌, ◌-◌, IfOk, length};
 ghost use Rattle.aeth_group.specs.Members.{groups_of};
 ghost use Rattle.aeth_report.specs.RunLog.{log_of};
 ghost use Rattle.aeth_accepted.specs.Inputs.{AreAccepted, Inputs, run_of};
+ghost use Rattle.aeth_running.specs.Lossless.{LosesNothing};
 ghost use Rattle.aeth_running.specs.Network.{first_network, played, stepped};
 ghost use Rattle.aeth_running.specs.Told.{told};
 ghost use Rattle.aeth_network.specs.Runs.{AreWiresOf, IsNetworkOf};
@@ -127,7 +128,7 @@ impl TableNetwork {
 
     /// One more cycle of the run: sessions go, words are offered, receivers take as their rows say, rows
     /// enter the tables of routers, and the components do a cycle with its events. It takes no memory and
-    /// can't fail.
+    /// can't fail. Of accepted inputs it loses no flit and no word.
     pub fn cycle(&mut self, order: &Order)
         requires order { length order.now ≡ length self.old.components.parts }
         requires time { self.old.time < self.old.log.cycles }
@@ -135,6 +136,8 @@ impl TableNetwork {
         ensures parts { length self.new.components.parts ≡ length self.old.components.parts }
         ensures run { (inputs : Inputs) → IsNetworkOf inputs self.old
             → IsNetworkOf inputs self.new }
+        ensures lossless { (inputs : Inputs) → IsNetworkOf inputs self.old
+            → LosesNothing inputs self.new.time self.old.components self.new.components }
     {
         self.routed.cycle(order);
     }
@@ -150,7 +153,7 @@ impl TableNetwork {
     }
 }
 
-/// Plays all cycles of the run that are left, each component in its place of the order.
+/// Plays all cycles of the run that are left. Every order of the components gives the same.
 pub fn simulate_tables(network: &mut TableNetwork, order: &Order)
     requires { length order.now ≡ length network.old.components.parts }
     ensures played { network.new

@@ -17,7 +17,7 @@ cycles-init g c =
       least = omega arith;
       cycles = refl;
       parts = refl;
-      next = c.next_busy-next.ensures;
+      next = c.next_busy-next.ensures.next;
       counted = omega arith;
     }
 

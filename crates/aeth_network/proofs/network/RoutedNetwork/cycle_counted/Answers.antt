@@ -1,7 +1,7 @@
 use Rattle.std.proofs.Common.{subst}
 use Rattle.std.specs.Prelude.{vec_capacity}
 use Rattle.aeth_network.specs.Brought.{BringsWords}
-use Rattle.aeth_network.proofs.Playing.{still-of}
+use Rattle.aeth_network.proofs.Playing.{loses-of, still-of}
 use Rattle.aeth_network.proofs.QuietPlaces.{brings-words}
 use Rattle.aeth_network.proofs.SeenNetworks.{in-order, seen}
 use Rattle.aeth_network.proofs.network.RoutedNetwork.cycle_counted.Goals as goal
@@ -23,3 +23,14 @@ returns-then-self-clause-run g c = λ inputs is.
 pub returns-else-self-clause-run : goal.returns-else-self-clause-run
 returns-else-self-clause-run g c = λ inputs is.
     still-of inputs c.args.self.now _ is c.requires.time c.cycle_with_rows.ensures.steps
+
+-- It loses nothing.
+pub returns-then-self-clause-lossless : goal.returns-then-self-clause-lossless
+returns-then-self-clause-lossless g c = λ inputs is.
+    loses-of inputs c.args.self.now _ is c.requires.time c.cycle_with_words.ensures.steps
+    (c.cycles_lose_nothing.ensures inputs is.accepted c.args.self.now.routing is.routed)
+
+pub returns-else-self-clause-lossless : goal.returns-else-self-clause-lossless
+returns-else-self-clause-lossless g c = λ inputs is.
+    loses-of inputs c.args.self.now _ is c.requires.time c.cycle_with_rows.ensures.steps
+    (c.cycles_lose_nothing.ensures inputs is.accepted c.args.self.now.routing is.routed)

@@ -1,7 +1,7 @@
 use Rattle.std.proofs.Common.{◌∙◌, ap}
 use Rattle.aeth_stimuli.specs.Stimuli.{Stimuli}
 use Rattle.aeth_network.proofs.FirstGoings.{fresh-goings}
-use Rattle.aeth_network.proofs.network.log_before.Goals as goal
+use Rattle.aeth_network.proofs.beginning.log_before.Goals as goal
 
 -- The words of sessions are there.
 pub first_log-requires-clause-goings : goal.first_log-requires-clause-goings
