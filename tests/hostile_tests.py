@@ -125,6 +125,8 @@ class Hostile(WithHome):
 
     def test_a_key_of_many_parts(self):
         path = self.file("a" + 60_000 * ".a" + " = 1\n" + PAIR.read_text(encoding="utf-8"))
+        self.assertIn("line 1: a key has more than 80 parts", self.where("chip", path))
+        path = self.file("a" + 79 * ".a" + " = 1\n" + PAIR.read_text(encoding="utf-8"))
         self.assertIn("line 1: the root, key `a` is unknown", self.where("chip", path))
 
     def test_letters_that_a_terminal_obeys(self):
@@ -357,13 +359,13 @@ class Toml(unittest.TestCase):
         self.assertEqual((lines.get(("a", 4)), lines.get(("a", 0, "b")), lines.get(())), (None, None, None))
 
     def test_memory(self):
-        """A key of many parts takes memory by its length, and not by the square of it; what many values take has a limit."""
+        """What is read of a key of many parts, or of many values, has a limit."""
         for text, most in ((b"a" + 20_000 * b".a" + b" = 1", 50), (b"a = [" + 300_000 * b"[]," + b"]", 100)):
             tracemalloc.start()
             try:
                 toml_lines.read(text)
             except toml_lines.TomlError as error:
-                self.assertIn("more than 200,000 keys and values", str(error))
+                self.assertRegex(str(error), "more than (80 parts|200,000 keys and values)")
             peak = tracemalloc.get_traced_memory()[1]
             tracemalloc.stop()
             self.assertLess(peak, most << 20)
