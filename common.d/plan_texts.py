@@ -1,8 +1,7 @@
-"""Texts that `aeth` prints of a design: plans, the tables of interfaces, needs, refused units and certificates, by names.
+"""Texts that `aeth` prints of a design: plans, the tables of interfaces, needs and refused units, by names.
 
 `aeth` has accepted or printed each of them, so nothing is judged here.
 """
-from collections.abc import Iterable, Iterator
 from dataclasses import dataclass
 from typing import NamedTuple
 
@@ -129,14 +128,3 @@ def read_refused(errors: str) -> list[RefusedUnit]:
     """The refused units among the lines that `aeth allocate` writes to standard error."""
     found = [line.split(" ")[2:] for line in errors.splitlines() if line.startswith("refused unit ")]
     return [RefusedUnit(connection, int(group), side, int(turn)) for connection, group, side, turn in found]
-
-
-def read_certificate(lines: Iterable[str]) -> Iterator[RefusedUnit | tuple[int, ...]]:
-    """The lines of a text of certificates, one after the other: a try's unit, and then its cuts, each by its links."""
-    for line in lines:
-        word, _, rest = line.rstrip("\n").partition(" ")
-        if word == "try":
-            connection, group, side, turn = rest.split(" ")
-            yield RefusedUnit(connection, int(group), side, int(turn))
-        elif word == "cut":
-            yield numbers_of(rest)

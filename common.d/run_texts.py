@@ -52,12 +52,6 @@ def rows_behind_header(data: bytes) -> Iterator[list[str]]:
     return records
 
 
-def read_words(data: bytes, cycles: int) -> Iterator[WordRow]:
-    """The words that are offered before a cycle."""
-    rows = (WordRow(connection, side, int(cycle), int(value)) for connection, side, cycle, value in rows_behind_header(data))
-    return (row for row in rows if row.cycle < cycles)
-
-
 def read_receivers(data: bytes, cycles: int) -> Iterator[PullRow]:
     """The pulls that begin before a cycle."""
     rows = (PullRow(connection, side, int(cycle), int(pull)) for connection, side, cycle, pull in rows_behind_header(data))

@@ -3,11 +3,10 @@
 The order of turns is that of docs/RULES.md. What is tried is the application as far as that turn: with the units that were
 granted before, and with the refused one, which then has the last turn and finds just what it found.
 """
-from collections.abc import Iterable, Iterator
+from collections.abc import Iterable
 from concurrent.futures import ThreadPoolExecutor
 from dataclasses import dataclass
 from itertools import count
-import heapq
 import os
 
 from design_files import Application
@@ -16,74 +15,17 @@ from given import Given
 from plan_texts import Grant, Need, RefusedUnit, read_needs, read_plan, read_refused
 from program import answer, made
 from toml_lines import Tree
+from turn_order import Unit, turns_of
 
 MOST_LATENCY = 4_096
 MOST_DELAY = 32  # of a path: with a latency of so much more than the slots of a table no gap is too great
 PARTS = 5  # of a range of latencies, of which the ends are tried at once
 
-Unit = tuple[str, int]  # a connection and a group
-
-
-def units_of(app: Application) -> Iterator[Unit]:
-    """The units of an application."""
-    for name in app.connections:
-        yield from ((name, group) for group in sorted({app.groups[use] for use in app.uses if name in app.members[use]}))
-
-
-class Waiting:
-    """The units that wait for their turns: those with a seated core, and the others."""
-
-    def __init__(self, app: Application, needs: dict[str, Need]) -> None:
-        self.app = app
-        numbers = {name: number for number, name in enumerate(app.connections)}
-
-        def key(unit: Unit) -> tuple[int, int, int, int]:
-            connection, need = app.connections[unit[0]], needs[unit[0]]
-            latency = min(connection.fwd.latency, connection.back.latency)
-            return -(need.fwd + need.back), latency, numbers[unit[0]], unit[1]
-
-        self.units = sorted(units_of(app), key=key)
-        self.by_core: dict[str, list[int]] = {}
-        for place, (name, _) in enumerate(self.units):
-            for core in (app.connections[name].source, app.connections[name].target):
-                self.by_core.setdefault(core, []).append(place)
-        self.heaps: tuple[list[int], list[int]] = ([], list(range(len(self.units))))  # seated, and all
-        self.done: set[int] = set()
-        for fixed in app.cores.values():
-            if fixed.interface:
-                self.seat(fixed.name)
-
-    def seat(self, core: str) -> None:
-        for place in self.by_core.pop(core, ()):
-            heapq.heappush(self.heaps[0], place)
-
-    def all(self) -> Iterator[Unit]:
-        """The units in the order of their turns. What takes them says in between which cores were seated."""
-        for _ in self.units:
-            heap = next(heap for heap in self.heaps if self.has_one(heap))
-            place = heapq.heappop(heap)
-            self.done.add(place)
-            yield self.units[place]
-
-    def has_one(self, heap: list[int]) -> bool:
-        while heap and heap[0] in self.done:
-            heapq.heappop(heap)
-        return bool(heap)
-
 
 def granted_before(app: Application, needs: Iterable[Need], refused: Iterable[RefusedUnit], turn: int) -> list[Unit]:
     """The units that were granted before a turn."""
-    waiting = Waiting(app, {need.connection: need for need in needs})
-    without = {(unit.connection, unit.group) for unit in refused}
-    granted: list[Unit] = []
-    for number, unit in enumerate(waiting.all(), 1):
-        if number == turn:
-            break
-        if unit not in without:
-            granted.append(unit)
-            waiting.seat(app.connections[unit[0]].source)
-            waiting.seat(app.connections[unit[0]].target)
-    return granted
+    without = {Unit(unit.connection, unit.group) for unit in refused}
+    return [unit for unit, number in turns_of(app, needs, without).items() if number < turn and unit not in without]
 
 
 @dataclass(frozen=True)

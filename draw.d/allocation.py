@@ -4,23 +4,14 @@
 leave nothing behind, and change neither the order of the other turns nor what is granted in them. The order of turns is told
 by the needs and the wishes; it is believed only where it gives each refused unit the turn that `allocate` says.
 """
-from collections import defaultdict
 from collections.abc import Sequence
 from dataclasses import dataclass
-import heapq
-from typing import NamedTuple
 
-from design import SIDES, numbers_of, together_in
+from design import SIDES, together_in
 from design_files import Application
 from plan_texts import Grant, Need, Plan, RefusedUnit, read_plan
 from program import Input, answer, made
-
-
-class Unit(NamedTuple):
-    """A connection in a group of use cases."""
-
-    connection: str
-    group: int
+from turn_order import Unit, cores_of, turns_of
 
 
 @dataclass(frozen=True)
@@ -42,49 +33,6 @@ def fixed_seats(app: Application) -> dict[str, list[str]]:
         if core.interface is not None:
             seats.setdefault(core.interface, []).append(core.name)
     return seats
-
-
-def turns_of(app: Application, needs: Sequence[Need], refused: set[Unit]) -> dict[Unit, int]:
-    """The turn of each unit, from 1 on. Units with a seated core come first, then those with greater needs, with the lesser
-    wish for latency, and those that stand earlier in the file."""
-    numbers = numbers_of(app)
-    sums = {need.connection: need.fwd + need.back for need in needs}
-    least = {name: min(one.fwd.latency, one.back.latency) for name, one in app.connections.items()}
-    units = sorted(
-        {Unit(name, app.groups[use]) for use, names in app.members.items() for name in names},
-        key=lambda unit: (-sums[unit.connection], least[unit.connection], numbers[unit.connection], unit.group),
-    )
-    at_core: dict[str, list[int]] = defaultdict(list)
-    for place, unit in enumerate(units):
-        for core in cores_of(app, unit):
-            at_core[core].append(place)
-    ready: list[int] = []
-    seated: set[str] = set()
-
-    def seat(core: str) -> None:
-        if core not in seated:
-            seated.add(core)
-            for place in at_core[core]:
-                heapq.heappush(ready, place)
-
-    for fixed in app.cores.values():
-        if fixed.interface is not None:
-            seat(fixed.name)
-    turns: dict[Unit, int] = {}
-    waiting = iter(range(len(units)))
-    while len(turns) < len(units):
-        place = heapq.heappop(ready) if ready else next(waiting)
-        unit = units[place]
-        if unit not in turns:
-            turns[unit] = len(turns) + 1
-            for core in cores_of(app, unit) if unit not in refused else ():
-                seat(core)
-    return turns
-
-
-def cores_of(app: Application, unit: Unit) -> tuple[str, str]:
-    connection = app.connections[unit.connection]
-    return connection.source, connection.target
 
 
 def text_without(app: Application, refused: set[Unit]) -> str:

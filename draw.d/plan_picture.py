@@ -167,7 +167,8 @@ def reading(chip_map: ChipMap, chosen: bool) -> str:
     grey = " Grey: channels that weren't chosen." if chosen else ""
     return (
         f"Beside each link: its slots 0 to {strip.slots - 1}{rows} and at their end its number{delays}. A cell has the colour of "
-        f"its connection{numbers}; it is full for a channel forward and lower for one back.{grey} The more is in use, the wider the line."
+        f"its connection{numbers}; it is full for a channel forward and lower for one back.{grey} The more is in use, the wider the "
+        "line."
     )
 
 

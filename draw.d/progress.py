@@ -7,7 +7,7 @@ import time
 from ending import tell
 
 QUIET = 1.0  # seconds before the first word on a terminal
-APART = 8.0  # seconds before the first line elsewhere, and from it to the next one
+APART = 30.0  # seconds before the first line elsewhere, and from it to the next one
 
 
 class Progress:

@@ -64,7 +64,8 @@ def refused_sentence(app: Application, unit: RefusedUnit, refusal: Refusal | Non
     why = fullest(refusal) if refusal else ""
     return (
         f"Connection {unit.connection} in group {unit.group} ({', '.join(app.uses_of(unit.group))}): its channel {unit.side} had "
-        f"no admissible path with a suitable set of free slots, in turn {unit.turn}." + (f" What was in the way: {why}." if why else "")
+        f"no admissible path with a suitable set of free slots, in turn {unit.turn}."
+        + (f" What was in the way: {why}." if why else "")
     )
 
 

@@ -204,7 +204,8 @@ def page(report: Report) -> str:
     if report.pictures:
         parts.append(f"<h2>Pictures</h2><p class=less>{READING}</p>")
         parts += [figure(shown, len(report.pictures) <= MOST_OPEN and not at) for at, shown in enumerate(report.pictures)]
-    parts.append(f'<script type="application/json" id="rows">{data_of(report)}</script><script>{script}</script></body></html>\n')
+    parts.append(f'<script type="application/json" id="rows">{data_of(report)}</script>')
+    parts.append(f"<script>{script}</script></body></html>\n")
     return "\n".join(parts)
 
 

@@ -4,7 +4,7 @@ import re
 import tracemalloc
 import unittest
 
-from allocation import Allocation, State, Unit, fixed_seats, text_without, turns_of
+from allocation import Allocation, State, fixed_seats, text_without
 from chips import app, chip, grid
 from design_files import read_application, read_chip
 from draw_tests import EXAMPLES, WithProgram, read, tag, texts
@@ -12,6 +12,7 @@ from plan_texts import Need, RefusedUnit, read_needs, read_plan
 from program import Input
 from refusal_picture import Refusal, draw_refusal
 from refusals import read_trials
+from turn_order import Unit, turns_of
 
 ROLL = ("examples/pair.toml", "examples/roll.toml")
 ROLL_TEXT = "explain 1\ntry c0 0 back 1\ncut 0\nend\n"

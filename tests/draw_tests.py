@@ -1,7 +1,6 @@
 """Tests of `./draw`: its pictures against what `aeth` prints, its inputs and its statuses."""
 from collections import Counter, namedtuple
 import os
-import pathlib
 import random
 import re
 import subprocess
