@@ -16,6 +16,7 @@ UNTOLD = 7  # a file that `aeth` accepts can't be read by the script
 FAULT = 70  # a fault of the script itself
 NOT_RUN = 126  # `aeth` can't be run
 BROKEN_OFF = 130  # by the user
+MOST_LETTERS = 1_000  # of a line that says why
 
 
 class Stop(Exception):
@@ -121,15 +122,15 @@ def ended(script: str, work: Callable[[list[str]], Result], words: list[str]) ->
     closed = open_streams()
     try:
         result = work(words)
-        tell(result.errors)
         write(result.text, "what was asked for", closed)
+        tell(result.errors)
         return result.status
     except Passed as passed:
         tell(passed.lines)
         return passed.status
     except Stop as stop:
         if stop.why:
-            tell(f"{script}: {printable(stop.why)}\n")
+            tell(f"{script}: {printable(shortened(stop.why, MOST_LETTERS))}\n")
         return stop.status
     except KeyboardInterrupt:
         return BROKEN_OFF

@@ -14,7 +14,7 @@ import re
 Tree = dict[str, Any]
 Path = tuple[str | int, ...]
 
-MOST_DEPTH = 80  # of arrays and inline tables, one within another
+MOST_DEPTH = 80  # of arrays and inline tables, one within another; and the parts of a key
 MOST_VALUES = 200_000  # keys, and values other than strings; what is accepted has less than a tenth
 
 BLANK = re.compile(r"[ \t]*")
@@ -217,6 +217,8 @@ class Reader:
             self.at += 1
             self.skip(BLANK)
             keys.append(self.key())
+            if len(keys) > MOST_DEPTH:
+                self.stop(f"a key has more than {MOST_DEPTH} parts")
             self.skip(BLANK)
         return keys
 

@@ -24,6 +24,7 @@ class Given:
         self.words = list(words)
         self.by_kind: dict[str, str] = {}
         self.files: dict[str, Input] = {}
+        self.seconds = 0.0  # which `aeth` took to answer
         if words and words[0] in WORDS:
             kinds = kinds_of(words[0])
             needed = sum(not word.startswith("[") for word in WORDS[words[0]].split(" "))

@@ -9,6 +9,7 @@ from plan_texts import RefusedUnit
 from turns import Trial
 
 MOST_TRIED = 3  # units that are tried with other latencies
+MOST_SECONDS = 2  # of an allocation that is done again and again
 HELP = (
     "More slots, a greater detour%s may help, or cores without an `ni` of their own: `./design fit` tries tables and detours, "
     "and `./aeth explain` tells which links were too full, or `./draw refusal` shows them."
@@ -75,7 +76,7 @@ class Units:
             "had no admissible path with a suitable set of free slots."
         ]
         why = why_none(self.ways, self.given.app, self.given.app.connections[unit.connection], unit.side)
-        if why is None and self.tried < MOST_TRIED:
+        if why is None and self.tried < MOST_TRIED and self.given.seconds < MOST_SECONDS:
             self.tried += 1
             why, is_apart = why_no_slots(self.given, self.refused, unit)
             self.some_apart |= is_apart

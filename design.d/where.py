@@ -1,6 +1,7 @@
 """What a refusal of `aeth` means, in words: file, line, key, what stands there, and the rule that it breaks."""
 from collections.abc import Callable, Sequence
 from functools import cached_property
+import time
 
 from ending import Result, Stop, fault_of, printable
 from given import Given
@@ -106,6 +107,8 @@ def safely(tells: Callable[[], list[str]]) -> list[str]:
         return [f"What this points at can't be told: {printable(error.why)}."]
     except Stop as stop:
         return [printable(stop.why)]
+    except MemoryError:
+        return ["Memory is wanting for what this points at."]
     except Exception as error:
         return [f"What this points at can't be told: {fault_of(error)}"]
 
@@ -141,6 +144,8 @@ class Telling:
 def where(words: Sequence[str]) -> Result:
     """Runs a command, and says what it refuses in words. Gives its status, and both texts with these words."""
     given = Given(words)
+    began = time.monotonic()
     told_ = answer(*given.for_program)
+    given.seconds = time.monotonic() - began
     errors = told_.errors if told_.errors.endswith("\n") or not told_.errors else told_.errors + "\n"
     return Result(told_.text, told_.status, Telling(given, errors).all())

@@ -1,6 +1,7 @@
 """Tests of `design` with hostile files and words: it tells them in a line, and `aeth`'s own line and status stay."""
 import os
 import re
+import signal
 import subprocess
 import sys
 import time
@@ -97,6 +98,23 @@ class Hostile(WithHome):
             self.assertRegex(ran.stderr, r"\A(design: what was asked for can't be written: [ -~]+\n)?\Z")
             self.assertEqual(bool(ran.stderr), shut and "2>&-" not in closing, closing)
 
+    def test_one_line_where_two_could_be(self):
+        """A chip with a note on far pairs, which can't be written."""
+        with open("/dev/full", "wb") as full:
+            status, _, errors = self.home.design("chip", "ring", "64", out=full)
+        self.assertEqual((status, errors), (5, "design: what was asked for can't be written: No space left on device\n"))
+
+    def test_it_is_broken_off_without_a_word(self):
+        pipe = self.home.room / "pipe"
+        os.mkfifo(pipe)
+        line = [str(self.home.top / "design"), "words", pipe, ONE, "main", "9"]
+        # Tests that a shell runs in the background are begun with SIGINT ignored, and so would be what they run.
+        how = {"preexec_fn": lambda: signal.signal(signal.SIGINT, signal.SIG_DFL)}
+        with subprocess.Popen(line, stdout=subprocess.PIPE, stderr=subprocess.PIPE, **how) as ran:
+            with open(pipe, "wb"):  # it has opened the pipe by now, and waits for a text
+                ran.send_signal(signal.SIGINT)
+                self.assertEqual((ran.communicate(), ran.returncode), ((b"", b""), -signal.SIGINT))
+
     def test_a_file_of_many_brackets(self):
         """What is read of it has a limit: a few seconds, and memory for some of it."""
         for text in (b"a = [" + 2_000_000 * b"[]," + b"]\n", b"a = " + 3_000_000 * b"[", b"a" + 2_000_000 * b".a" + b" = 1\n"):
@@ -107,6 +125,8 @@ class Hostile(WithHome):
 
     def test_a_key_of_many_parts(self):
         path = self.file("a" + 60_000 * ".a" + " = 1\n" + PAIR.read_text(encoding="utf-8"))
+        self.assertIn("line 1: a key has more than 80 parts", self.where("chip", path))
+        path = self.file("a" + 79 * ".a" + " = 1\n" + PAIR.read_text(encoding="utf-8"))
         self.assertIn("line 1: the root, key `a` is unknown", self.where("chip", path))
 
     def test_letters_that_a_terminal_obeys(self):
@@ -339,13 +359,13 @@ class Toml(unittest.TestCase):
         self.assertEqual((lines.get(("a", 4)), lines.get(("a", 0, "b")), lines.get(())), (None, None, None))
 
     def test_memory(self):
-        """A key of many parts takes memory by its length, and not by the square of it; what many values take has a limit."""
-        for text, most in ((b"a" + 60_000 * b".a" + b" = 1", 100), (b"a = [" + 2_000_000 * b"[]," + b"]", 150)):
+        """What is read of a key of many parts, or of many values, has a limit."""
+        for text, most in ((b"a" + 20_000 * b".a" + b" = 1", 50), (b"a = [" + 300_000 * b"[]," + b"]", 100)):
             tracemalloc.start()
             try:
                 toml_lines.read(text)
             except toml_lines.TomlError as error:
-                self.assertIn("more than 200,000 keys and values", str(error))
+                self.assertRegex(str(error), "more than (80 parts|200,000 keys and values)")
             peak = tracemalloc.get_traced_memory()[1]
             tracemalloc.stop()
             self.assertLess(peak, most << 20)
