@@ -1,5 +1,5 @@
-"""Tests of README.md and of the pages of help: each command that they show prints what stands there; and of all documents:
-each file that they name is there."""
+"""Tests of README.md, of the pages to follow and of the pages of help: each command that they show prints what stands there;
+and of all documents: each file that they name is there."""
 import re
 import shutil
 import subprocess
@@ -8,13 +8,15 @@ import unittest
 from home import Home, PROGRAM, TOP
 
 README = (TOP / "README.md").read_text()
+# Pages whose commands are run, each from its first to its last one in a folder of its own.
+FOLLOWED = {name: (TOP / name).read_text() for name in ("README.md", "docs/GUIDE.md", "docs/TOOLS.md")}
 DOCUMENTS = {path: path.read_text() for place in ("*.md", "docs/*.md", "bench/*.md", "crates/*/README.md")
              for path in sorted(TOP.glob(place))}
 
 
-def sessions():
+def sessions(page):
     """The commands of each block with prompts, and what stands below each."""
-    for block in re.findall(r"^```\n(\$ .*?)^```", README, re.M | re.S):
+    for block in re.findall(r"^```\n(\$ .*?)^```", page, re.M | re.S):
         parts = re.split(r"^\$ ", block.replace("\\\n", ""), flags=re.M)[1:]
         yield [tuple(part.split("\n", 1)) for part in parts]
 
@@ -79,12 +81,13 @@ class Readme(unittest.TestCase):
         return all((self.home.top / word).exists() for word in read if re.search(r"\.(toml|plan|csv|log)$", word))
 
     def test_sessions(self):
-        found = list(sessions())
-        self.assertGreater(len(found), 3)
-        for session in found:
-            for command, text in session:
-                if self.has_files(command):
-                    self.assertEqual(self.shell(command), text, command)
+        for name, least in (("docs/GUIDE.md", 8), ("docs/TOOLS.md", 1)):
+            found = list(sessions(FOLLOWED[name]))
+            self.assertGreaterEqual(len(found), least, name)
+            for session in found:
+                for command, text in session:
+                    if self.has_files(command):
+                        self.assertEqual(self.shell(command), text, command)
 
     def test_table_of_commands(self):
         rows = re.findall(r"^\| `[^|]*` \| `(\./aeth [^|]*)` \| (.*) \|$", README, re.M)
@@ -96,7 +99,9 @@ class Readme(unittest.TestCase):
 
     def test_commands_without_their_text(self):
         """They end with status 0."""
-        for block in re.findall(r"^```sh\n(.*?)^```", README, re.M | re.S):
+        blocks = [block for page in FOLLOWED.values() for block in re.findall(r"^```sh\n(.*?)^```", page, re.M | re.S)]
+        self.assertGreater(len(blocks), 5)
+        for block in blocks:
             for command in re.split(r"\n(?=\S)", re.sub(r" *#.*", "", block.replace("\\\n", ""))):
                 if command.startswith(("./aeth ", "./draw ", "./design ")) and self.has_files(command):
                     self.assertEqual(self.shell(f"({command.strip()}) >/dev/null || echo $?"), "", command)
