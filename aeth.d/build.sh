@@ -6,7 +6,8 @@
 # what a gate or another checkout proved of the same sources isn't proved again.
 #
 # What runs afterwards is a copy, `out/aeth`. Beside it stand git's index and a list of the sources that it was built
-# from, and the prover's text where the build failed.
+# from, and the prover's text where the build failed. The last few programs are kept in the user's cache too, each by the
+# checksum of its sources and the kit's line: so another checkout, or one that goes back to what it was, has its program at once.
 
 out=$home/out
 log=$out/build.$$.log
@@ -138,6 +139,23 @@ is_left_by_gate() {
         [ -z "$changed" ] && [ -n "$(find "$built" -newermt "@$began" 2>/dev/null)" ]
 }
 
+# Where the program of the noted sources is kept for all checkouts of this user, if there is such a place.
+find_cache() {
+    cache=
+    if ! [ -d "$out/sources.$$" ]; then return; fi
+    tree=$(indexed "sources.$$" write-tree) && kit=$(rt version 2>/dev/null) || return
+    programs=${XDG_CACHE_HOME:-$HOME/.cache}/aeth
+    cache=$programs/$(echo "$tree $kit" | cksum | tr ' ' -)-$tree
+}
+
+# Keeps a program there, and of the others the seven that were kept last.
+keep_for_others() {
+    if [ -z "$cache" ] || [ -x "$cache" ]; then return; fi
+    if mkdir -p "$programs" 2>/dev/null && cp "$built" "$cache.$$" 2>/dev/null && mv "$cache.$$" "$cache" 2>/dev/null; then
+        (cd "$programs" && ls -t | tail -n +9 | while read -r old; do rm -f "./$old"; done)
+    fi
+}
+
 # Keeps the program that was built of the noted sources.
 keep() {
     rm -rf "$out/sources" "$out/list"
@@ -177,8 +195,11 @@ build() {
 built=$home/crates/aeth/out/aeth
 mkdir -p "$out" && : >"$log" || give_up "there is no folder $out to build in"
 note_sources
+find_cache
 
-if ! is_left_by_gate; then
+if [ -n "$cache" ] && [ -x "$cache" ]; then
+    built=$cache
+elif ! is_left_by_gate; then
     if ! command -v rt >/dev/null; then
         forget
         rm -f "$log"
@@ -188,6 +209,7 @@ if ! is_left_by_gate; then
     fi
     build
 fi
+keep_for_others
 keep
 forget
 rm -f "$log" "$out/build.log"

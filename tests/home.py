@@ -59,7 +59,8 @@ class Home:
         rt.write_text(RT)
         rt.chmod(0o755)
         self.settings = {**os.environ, "PATH": f"{rt.parent}:{os.environ['PATH']}", "BUILDS": str(self.builds)}
-        self.settings.update(PROGRAM=str(program or ""), SLOW="", CHANGES="")
+        # (no program of an earlier test is taken over: there is no such folder, and none can be made)
+        self.settings.update(PROGRAM=str(program or ""), SLOW="", CHANGES="", XDG_CACHE_HOME="/dev/null")
 
     def end(self):
         shutil.rmtree(self.room)

@@ -107,6 +107,28 @@ class Builds(WithHome):
         self.assertEqual(left, set())
         self.assertLessEqual(set(os.listdir(self.home.top / "out")), {"aeth", "list", "sources"})
 
+    def test_what_was_built_before_is_built_once(self):
+        """In this checkout, which goes back to what it was, and in another one."""
+        cache = str(self.home.room / "cache")
+        self.says("main base middle", 1, XDG_CACHE_HOME=cache)
+        self.main.write_text("more\n")
+        self.says("more base middle", 2, XDG_CACHE_HOME=cache)
+        self.main.write_text("main\n")
+        self.says("main base middle", 2, XDG_CACHE_HOME=cache)
+        other = Home(name="other")
+        self.addCleanup(other.end)
+        self.assertEqual(other.run("a", XDG_CACHE_HOME=cache), (3, "main base middle : a\n", ""))
+        self.assertEqual(other.built(), 0)
+        (other.top / "crates/aeth/src/main.rt").write_text("broken\n")
+        self.assertEqual(other.run("a", XDG_CACHE_HOME=cache)[0], 126)
+
+    def test_few_programs_are_kept(self):
+        cache = self.home.room / "cache"
+        for number in range(10):
+            self.main.write_text(f"text {number}\n")
+            self.says(f"text {number} base middle", number + 1, XDG_CACHE_HOME=str(cache))
+        self.assertEqual(len(os.listdir(cache / "aeth")), 8)
+
     def test_builds_once(self):
         for _ in range(3):
             self.says("main base middle", 1)
