@@ -66,11 +66,12 @@ progress() {
             }')"
 }
 
-# Tells how far the build is, until it is ended: one line that is rewritten on a terminal, else a line for each change.
+# Tells how far the build is, until it is ended: one line that is rewritten on a terminal, else a line for each change. It
+# ends with the list of weights, since a signal that comes while a shell begins may be lost.
 tell_progress() {
     begun=$(date +%s)
     before=
-    while kill -0 $$ 2>/dev/null; do
+    while [ -e "$out/weights.$$" ] && kill -0 $$ 2>/dev/null; do
         progress
         if [ -t 2 ]; then
             printf '\r%s\033[K' "$text" >&2
@@ -83,6 +84,7 @@ tell_progress() {
 }
 
 end_progress() {
+    rm -f "$out/weights.$$"
     kill "$teller" 2>/dev/null
     wait "$teller" 2>/dev/null
     if [ -t 2 ]; then printf '\r\033[K' >&2; fi
