@@ -26,9 +26,9 @@ const ROUTERS: usize = MAX_ROUTERS as usize;
 /// How many least costs there are: a row for each number of links below the most of a path.
 pub(crate) const LEAST: usize = MAX_PATH_LINKS as usize * ROUTERS;
 
-// Whether tables pay: links cost more than 1 where they are used, and routers have so many links that
-// there are many ways.
-fn is_weighed(task: &Task) -> bool {
+/// Whether tables pay: links cost more than 1 where they are used, and routers have so many links that
+/// there are many ways.
+pub(crate) fn is_weighed(task: &Task) -> bool {
     task.prices.of(1, MAX_SLOTS) > 1 && task.chip.links() >= MAX_PORTS * task.chip.routers()
 }
 

@@ -2,20 +2,25 @@
 ghost use Rattle.std.specs.Prelude.{◌≡◌, ◌+◌, ◌<◌, ◌≤◌, ◌==◌, [], ◌∷◌, List, None};
 ghost use Rattle.std.specs.Prelude.{All, IfOk, MatchOption, false, length, sum_by};
 ghost use Rattle.std.specs.List.{list_any};
+ghost use Rattle.aeth_base.specs.Limits.{max_path_links};
 ghost use Rattle.aeth_base.specs.declared.ids.LinkId.{LinkId};
 ghost use Rattle.aeth_base.specs.declared.ids.NiId.{NiId};
-ghost use Rattle.aeth_chip.specs.Paths.{IsPath};
+ghost use Rattle.aeth_chip.specs.Chip.{IsNode};
+ghost use Rattle.aeth_chip.specs.LeastOnward.{least_from};
+ghost use Rattle.aeth_chip.specs.Paths.{IsPath, to_of};
 ghost use Rattle.aeth_chip.specs.declared.node.Node.TheVariants.{Ni};
 ghost use Rattle.aeth_paths.specs.declared.request.Found.{Found};
 ghost use Rattle.aeth_paths.specs.Candidates.{IsCandidate, IsFirst, is_live};
 ghost use Rattle.aeth_paths.specs.Least.{AreWithin};
-ghost use Rattle.aeth_paths.specs.Open.{all_steps, allowed_steps, each_once};
+ghost use Rattle.aeth_paths.specs.Open.{all_steps, allowed_steps, each_once, open_steps};
 ghost use Rattle.aeth_paths.specs.Pairs.{IsOffered, OfferedFrom, OfferedTo, Tries};
-ghost use Rattle.aeth_paths.specs.Walk.{IsPrefix, IsTask, costs_of, path_in, priced};
+ghost use Rattle.aeth_paths.specs.Search.{completions, first_from};
+ghost use Rattle.aeth_paths.specs.Task.{field};
+ghost use Rattle.aeth_paths.specs.Walk.{IsPrefix, IsTask, Stands, costs_of, path_in, priced};
 
 use crate::cost::Cost;
 use crate::ends::found;
-use crate::least::{least_costs, link_costs};
+use crate::least::{is_weighed, least_costs, link_costs};
 use crate::request::{Found, Request};
 use crate::search::{Goal, Prefix, Priced, Task, extend, is_hopeless};
 use aeth_base::{LinkId, MAX_PATH_LINKS, NiId, NoMemory, Path, Steps};
@@ -127,6 +132,45 @@ fn try_pair<L: Ledger>(
     if is_hopeless(task, &bare, &begun, &best) {
         return best;
     }
+    search(task, b, most, &begun, costs, best, steps)
+}
+
+// The first of what was best and the paths of a pair, from what is known of the empty one. Least costs
+// are worked out where links have costs.
+fn search<L: Ledger>(
+    task: &Task,
+    b: NiId,
+    most: u32,
+    begun: &Prefix,
+    costs: &[u32],
+    best: Option<Priced>,
+    steps: &mut Steps<L>,
+) -> Option<Priced>
+    requires task { IsTask task.now }
+    requires most { most ≤ max_path_links }
+    requires prefix { IsPrefix task.now begun.now }
+    requires node { IsNode task.now.chip.now.routers task.now.chip.now.nis begun.now.end }
+    requires stands { Stands (to_of task.now.book.now.links) begun.now.end begun.now.path }
+    requires empty { begun.now.path ≡ [] }
+    requires costs { AreWithin (costs_of task.now) costs.now }
+    requires best { best ≡ priced (costs_of task.now) (path_in best) }
+    ensures best { result ≡ priced (costs_of task.now)
+        (first_from (field task.now.book.now task.now.prices.now task.now.ask b most) (path_in best)
+        (completions (field task.now.book.now task.now.prices.now task.now.ask b most)
+        max_path_links begun.now.end begun.now.path)) }
+    ensures steps { steps.new ≤ steps.old
+        + open_steps (field task.now.book.now task.now.prices.now task.now.ask b most)
+        (least_from task.now.chip.now b) max_path_links begun.now.end begun.now.path }
+{
+    if costs.is_empty() {
+        let bare = Goal {
+            ni: b,
+            most,
+            costs,
+            least: &[],
+        };
+        return extend(task, &bare, begun, best, MAX_PATH_LINKS, steps);
+    }
     let least = least_costs(task, b, most, costs);
     let goal = Goal {
         ni: b,
@@ -134,7 +178,7 @@ fn try_pair<L: Ledger>(
         costs,
         least: &least,
     };
-    extend(task, &goal, &begun, best, MAX_PATH_LINKS, steps)
+    extend(task, &goal, begun, best, MAX_PATH_LINKS, steps)
 }
 
 // The first of what was best and the candidates from one sender to some receivers.
@@ -169,6 +213,35 @@ fn try_to<L: Ledger>(
 }
 
 // The first of the candidates from some senders to some receivers.
+fn try_senders<L: Ledger>(
+    task: &Task,
+    from: &[NiId],
+    to: &[NiId],
+    crowded: &[NiId],
+    costs: &[u32],
+    steps: &mut Steps<L>,
+) -> Option<Priced>
+    requires task { IsTask task.now }
+    requires costs { AreWithin (costs_of task.now) costs.now }
+    ensures best { result ≡ priced (costs_of task.now) (path_in result) }
+    ensures tries { Tries (costs_of task.now) None (path_in result)
+        (OfferedFrom task.now.book.now task.now.ask crowded.now from.now to.now) }
+    ensures steps { steps.new ≤ steps.old + all_steps task.now.chip.now task.now.book.now
+        task.now.prices.now task.now.ask from.now to.now crowded.now }
+{
+    let mut best = None;
+    let mut below = 0;
+    for i in 0..from.len() {
+        let a = from[i];
+        if !holds_below(&from[..i], below, a) {
+            best = try_to(task, a, to, crowded, costs, best, steps);
+        }
+        below = below.max(a.0 as u64 + 1);
+    }
+    best
+}
+
+// The same, with the costs of links where they tell more than their number.
 fn try_from<L: Ledger>(
     task: &Task,
     from: &[NiId],
@@ -183,17 +256,11 @@ fn try_from<L: Ledger>(
     ensures steps { steps.new ≤ steps.old + all_steps task.now.chip.now task.now.book.now
         task.now.prices.now task.now.ask from.now to.now crowded.now }
 {
-    let costs = link_costs(task);
-    let mut best = None;
-    let mut below = 0;
-    for i in 0..from.len() {
-        let a = from[i];
-        if !holds_below(&from[..i], below, a) {
-            best = try_to(task, a, to, crowded, &costs, best, steps);
-        }
-        below = below.max(a.0 as u64 + 1);
+    if !is_weighed(task) {
+        return try_senders(task, from, to, crowded, &[], steps);
     }
-    best
+    let costs = link_costs(task);
+    try_senders(task, from, to, crowded, &costs, steps)
 }
 
 // What a search reads.

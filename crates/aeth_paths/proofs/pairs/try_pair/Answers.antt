@@ -64,8 +64,8 @@ returns-then-not-may_enter-clause-tries g c =
     offered.live)
 
 -- The sender is an interface of the chip.
-pub extend-requires-clause-node : goal.extend-requires-clause-node
-extend-requires-clause-node g c =
+pub search-requires-clause-node : goal.search-requires-clause-node
+search-requires-clause-node g c =
     let chip = c.args.task.now.chip.now in
     let far = subst (λ (ls : List Link). IsDistance ls c.args.a c.args.b (Some c.in-Some.distance))
     c.requires.task.far c.in-Some.ensures.distance in
@@ -121,9 +121,9 @@ returns-clause-tries g c =
     λ link. subst (λ (ls : List Link). IsLinkFrom ls link (Ni c.args.a) (Ni c.args.b) → ⊥)
     (sym c.requires.task.book)
     (no-direct task.chip.now c.requires.task.is_chip c.args.a c.args.b link) in
-    let all : path_in c.extend.result
+    let all : path_in c.search.result
     ≡ first_from f (path_in c.args.best) (completions f max_path_links (Ni c.args.a) []) =
-    ap path_in c.extend.ensures.best ∙ path_in-priced (costs_of task) _
+    ap path_in c.search.ensures.best ∙ path_in-priced (costs_of task) _
     ∙ ap (λ (n : Node). first_from f (path_in c.args.best)
     (completions f max_path_links n c.start-begun.result.path)) c.start-begun.ensures.end
     ∙ ap (λ (p : List LinkId). first_from f (path_in c.args.best)
@@ -150,4 +150,4 @@ returns-clause-steps g c =
     let all = steps-allowed chip c.requires.task.is_chip task.book.now task.prices.now task.ask
     c.args.crowded.now c.args.a c.args.b c.in-Some.distance most far c.min-most.ensures
     (room g (goal.at.returns-clause-steps g c).After-start-begun) in
-    omega (arith, c.extend.ensures.steps, end, none, all)
+    omega (arith, c.search.ensures.steps, end, none, all)

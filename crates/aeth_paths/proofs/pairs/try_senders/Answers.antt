@@ -8,8 +8,8 @@ use Rattle.aeth_paths.specs.Pairs.{OfferedFrom, OfferedTo, Tries}
 use Rattle.aeth_paths.specs.Walk.{costs_of, path_in}
 use Rattle.aeth_paths.proofs.OnceLemmas.{below_more, stands-Contains, sum-new, sum-old}
 use Rattle.aeth_paths.proofs.TryLemmas.{tries-again, tries-more, tries-no}
-use Rattle.aeth_paths.proofs.pairs.try_from.Goals.{then-not-holds_below, else-not-holds_below}
-use Rattle.aeth_paths.proofs.pairs.try_from.Goals as goal
+use Rattle.aeth_paths.proofs.pairs.try_senders.Goals.{then-not-holds_below, else-not-holds_below}
+use Rattle.aeth_paths.proofs.pairs.try_senders.Goals as goal
 
 -- No sender was tried.
 pub loop-i-init : goal.loop-i-init

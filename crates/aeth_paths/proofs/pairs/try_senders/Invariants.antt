@@ -3,7 +3,7 @@ use Rattle.aeth_base.specs.declared.ids.NiId.{NiId}
 use Rattle.aeth_paths.specs.Open.{all_steps}
 use Rattle.aeth_paths.specs.Pairs.{OfferedFrom, Tries}
 use Rattle.aeth_paths.specs.Walk.{costs_of, path_in, priced}
-use Rattle.aeth_paths.proofs.pairs.try_from.Given as goal
+use Rattle.aeth_paths.proofs.pairs.try_senders.Given as goal
 
 -- The senders so far were tried.
 abbrev pub invariant-loop-i : goal.invariant-loop-i
