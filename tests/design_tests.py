@@ -297,7 +297,7 @@ class Help(Designs):
         page = self.run_script("design", "help")[1]
         for command, text in re.findall(r"^design (\w+) (.*?)^$", page, re.M | re.S):
             defaults = re.findall(r"--\w+ [\w,]*\w", "".join(re.findall(r"Without th\w+ words?: (.*)", text)))
-            optional = set(re.findall(r"\[(--\w+) ", text)) - {"--at", "--plan", "--stall"}
+            optional = set(re.findall(r"\[(--\w+) ", text)) - {"--at", "--plan", "--stall", "--wave"}
             self.assertEqual({default.split(" ")[0] for default in defaults}, optional, command)
             if command in self.WORDS:
                 made = [self.run_script("design", command, *self.WORDS[command], *more)[1]
