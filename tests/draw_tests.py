@@ -88,14 +88,14 @@ class WithProgram(unittest.TestCase):
         return *paths, self.home.put(f"{name}.plan", self.aeth("allocate", *paths))
 
 
-class Readme(WithProgram):
+class Tools(WithProgram):
     @classmethod
     def setUpClass(cls):
         super().setUpClass()
         cls.home.put("small.toml", cls.home.design("chip", "torus", "3", "3", "--slots", "4")[1])
 
     def test_its_pictures_are_those_of_its_commands(self):
-        text = (TOP / "README.md").read_text().replace("\\\n", "")
+        text = (TOP / "docs/TOOLS.md").read_text().replace("\\\n", "")
         commands = re.findall(r"^\./draw (.*) > (docs/pictures/\S+)", text, re.M)
         self.assertGreaterEqual(len(commands), 3)
         for words, picture in commands:

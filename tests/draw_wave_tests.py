@@ -137,9 +137,9 @@ class Dumps(unittest.TestCase):
             self.assertEqual([row[:5] for row in dump.rows()], rows_in(HEAD + log))
             self.assertEqual([time for time, _ in dump.states], times, log)
 
-    def test_readme_lays_a_dump_beside_that_of_a_design(self):
+    def test_tools_lay_a_dump_beside_that_of_a_design(self):
         """Each time is shifted, that of cycle 0 too: its flit enters where the design's cycle 0 begins."""
-        command = re.search(r"^(awk -v start=.*?) video\.vcd > beside\.vcd$", (TOP / "README.md").read_text(), re.M | re.S)[1]
+        command = re.search(r"^(awk -v start=.*?) video\.vcd > beside\.vcd$", (TOP / "docs/TOOLS.md").read_text(), re.M | re.S)[1]
         start, period = (int(re.search(rf"{name}=(\d+)", command)[1]) for name in ("start", "period"))
         files = [(EXAMPLES / name).read_bytes() for name in ("pair.toml", "one.toml", "one.plan")]
         dump = dump_of(*files, HEAD + "0,0,2147483649,1,2\n3,0,2147483649,3,4\n", 9)
