@@ -1,10 +1,9 @@
 -- Lists that are printed word by word, with commas between.
 use Rattle.std.proofs.Common.{◌≡◌, ◌≤◌, ◌∙◌, ℕ, Bool, true, false, List, [], ◌∷◌, ◌++◌, arith, length}
-use Rattle.std.proofs.Common.{take}
-use Rattle.std.proofs.Common.{refl, sym, ap, append_assoc}
+use Rattle.std.proofs.Common.{take, refl, sym, ap, append_assoc, length-append}
 use Rattle.std.specs.Prelude.{flat_map}
 use Rattle.std.specs.List.{join_with_byte}
-use Rattle.std.proofs.lemmas.List.{append-nil, length-take, take-append-le}
+use Rattle.std.proofs.lemmas.List.{append-nil, length-take, take-append-le, take-take, take_at}
 use Rattle.aeth_text.specs.Limits.{comma}
 use Rattle.aeth_text.specs.Spelling.{item}
 
@@ -50,3 +49,11 @@ pub front_longer : (old now new more : List ℕ) → take (length old) now ≡ o
 front_longer old now new more front is =
     ap (take (length old)) is
     ∙ take-append-le (length old) now more (front_within old now front) ∙ front
+
+-- Where more stands in front still, so does what stood there before it was appended.
+pub front_shorter : (old more new : List ℕ) → take (length (old ++ more)) new ≡ old ++ more
+    → take (length old) new ≡ old
+front_shorter old more new front =
+    sym (take-take (length old) (length (old ++ more)) new
+    (rw (length-append old more) (omega arith)))
+    ∙ ap (take (length old)) front ∙ take_at old more (length old) refl
