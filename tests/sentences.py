@@ -17,7 +17,7 @@ def blocks(page: str) -> Iterator[str]:
             yield " ".join(block)
             block = []
         if line.startswith("|"):
-            yield from re.split(r"(?<!\\)\|", line.strip("|"))
+            yield from re.split(r"(?<!\\)\||; ", line.strip("|"))  # a cell may be a list
         elif line.startswith("#"):
             yield line.strip("# ")
         elif line.strip() and (block or not line.startswith("    ")):
@@ -27,10 +27,16 @@ def blocks(page: str) -> Iterator[str]:
 
 
 def help_blocks(page: str) -> Iterator[str]:
-    """The paragraphs of a page of help, without the words of commands and what they print."""
-    for block in re.split(r"\n\s*\n", page):
-        lines = [line for line in block.splitlines() if not re.match(r" *(?:aeth|design|draw) [a-zA-Z.]|  +\S+(?: \S+)*  +\S| +\[--|  \./", line)]
-        yield " ".join(map(str.strip, lines))
+    """The paragraphs of a page of help and what it says of words, without commands and what they print."""
+    block: list[str] = []
+    for line in page.splitlines():
+        told = re.match(r" +\S.*?(?: {2,}| \\$)(.*)", line)
+        if told or not line.strip() or re.match(r" *(?:aeth|design|draw) [a-zA-Z]| *\[--|  \S+$|  \./|      \S", line):
+            yield " ".join(block)
+            block = [told[1]] if told else []
+        if not told and not re.match(r" *(?:aeth|design|draw) [a-zA-Z]| *\[--|  \./", line):
+            block.append(line.strip())
+    yield " ".join(block)
 
 
 def sentences(found: Iterator[str]) -> Iterator[str]:
