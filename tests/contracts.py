@@ -48,7 +48,6 @@ def clauses_from(text: str, at: int) -> tuple[Clause, ...]:
 def calls_in(text: str, is_law: bool) -> list[Call]:
     """The public functions of a source, a method behind its type."""
     calls = []
-    owners = [(found.start(), found[1]) for found in re.finditer(r"^(?:impl(?:<.*?>)? (\w+)|pub trait (\w+))?.*\{$", text, re.M)]
     form = re.compile(r"^( *)(pub )?fn (\w+)(?:<.*?>)?\(([^)]*)\)((?:\s*->\s*[^{;]*?)?)(?=\s*(?:requires|ensures|//|\{|;))", re.M)
     for found in form.finditer(text):
         owner = ""

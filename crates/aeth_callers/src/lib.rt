@@ -2,9 +2,11 @@
 #![tactic(auto)]
 
 mod clocked;
+mod paths;
 mod server;
 mod slots;
 
 pub use clocked::step;
+pub use paths::shortest;
 pub use server::safe_buffer;
 pub use slots::slots_beside;
