@@ -22,7 +22,6 @@ import json
 import os
 import shutil
 import signal
-import subprocess
 import sys
 import tempfile
 import traceback
@@ -32,7 +31,8 @@ sys.dont_write_bytecode = True
 TOP = Path(__file__).resolve().parent.parent
 sys.path[:0] = [str(TOP / "tests")]
 
-from fuzz_cases import COMMANDS, Case, Command, bases, made  # noqa: E402: its folder is told above
+from fuzz_answers import Calls, Ran, program, take  # noqa: E402: its folder is told above
+from fuzz_cases import COMMANDS, Case, Command, bases, made  # noqa: E402
 from home import PROGRAM  # noqa: E402
 
 SECONDS = 60  # of a case
@@ -42,15 +42,6 @@ TOO_MUCH = 1_000  # as a status: it took more memory
 STATUSES = {0, 1, 2, 3, 4}
 UNWRITTEN = 5  # where a folder may be one that can't be made
 BOUNDED = "keys and values other than strings"  # a file of more is accepted by nobody, or can't be read here
-
-
-@dataclass(frozen=True)
-class Ran:
-    """How a program or a script ended, and what it wrote."""
-
-    status: int
-    out: bytes
-    errors: str
 
 
 @dataclass(frozen=True)
@@ -72,18 +63,9 @@ class Task:
     known: list[dict[str, bytes]]
 
 
-def program(words: Sequence[str], folder: Path) -> Ran:
-    """How the program itself answers."""
-    try:
-        ran = subprocess.run([str(PROGRAM), *words], capture_output=True, check=False, cwd=folder, stdin=subprocess.DEVNULL)
-    except OSError as error:
-        return Ran(126, b"", str(error))
-    return Ran(ran.returncode, ran.stdout, ran.stderr.decode("utf-8", "replace"))
-
-
 def play(code: CodeType, case: Case) -> Ran:
     """How the script ends with the words of a case: in a process of its own."""
-    out, errors = case.folder / "out", case.folder / "errors"
+    out, errors, notes = case.folder / "out", case.folder / "errors", case.folder / "answers"
     child = os.fork()
     if child == 0:
         try:
@@ -92,6 +74,7 @@ def play(code: CodeType, case: Case) -> Ran:
             signal.signal(signal.SIGALRM, signal.SIG_DFL)
             signal.alarm(SECONDS)
             os.chdir(case.folder)
+            setattr(sys.modules["program"], "subprocess", Calls(notes))
             sys.argv = [str(TOP / case.command.script), case.command.name, *case.words]
             exec(code, {"__name__": "__main__", "__file__": sys.argv[0], "__doc__": None})  # what a script is
             os._exit(0)
@@ -101,6 +84,7 @@ def play(code: CodeType, case: Case) -> Ran:
             os.write(2, traceback.format_exc().encode())
             os._exit(1)
     _, ended, used = os.wait4(child, 0)
+    take(notes)
     status = os.waitstatus_to_exitcode(ended) if used.ru_maxrss < MOST_MEMORY else TOO_MUCH
     return Ran(status, out.read_bytes(), errors.read_bytes().decode("utf-8", "replace"))
 
@@ -133,7 +117,7 @@ def why_not_made(case: Case, ran: Ran) -> str:
         except ElementTree.ParseError as error:
             return f"no picture: {error}"
     if case.command.makes == "chip":
-        told = program(("chip", str(case.folder / "out")), case.folder)
+        told = program(["chip", str(case.folder / "out")], case.folder)
         return "" if told.status == 0 else f"no chip: {told.errors}"
     return ""
 
