@@ -1,9 +1,9 @@
 #!/usr/bin/env python3
 """Turns files and words, and gives them to each command of `design` and `draw`.
 
-tests/fuzz.py [--count N] [--seed N] [--jobs N] [--only SCRIPT:COMMAND]... [--case N] [--keep FOLDER]
+tests/fuzz.py [--count N] [--first N] [--seed N] [--jobs N] [--only SCRIPT:COMMAND]... [--case N] [--keep FOLDER]
 
-N cases of each command (1,000), of a seed (1), on all processors. A case fails where a script ends with a status that its page
+N cases of each command (1,000), from a first one on (0), of a seed (1), on all processors. A case fails where a script ends with a status that its page
 hasn't, with more than a line of its own, with a trace of Python's, with a letter that a terminal obeys, after a minute, or
 without `aeth`'s status and lines where `aeth` refused its files; and where what it makes isn't accepted. A case that fails
 is told with its number, by which --only and --case do it again, and its files and texts are kept in a folder.
@@ -206,7 +206,7 @@ def fuzz(numbers: Sequence[int], seed: int, jobs: int, keep: Path, only: Sequenc
 
 def main() -> int:
     words = argparse.ArgumentParser(description=__doc__, formatter_class=argparse.RawDescriptionHelpFormatter)
-    for name, default in (("--count", 1_000), ("--seed", 1), ("--jobs", os.cpu_count() or 1), ("--case", None)):
+    for name, default in (("--count", 1_000), ("--first", 0), ("--seed", 1), ("--jobs", os.cpu_count() or 1), ("--case", None)):
         words.add_argument(name, type=int, default=default)
     words.add_argument("--only", action="append", default=[])
     words.add_argument("--keep", type=Path, default=Path(tempfile.gettempdir()) / "fuzz-kept")
@@ -214,7 +214,7 @@ def main() -> int:
     if PROGRAM is None:
         print("there is no built program")
         return 1
-    numbers = range(given.count) if given.case is None else [given.case]
+    numbers = range(given.first, given.first + given.count) if given.case is None else [given.case]
     found = fuzz(numbers, given.seed, given.jobs, given.keep, given.only)
     failed = len(found.failed)
     print(f"{found.tried:,} cases of seed {given.seed}, {failed:,} failed" + (f": kept in {given.keep}" if failed else ""))
