@@ -95,14 +95,14 @@ class Home:
     def design(self, *words, **how):
         return self.run(*words, script="design", **how)
 
-    def on_terminal(self, *words, **settings):
-        """The status of `aeth`, and what it says where its messages go to a terminal."""
+    def on_terminal(self, *words, script="aeth", **settings):
+        """The status of a script, and what it says where its messages go to a terminal."""
         try:
             ours, theirs = pty.openpty()
         except OSError as error:
             raise unittest.SkipTest(f"there is no terminal to try: {error}") from error
         how = {"cwd": self.top, "env": {**self.settings, **settings}, "stdin": subprocess.DEVNULL}
-        ran = subprocess.Popen([self.top / "aeth", *words], stdout=subprocess.DEVNULL, stderr=theirs, **how)
+        ran = subprocess.Popen([self.top / script, *words], stdout=subprocess.DEVNULL, stderr=theirs, **how)
         os.close(theirs)
         said = b""
         while True:
