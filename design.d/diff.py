@@ -1,30 +1,15 @@
 """What changed from a plan to another one on the same chip, in words."""
 from collections.abc import Callable, Sequence
-import re
 
 from changes import ChannelChange, Changes, SeatChange, Verdict
-from design import Channel, Design
-from ending import Passed, Result, printable, shortened
-from making import DesignFiles, design_of
-from program import Input, text_of
-from text_table import Column, count, table
+from design import Channel
+from ending import Result
+from making import judged_design
+from program import Input
+from text_table import Column, table
 
 WORSE = 3  # the status
 ARROW = " -> "
-OF_CHIP = re.compile("(refused|read fault) chip")
-
-
-def judged(chip: Input, app: str, plan: str) -> Design:
-    """The design of an application and a plan that `aeth` accepts. Where it doesn't, a line behind its own says which they are."""
-    files = DesignFiles(chip, Input(app), Input(plan))
-    try:
-        text_of("check", *files.words)
-    except Passed as passed:
-        if OF_CHIP.match(passed.lines):
-            raise
-        which = f"design: this is said of {printable(shortened(app))} and {printable(shortened(plan))}\n"
-        raise Passed(passed.status, passed.lines + which) from passed
-    return design_of(files)
 
 
 def turned(before: object, after: object) -> str:
@@ -36,25 +21,6 @@ def compared(change: ChannelChange, tells: Callable[[Channel], object]) -> str:
     """What is told of a channel before and after."""
     assert change.before and change.after
     return turned(tells(change.before), tells(change.after))
-
-
-def are(many: int, what: str) -> str:
-    return f"{many:,} {'is' if many == 1 else 'are'} {what}"
-
-
-def summary(changes: Changes) -> str:
-    """What changed, in a line."""
-    both = [one for one in changes.channels if one.before and one.after]
-    new, gone = changes.of(Verdict.NEW), changes.of(Verdict.GONE)
-    cores = [seat for seat in changes.seats if seat.has_moved]
-    come = [name for name in changes.after.app.cores if name not in changes.before.app.cores]
-    left = [name for name in changes.before.app.cores if name not in changes.after.app.cores]
-    told = [
-        f"Of {count(len(both), 'channel')} {are(len(changes.worse), 'worse')}, {are(len(changes.of(Verdict.BETTER)), 'better')}, and "
-        f"{are(sum(one.has_moved for one in both), 'on another path or in other slots')}; {len(new):,} new, {len(gone):,} gone",
-        f"of {count(len(changes.before.app.cores), 'core')} {len(cores):,} moved; {len(come):,} new, {len(left):,} gone",
-    ]
-    return "; ".join(told) + ".\n"
 
 
 def promises(changes: Changes) -> str:
@@ -172,9 +138,8 @@ PARTS = (promises, moves, seats, wishes, others, links)
 def diff(chip_path: str, words: Sequence[str]) -> Result:
     """What changed from the first application and plan to the second ones."""
     chip = Input(chip_path)
-    changes = Changes(judged(chip, *words[:2]), judged(chip, *words[2:]))
+    changes = Changes(*(judged_design(chip, app, plan, "design") for app, plan in (words[:2], words[2:])))
     parts = [part(changes) for part in PARTS]
     if not any(parts):
-        cores, channels = count(len(changes.after.app.cores), "core"), count(len(changes.channels), "channel")
-        return Result(f"Nothing changed: {cores} and {channels} are as they were.\n")
-    return Result(summary(changes) + "".join(parts), WORSE if changes.worse else 0)
+        return Result(f"{changes.nothing}\n")
+    return Result(changes.summary + "\n" + "".join(parts), WORSE if changes.worse else 0)

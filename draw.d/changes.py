@@ -14,6 +14,7 @@ from typing import NamedTuple
 from design import SIDES, Channel, Design, Key, passages
 from design_files import Link, UseCase
 from plan_texts import Seat
+from text_table import count
 
 
 class Verdict(Enum):
@@ -139,6 +140,10 @@ class LinkChange:
         return any(cell is not CellChange.KEPT for cell in self.cells.values())
 
 
+def are(many: int, what: str) -> str:
+    return f"{many:,} {'is' if many == 1 else 'are'} {what}"
+
+
 def has_connection(use: UseCase | None, connection: str) -> bool:
     return use is not None and connection in use.connections
 
@@ -202,6 +207,26 @@ class Changes:
         cores = dict.fromkeys([*self.after.app.cores, *self.before.app.cores])
         found = [SeatChange(core, seats[0].get(core), seats[1].get(core)) for core in cores]
         return [one for one in found if place_of(one.before) != place_of(one.after)]
+
+    @property
+    def summary(self) -> str:
+        """What changed, in a sentence."""
+        both = [one for one in self.channels if one.before and one.after]
+        elsewhere = sum(one.has_moved for one in both)
+        moved = sum(seat.has_moved for seat in self.seats)
+        cores = set(self.after.app.cores), set(self.before.app.cores)
+        return (
+            f"Of {count(len(both), 'channel')} {are(len(self.worse), 'worse')}, {are(len(self.of(Verdict.BETTER)), 'better')}, and "
+            f"{are(elsewhere, 'on another path or in other slots')}; {len(self.of(Verdict.NEW)):,} new, "
+            f"{len(self.of(Verdict.GONE)):,} gone. Of {count(len(cores[1]), 'core')} {moved:,} moved; "
+            f"{len(cores[0] - cores[1]):,} new, {len(cores[1] - cores[0]):,} gone."
+        )
+
+    @property
+    def nothing(self) -> str:
+        """The same where nothing did."""
+        cores, channels = count(len(self.after.app.cores), "core"), count(len(self.channels), "channel")
+        return f"Nothing changed: {cores} and {channels} are as they were."
 
     def links(self, uses: Iterable[str]) -> list[LinkChange]:
         """What became of the slots of each link in some use cases."""

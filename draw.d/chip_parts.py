@@ -2,7 +2,7 @@
 from collections import defaultdict
 from collections.abc import Iterable
 
-from chip_map import SIGN, SIGN_ROW, ChipMap, Lane, Strip, delay_of, sign_of
+from chip_map import SIGN, SIGN_ROW, Box, ChipMap, Lane, Strip, delay_of, sign_of
 from design import passages
 from design_files import Chip, Link
 from plan_texts import Grant
@@ -57,12 +57,16 @@ def draw_interface(chip_map: ChipMap, interface: str) -> str:
         svg.tag("rect", class_="box", x=box.left, y=box.top, width=box.width, height=box.height, rx=4),
         svg.label(interface, box.left + 6, box.top + 13, "bold", box.width - 12),
     ]
-    room = (box.width - 6) / (1 if len(cores) == 1 else 2)
-    for seat, core in enumerate(cores):
-        x, y = box.left + 4 + seat % 2 * room, box.top + 18 + seat // 2 * 16
-        parts.append(svg.tag("rect", class_="core", x=x, y=y, width=room - 2, height=14, rx=3))
-        parts.append(svg.label(core, x + 4, y + 11, width=room - 8))
+    for core, seat in zip(cores, seat_boxes(box, len(cores))):
+        parts.append(svg.tag("rect", class_="core", x=seat.left, y=seat.top, width=seat.width, height=seat.height, rx=3))
+        parts.append(svg.label(core, seat.left + 4, seat.top + 11, width=seat.width - 6))
     return svg.tag("g", *parts)
+
+
+def seat_boxes(box: Box, cores: int) -> list[Box]:
+    """Where the cores of an interface are within its box."""
+    room = (box.width - 6) / (1 if cores == 1 else 2)
+    return [Box(box.left + 4 + seat % 2 * room, box.top + 18 + seat // 2 * 16, room - 2, 14) for seat in range(cores)]
 
 
 def draw_sign(strip: Strip, link: Link, lane: Lane, room: float, told: str = "") -> str:

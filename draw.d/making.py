@@ -11,8 +11,10 @@ import re
 import subprocess
 
 from allocation import Allocation, state_of
+from changes import Changes
 from design import Design, Key, Promise, promises_in, uses_for_all
 from design_files import Application, Chip, read_application, read_chip
+from diff_picture import draw_diff
 from ending import NO_WORDS, Passed, Stop, printable, shortened
 from plan_picture import draw_plan
 from plan_texts import Need, RefusedUnit, read_needs, read_plan, read_refused
@@ -27,6 +29,7 @@ from run_texts import read_flits
 from runs import Run, RunFiles, read_run
 from waveform import draw_wave
 
+OF_CHIP = re.compile("(refused|read fault) chip")
 MOST_CYCLES = 1_000_000
 MOST_CYCLES_OF_WAVES = 10_000
 MOST_REFUSALS = 8  # of a page, that have pictures
@@ -147,6 +150,30 @@ def hardware_verdict(files: DesignFiles, run_files: RunFiles, cycles: int, progr
 def title_of(path: str) -> str:
     """The name of an application's file, as it can be shown."""
     return printable(shortened(pathlib.PurePath(path).stem)) or "report"
+
+
+def diff(chip: str, app: str, plan_file: str, new_app: str, new_plan: str, *use: str) -> str:
+    """The picture of what changed from a plan to another one, in a use case or over all."""
+    of_chip = Input(chip)
+    before, after = (judged_design(of_chip, *words, "draw") for words in ((app, plan_file), (new_app, new_plan)))
+    changes = Changes(before, after)
+    if use and use[0] not in changes.uses:
+        text_of("tables", of_chip, Input(new_app), Input(new_plan), use[0])  # which refuses it
+    over = f"in use case {use[0]}" if use else "over all use cases"
+    return draw_diff(changes, use or changes.uses, f"What changed {over}").text
+
+
+def judged_design(chip: Input, app: str, plan: str, script: str) -> Design:
+    """A design that `aeth` accepts, where there are two. Where it doesn't, a line behind its own says which one that is."""
+    files = DesignFiles(chip, Input(app), Input(plan))
+    try:
+        text_of("check", *files.words)
+    except Passed as passed:
+        if OF_CHIP.match(passed.lines):
+            raise
+        which = f"{script}: this is said of {printable(shortened(app))} and {printable(shortened(plan))}\n"
+        raise Passed(passed.status, passed.lines + which) from passed
+    return design_of(files)
 
 
 class Refusals:
