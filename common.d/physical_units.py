@@ -134,9 +134,24 @@ class PhysicalUnits:
         """The text of so many cycles, as `120 ns`: rounded up, as a guarantee is, or down."""
         return time_text(self.seconds(cycles), up)
 
+    @property
+    def told(self) -> str:
+        """A sentence on both."""
+        return f"A cycle is {self.time(1)}, and a word has {decimal(self.word)} byte{'' if self.word == 1 else 's'}."
+
     def nanoseconds(self, cycles: int | Fraction, up: bool = True) -> str:
         """The same time in ns, without the unit, for a column of them."""
         return decimal(self.seconds(cycles) / NANOSECONDS, up)
+
+
+def in_time(cycles: int, units: PhysicalUnits | None) -> str:
+    """A time in brackets behind cycles, where there are units."""
+    return f" ({units.time(cycles)})" if units else ""
+
+
+def in_rate(words: int, per: int, units: PhysicalUnits | None) -> str:
+    """A rate in brackets behind words in each `per` cycles, where there are units."""
+    return f" ({units.rate(words, per)})" if units else ""
 
 
 def part_of(name: str, text: str, kind: str, units: Mapping[str, Fraction]) -> Fraction:

@@ -9,7 +9,7 @@ from ending import printable, shortened
 from files import spelled
 from flow_rows import NAME, Flow, RowFault, Seat
 from flow_wishes import FlowWishes, ToldWish
-from physical_units import PhysicalUnits, decimal
+from physical_units import PhysicalUnits
 from toml_lines import Tree
 
 MOST_USES = 16
@@ -134,10 +134,8 @@ def names_in_lines(key: str, names: Sequence[str]) -> str:
 
 def head_of(design: FlowDesign) -> str:
     """The comments of the table, how the file was made, and what a cycle and a word are."""
-    units = design.ask.units
     made_by = printable(shortened(" ".join(["./design", *design.ask.words]), 400))
-    size = f"{decimal(units.word)} byte{'' if units.word == 1 else 's'}"
-    lines = [*design.comments, f"Made by: {made_by}", f"A cycle is {units.time(1)}, and a word has {size}."]
+    lines = [*design.comments, f"Made by: {made_by}", design.ask.units.told]
     return "".join(f"# {line}".rstrip() + "\n" for line in lines)
 
 

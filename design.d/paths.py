@@ -4,7 +4,7 @@ from dataclasses import dataclass
 from functools import cached_property
 
 from design_files import Application, Chip, Connection
-from physical_units import PhysicalUnits
+from physical_units import PhysicalUnits, in_time
 
 MOST_LINKS = 8  # of a path
 
@@ -101,9 +101,8 @@ def why_none(ways: Ways, app: Application, connection: Connection, side: str, un
         )
     latency = connection.wish(side).latency
     if least.delay is not None and latency < least.delay:
-        wished, takes = (f", {units.time(cycles)}" if units else "" for cycles in (latency, least.delay))
         return (
-            f"It wishes a latency of {latency}{wished}, and the quickest path {way} takes {least.delay} cycles{takes}. It needs a "
-            "greater latency, or a shorter way: more slots don't help."
+            f"It wishes a latency of {latency}{in_time(latency, units)}, and the quickest path {way} takes {least.delay} "
+            f"cycles{in_time(least.delay, units)}. It needs a greater latency, or a shorter way: more slots don't help."
         )
     return None
