@@ -7,7 +7,7 @@ const search = document.querySelector("#search"), only = document.querySelector(
 const rows = JSON.parse(document.querySelector("#rows").textContent);  // of each its mark, and its cells
 const value = cell => Array.isArray(cell) ? cell[0] : cell;
 const texts = rows.map(row => row.slice(1).filter((_, at) => kinds[at] === "text").map(text => (text ?? "").toLowerCase()));
-const format = new Intl.NumberFormat("en", {maximumFractionDigits: 1}).format;
+const format = new Intl.NumberFormat("en", {maximumFractionDigits: 3}).format;
 const collator = new Intl.Collator("en", {numeric: true});
 let order = rows.map((_, at) => at), matching = order, shown = 0;
 

@@ -3,6 +3,7 @@ from collections.abc import Sequence
 
 from design import Design
 from design_files import Application, Chip
+from physical_units import PhysicalUnits, in_time
 from plan_picture import draw_plan, map_of, summary
 from plan_texts import RefusedUnit
 from progress import Progress
@@ -54,7 +55,7 @@ def verdict_of(lines: Sequence[Line], run: Run | None) -> Verdict:
     if run is None:
         return Verdict(tells, "good")
     landed, dropped, late = sum(line.landed for line in lines), sum(line.dropped for line in lines), late_of(lines)
-    tells += f" In {count(run.cycles, 'cycle')} {count(landed, 'word')} landed, {late.text}"
+    tells += f" In {count(run.cycles, 'cycle')}{in_time(run.cycles, run.units)} {count(landed, 'word')} landed, {late.text}"
     tells += f"; {count(dropped, 'word')} dropped in switches" if dropped else ""
     return Verdict(f"{tells}{outside_of(run)}.", late.kind)
 
@@ -70,22 +71,23 @@ def refused_sentence(app: Application, unit: RefusedUnit, refusal: Refusal | Non
 
 
 def refused_report(
-    title: str, chip: Chip, app: Application, units: Sequence[RefusedUnit], refusals: Sequence[Refusal], progress: Progress
+    title: str, chip: Chip, app: Application, refused: Sequence[RefusedUnit], refusals: Sequence[Refusal], progress: Progress,
+    units: PhysicalUnits | None,
 ) -> str:
     """The report of a design of which units are refused: which, why, and what is wished. The first refusals have pictures."""
     lines = lines_of(app, chip.slots)
-    add_refusals(lines, units)
+    add_refusals(lines, refused)
     by_number = {refusal.trial.number: refusal for refusal in refusals}
-    sentences = [refused_sentence(app, unit, by_number.get(number)) for number, unit in enumerate(units, 1)]
+    sentences = [refused_sentence(app, unit, by_number.get(number)) for number, unit in enumerate(refused, 1)]
     pictures = []
     for refusal in refusals:
         number = refusal.trial.number
-        progress.say(f"picture of refusal {number} of {len(units)}")
+        progress.say(f"picture of refusal {number} of {len(refused)}")
         name = f"Refusal {number} of {refusal.among}: {refusal.name}"
         pictures.append(Shown(name, f"refusal-{number}", told_of(refusal), draw_refusal(refusal, bare=True)))
     total = len({(line.key.connection, line.key.group) for line in lines.values()})
-    tells = f"Not everything is granted: {count(len(units), 'unit')} of {total:,} {'is' if len(units) == 1 else 'are'} refused."
-    return page(Report(title, Verdict(tells, "bad"), sentences, list(lines.values()), pictures, False))
+    tells = f"Not everything is granted: {count(len(refused), 'unit')} of {total:,} {'is' if len(refused) == 1 else 'are'} refused."
+    return page(Report(title, Verdict(tells, "bad"), sentences, list(lines.values()), pictures, False, units=units))
 
 
 def draw_report(
@@ -98,7 +100,7 @@ def draw_report(
     if run:
         progress.say("picture of the run")
         add_run(lines, run)
-        told = [run_summary(run, run.channels), *broken_promises(run.channels)]
+        told = [run_summary(run, run.channels), *broken_promises(run.channels, design.units)]
         pictures.append(Shown("The run", "run", told, draw_run(run, bare=True)))
     chip_map = map_of(design)
     for place, use in enumerate(design.app.uses, 1):
@@ -107,4 +109,4 @@ def draw_report(
         pictures.append(Shown(f"Use case {use}", f"use-{use}", summary(design, use), picture))
     rows = list(lines.values())
     progress.say("the page")
-    return page(Report(title, verdict_of(rows, run), [], rows, pictures, run is not None, hardware))
+    return page(Report(title, verdict_of(rows, run), [], rows, pictures, run is not None, hardware, design.units))
