@@ -8,21 +8,18 @@ from dataclasses import dataclass
 import os
 import pathlib
 import re
-import subprocess
 
 from allocation import Allocation, state_of
 from design import Design, Key, Promise, promises_in, uses_for_all
 from design_files import Application, Chip, read_application, read_chip
-from ending import NO_WORDS, Passed, Stop, printable, shortened
+from ending import NO_WORDS, Stop, printable, shortened
 from physical_units import PhysicalUnits
 from plan_picture import draw_plan
-from plan_texts import Need, RefusedUnit, read_needs, read_plan, read_refused
-from program import HOME, Input, answer, lines_of, text_of
+from plan_texts import Need, read_needs, read_plan
+from program import Input, lines_of, text_of
 from progress import Progress
 from refusal_picture import Refusal, draw_refusal
 from refusals import Trial, read_trials
-from report import draw_report, refused_report
-from report_page import Verdict
 from run_picture import draw_run
 from run_texts import read_flits
 from runs import Run, RunFiles, read_run
@@ -30,7 +27,6 @@ from waveform import draw_wave
 
 MOST_CYCLES = 1_000_000
 MOST_CYCLES_OF_WAVES = 10_000
-MOST_REFUSALS = 8  # of a page, that have pictures
 
 
 @dataclass(frozen=True)
@@ -109,45 +105,6 @@ def run(
     return draw_run(shown, [channel for channel in shown.channels if channel.name in names]).text
 
 
-def report(chip: str, app: str, plan_file: str, *of_run: str, units: PhysicalUnits | None = None) -> str:
-    """The page of a plan and, where the last words name its files and cycles, of a run. A plan that `allocate` didn't
-    print, since it refused units, is told with these."""
-    with_hardware, of_run = of_run[4:] != (), of_run[:4]
-    cycles = cycles_of(of_run[3], MOST_CYCLES) if of_run else 0
-    progress, title = Progress("draw"), title_of(app)
-    files = DesignFiles(Input(chip), Input(app), Input(plan_file))
-    run_files = RunFiles(*map(Input, of_run[:3])) if of_run else None
-    if not files.plan.data and not files.plan.unread:
-        told = answer("allocate", files.chip, files.app)
-        refused = read_refused(told.errors)
-        if refused:
-            return report_of_refusals(title, files, refused, progress, units)
-        if told.status:
-            raise Passed(told.status, told.errors)
-    text_of("check", *files.words)
-    if run_files is None:
-        design, shown = design_of(files, units), None
-    else:
-        design, shown = run_of(files, run_files, cycles, progress, units)
-    hardware = hardware_verdict(files, run_files, cycles, progress) if run_files and with_hardware else None
-    page = draw_report(title, design, shown, progress, hardware)
-    progress.end()
-    return page
-
-
-def hardware_verdict(files: DesignFiles, run_files: RunFiles, cycles: int, progress: Progress) -> Verdict:
-    """What `design cosim` says of the run as hardware. Where it can't say anything the script ends so, with its lines."""
-    progress.say("the hardware is made and simulated")
-    inputs = *files.words, run_files.words, run_files.receivers, run_files.switches
-    words = [str(HOME / "design"), "cosim", *(file.path for file in inputs), str(cycles)]
-    copies = [file.copy for file in inputs if file.copy is not None]
-    ran = subprocess.run(words, capture_output=True, pass_fds=copies, check=False)
-    if ran.returncode not in (0, 3):
-        raise Passed(ran.returncode, ran.stderr.decode("utf-8", "replace"))
-    line = ran.stdout.decode("ascii", "replace").partition("\n")[0]
-    return Verdict(f"Hardware: {line}.", "bad" if ran.returncode else "good")
-
-
 def title_of(path: str) -> str:
     """The name of an application's file, as it can be shown."""
     return printable(shortened(pathlib.PurePath(path).stem)) or "report"
@@ -179,17 +136,6 @@ class Refusals:
         return Refusal(
             self.chip, self.app, trial, len(self.units), slots, state, self.allocation.plan is not None, self.physical
         )
-
-
-def report_of_refusals(
-    title: str, files: DesignFiles, refused: Sequence[RefusedUnit], progress: Progress, units: PhysicalUnits | None
-) -> str:
-    """The page of a design of which units are refused."""
-    found = Refusals((files.chip, files.app), range(1, MOST_REFUSALS + 1), progress, units)
-    shown = [found.refusal(trial) for trial in found.trials]
-    page = refused_report(title, found.chip, found.app, refused, shown, progress, units)
-    progress.end()
-    return page
 
 
 def refusal(chip: str, app: str, number: str = "1", units: PhysicalUnits | None = None) -> str:

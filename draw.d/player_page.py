@@ -5,6 +5,7 @@ tree of its own then, so that its style and its names stay within it.
 """
 from base64 import b64encode
 from collections.abc import Sequence
+from dataclasses import dataclass
 from html import escape
 import pathlib
 import zlib
@@ -22,6 +23,15 @@ body{font:15px/1.5 system-ui,sans-serif;color:var(--ink);background:var(--ground
 h1{font-size:1.2rem;margin:.2rem 0;overflow-wrap:anywhere}
 @media print{body{padding:0}}
 """
+
+
+@dataclass(frozen=True)
+class Player:
+    """The player of a report: its packed data and the full width of its map, where it has room; and what is told beside it."""
+
+    packed: str
+    width: int
+    told: str
 
 
 def text_of(name: str) -> str:
@@ -45,12 +55,12 @@ def packed(text: str) -> str:
     return b64encode(zlib.compress(text.encode(), 9)).decode("ascii")
 
 
-def player_parts(data: str, width: int) -> str:
+def player_parts(packed_data: str, width: int) -> str:
     """What stands of a player in a page: its elements, its data and its script."""
     script = "".join(map(text_of, SCRIPTS))
     return (
-        f'<template id="player-parts">{style_of(width)}{text_of("player.html")}</template>'
-        f'<script type="text/plain" id="player-data">{packed(data)}</script><script>{script}</script>'
+        f'<template id="player-parts">{style_of(width)}{text_of("player.html")}</template>\n'
+        f'<script type="application/zlib" id="player-data">{packed_data}</script>\n<script>{script}</script>'
     )
 
 
@@ -61,7 +71,7 @@ def player_page(title: str, data: str, width: int) -> str:
         '<!DOCTYPE html>\n<html lang="en"><head><meta charset="utf-8">'
         f'<meta name="viewport" content="width=device-width, initial-scale=1">\n<title>{name}</title><style>{PAGE_STYLE}</style></head>'
         f'<body><h1>{name}</h1><main id="stage"></main><noscript><p>The player needs JavaScript.</p></noscript>\n'
-        f"{player_parts(data, width)}\n"
+        f"{player_parts(packed(data), width)}\n"
         '<script>openPlayer(document.getElementById("stage"), true).catch(error => {\n'
         "  document.getElementById(\"stage\").textContent = `This browser can't show the player: ${error.message}`;\n"
         "});</script></body></html>\n"

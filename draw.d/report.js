@@ -96,5 +96,11 @@ for (const details of document.querySelectorAll(".picture")) {
   details.addEventListener("toggle", () => { if (details.open) unpack(details); });
   if (details.open) unpack(details);
 }
+const player = document.querySelector("#play");
+player?.addEventListener("toggle", () => {
+  const stage = player.querySelector("#stage");
+  if (!player.open || stage.shadowRoot) return;
+  openPlayer(stage, false).catch(error => { stage.textContent = `This browser can't show the player: ${error.message}`; });
+});
 const asked = location.hash.length > 1 && document.getElementById(decodeURIComponent(location.hash.slice(1)));
 if (asked && asked.tagName === "DETAILS") asked.open = true;

@@ -13,6 +13,7 @@ from typing import TypeAlias
 import zlib
 
 from physical_units import PhysicalUnits
+from player_page import Player, player_parts
 from report_data import Line
 from svg import Picture
 
@@ -62,6 +63,7 @@ class Report:
     has_run: bool
     hardware: Verdict | None = None
     units: PhysicalUnits | None = None  # in which rates and times are told too
+    player: Player | None = None
 
 
 RATE = "words in 1,000\u00a0cycles"
@@ -214,6 +216,17 @@ def figure(shown: Shown, is_open: bool) -> str:
     )
 
 
+def player_section(player: Player) -> str:
+    """The player, which is made when it is opened."""
+    told = f"<p class=less>{escape(player.told)}</p>" if player.told else ""
+    if not player.packed:
+        return f"<h2>Flits</h2>{told}"
+    return (
+        f'<h2>Flits</h2>{told}<details class="player" id="play"><summary>Play: which flit is on which link</summary>'
+        f'<div id="stage"></div></details>{player_parts(player.packed, player.width)}'
+    )
+
+
 def page(report: Report) -> str:
     """The whole page, as a text."""
     columns = columns_of(report)
@@ -240,6 +253,8 @@ def page(report: Report) -> str:
     if report.pictures:
         parts.append(f"<h2>Pictures</h2><p class=less>{READING}</p>")
         parts += [figure(shown, len(report.pictures) <= MOST_OPEN and not at) for at, shown in enumerate(report.pictures)]
+    if report.player:
+        parts.append(player_section(report.player))
     parts.append(f'<script type="application/json" id="rows">{data_of(report)}</script>')
     parts.append(f"<script>{script}</script></body></html>\n")
     return "\n".join(parts)

@@ -1,91 +1,16 @@
 """Owns the tables of a report for other programs: its channels, its links, and its switches."""
-from collections.abc import Iterable, Sequence
-from dataclasses import dataclass
 from typing import Any, NamedTuple
 import json
 
-from design import Design, used_slots
-from design_files import Application, Chip, Link
-from plan_texts import Grant, Plan
-from report_data import Line
+from channel_columns import channels_table
+from design import used_slots
+from design_files import Link
+from report_page import Verdict
 from run_texts import Switch, SwitchRow, Switching
-from runs import Run
-from table_columns import Column, Json, Table
+from table_columns import Column, Facts, Json, Table, short
 
 VERSION = 1
 NAMES = ("channels", "links", "switches")
-RATE = "words in 1000 cycles"
-PLACES = 3  # behind the point of a number that isn't whole
-
-
-@dataclass(frozen=True)
-class Facts:
-    """What the tables tell of: a plan there is only where everything is granted, and a run where one was asked for."""
-
-    title: str
-    chip: Chip
-    app: Application
-    lines: Sequence[Line]
-    plan: Plan | None = None
-    run: Run | None = None
-
-
-def short(value: float | None) -> float | None:
-    """A number with few digits behind the point; a whole one has none."""
-    return None if value is None else int(value) if value == int(value) else round(value, PLACES)
-
-
-def channel_columns(facts: Facts) -> list[Column[Line]]:
-    grants = {(grant.connection, grant.side, grant.group): grant for grant in facts.plan.grants} if facts.plan else {}
-
-    def grant_of(line: Line) -> Grant | None:
-        return grants.get((line.key.connection, line.key.side, line.key.group))
-
-    columns = [
-        Column[Line]("connection", "", lambda line: line.key.connection),
-        Column[Line]("side", "", lambda line: line.key.side),
-        Column[Line]("group", "", lambda line: line.key.group),
-        Column[Line]("use_cases", "", lambda line: line.uses),
-        Column[Line]("sender", "", lambda line: line.sender),
-        Column[Line]("receiver", "", lambda line: line.receiver),
-        Column[Line]("wished_words", "words", lambda line: line.wish.words),
-        Column[Line]("wished_per", "cycles", lambda line: line.wish.per),
-        Column[Line]("wished_rate", RATE, lambda line: short(line.wished_rate)),
-        Column[Line]("wished_latency", "cycles", lambda line: line.wish.latency),
-        Column[Line]("wished_delay", "cycles", lambda line: line.wish.delay),
-        Column[Line]("guaranteed_words", "words", lambda line: line.rate),
-        Column[Line]("guaranteed_per", "cycles", lambda line: None if line.rate is None else line.slots),
-        Column[Line]("guaranteed_rate", RATE, lambda line: short(line.granted_rate)),
-        Column[Line]("guaranteed_latency", "cycles", lambda line: line.latency),
-        Column[Line]("buffer", "words", lambda line: line.buffer),
-        Column[Line]("path", "links", lambda line: list(grant.links) if (grant := grant_of(line)) else None),
-        Column[Line]("starts", "slots", lambda line: list(grant.starts) if (grant := grant_of(line)) else None),
-    ]
-    return columns + observed_columns(facts) + [
-        Column[Line]("refused_side", "", lambda line: line.refused.side if line.refused else None),
-        Column[Line]("refused_turn", "", lambda line: line.refused.turn if line.refused else None),
-    ]
-
-
-def observed_columns(facts: Facts) -> list[Column[Line]]:
-    """What a run showed; nothing without one."""
-    has_run = facts.run is not None
-
-    def counted(name: str, value: "Any") -> Column[Line]:
-        return Column[Line](name, "words", lambda line: value(line) if has_run else None)
-
-    return [
-        counted("offered", lambda line: line.offered),
-        counted("landed", lambda line: line.landed),
-        counted("late", lambda line: line.late),
-        counted("overdue", lambda line: line.overdue),
-        counted("against_promise", lambda line: line.failed),
-        counted("dropped", lambda line: line.dropped),
-        Column[Line]("median_wait", "cycles", lambda line: short(line.middle)),
-        Column[Line]("worst_wait", "cycles", lambda line: line.worst),
-        Column[Line]("nearest", "% of the time to the due cycle", lambda line: short(100 * line.nearest) if line.nearest is not None else None),
-        Column[Line]("promise_ended", "cycle", lambda line: line.broken),
-    ]
 
 
 def links_table(facts: Facts) -> Table[Link]:
@@ -170,6 +95,31 @@ def switches_table(facts: Facts) -> Table[Change]:
     ], changes_of(facts))
 
 
-def channels_table(facts: Facts) -> Table[Line]:
-    """The channels of each group of use cases: what they wish, what they are guaranteed, and what a run showed."""
-    return Table(channel_columns(facts), facts.lines)
+def table_of(facts: Facts, name: str) -> Table[Any]:
+    if name == "channels":
+        return channels_table(facts)
+    if name == "links":
+        return links_table(facts)
+    return switches_table(facts)
+
+
+def csv_of(facts: Facts, name: str) -> str:
+    """One of the tables as CSV."""
+    return table_of(facts, name).csv(VERSION)
+
+
+def json_of(facts: Facts, verdict: Verdict, hardware: Verdict | None) -> str:
+    """All tables as one object, with a line for each of their rows."""
+    tables = {name: table_of(facts, name) for name in NAMES}
+    units = facts.units
+    head: dict[str, Json] = {
+        "version": VERSION, "application": facts.title, "verdict": verdict.text, "granted": facts.plan is not None,
+        "hardware": hardware.text if hardware else None, "slots": facts.chip.slots,
+        "cycles": facts.run.cycles if facts.run else None, "clock": float(units.clock) if units else None,
+        "word": float(units.word) if units else None, "units": {name: table.units() for name, table in tables.items()},
+    }
+    parts = [f"{json.dumps(name)}: {json.dumps(value)}" for name, value in head.items()]
+    for name, table in tables.items():
+        rows = ",\n  ".join(map(json.dumps, table.json()))
+        parts.append(f"{json.dumps(name)}: [\n  {rows}\n]" if rows else f"{json.dumps(name)}: []")
+    return "{" + ",\n".join(parts) + "}\n"

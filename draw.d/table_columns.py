@@ -5,9 +5,30 @@ from typing import Generic, TypeAlias, TypeVar
 import csv
 import io
 
+from design_files import Application, Chip
+from physical_units import PhysicalUnits
+from plan_texts import Plan
+from report_data import Line
+from runs import Run
+
+PLACES = 3  # behind the point of a number that isn't whole
 Row = TypeVar("Row")
 Value: TypeAlias = int | float | str | list[int] | list[str] | None
 Json: TypeAlias = "dict[str, Json] | list[Json] | list[int] | list[str] | str | int | float | None"
+
+
+@dataclass(frozen=True)
+class Facts:
+    """What the tables of a report tell of: a plan there is only where everything is granted, a run and physical units where they
+    were asked for."""
+
+    title: str
+    chip: Chip
+    app: Application
+    lines: Sequence[Line]
+    plan: Plan | None = None
+    run: Run | None = None
+    units: PhysicalUnits | None = None
 
 
 @dataclass(frozen=True)
@@ -57,6 +78,11 @@ class Table(Generic[Row]):
             if column.unit:
                 told[column.name.partition(".")[0]] = column.unit
         return told
+
+
+def short(value: float | None) -> int | float | None:
+    """A number with few digits behind the point; a whole one has none."""
+    return None if value is None else int(value) if value == int(value) else round(value, PLACES)
 
 
 def cell_of(value: Value) -> str | int | float:
