@@ -2,9 +2,9 @@
 from collections.abc import Callable, Sequence
 
 from changes import ChannelChange, Changes, SeatChange, Verdict
+from comparing import judged_design
 from design import Channel
 from ending import Result
-from making import judged_design
 from program import Input
 from text_table import Column, table
 

@@ -47,9 +47,8 @@ class Marks:
     def draw(self, chip_map: ChipMap) -> list[str]:
         """A frame around each core that came to an interface, and a broken one where it is no more."""
         parts = []
-        for interface, shown in self.shown.items():
-            boxes = chip_parts.seat_boxes(chip_map.interface_box(interface), len(shown))
-            cores = self.cores.get(interface, [])
+        for interface in self.shown:
+            boxes, cores = chip_parts.seat_boxes(chip_map, interface), self.cores.get(interface, [])
             for core, box in zip(cores, boxes):
                 if core in self.came:
                     parts.append(frame(box, CAME, "come", told_of_seat(self.came[core])))
