@@ -47,15 +47,15 @@ def section(head: str, text: str) -> str:
 
 def moves(changes: Changes) -> str:
     """The channels with another path or other slots."""
-    lines = []
-    for one in changes.channels:
-        if one.has_moved:
-            lines.append(f"  {one.name}, in {', '.join(one.uses)}\n")
-            if one.has_other_path:
-                lines.append(f"    path   {compared(one, lambda it: path_of(changes, it))}\n")
-            if one.has_other_slots:
-                lines.append(f"    slots  {compared(one, lambda it: ' '.join(map(str, it.grant.starts)))}\n")
-    return section("Paths and slots", "".join(lines)) if lines else ""
+    columns = Column("channel"), Column("in"), Column("path"), Column("starts in slots")
+    rows = [
+        [
+            one.name, ", ".join(one.uses), compared(one, lambda it: path_of(changes, it)) if one.has_other_path else "",
+            compared(one, lambda it: " ".join(map(str, it.grant.starts))) if one.has_other_slots else "",
+        ]
+        for one in changes.channels if one.has_moved
+    ]
+    return section("Paths and slots", table(columns, rows)) if rows else ""
 
 
 def path_of(changes: Changes, channel: Channel) -> str:
@@ -82,13 +82,18 @@ def wishes(changes: Changes) -> str:
     rows = [
         [
             one.name, compared(one, lambda it: it.sender), compared(one, lambda it: it.receiver),
-            compared(one, lambda it: "{0.words} in {0.per}".format(it.connection.wish(it.side))),
+            compared(one, words_wished),
             compared(one, lambda it: it.connection.wish(it.side).latency),
             compared(one, lambda it: it.connection.wish(it.side).delay),
         ]
         for one in found.values()
     ]
     return section("Wishes", table(columns, rows)) if rows else ""
+
+
+def words_wished(channel: Channel) -> str:
+    wish = channel.connection.wish(channel.side)
+    return f"{wish.words:,} in {wish.per:,}" if wish.words else "none"
 
 
 def others(changes: Changes) -> str:

@@ -114,13 +114,14 @@ def given_words(left: Leaving, design: Sequence[Input], words: Input, receivers:
             f"{last.channel.name} needs a drain of {drain:,}: the switch would be finished in cycle "
             f"{at + drain + left.longest:,}, and a run has {MOST_CYCLES:,} cycles at most"
         ))
-    if given.dropped(drain) or drain and not given.dropped(drain - 1):
+    lost = given.dropped(drain - 1) if drain else 1
+    if given.dropped(drain) or not lost:
         raise AssertionError(f"a run says another drain than {drain}")
-    less = f" With {drain - 1:,} it drops {count(given.dropped(drain - 1), 'word')}." if drain else ""
+    less = f" With {drain - 1:,} it drops {count(lost, 'word')}." if drain else ""
     return Result(
         f"drain {drain}\n\n"
         f"With it a switch from {left.use} to {left.other} in cycle {at:,} drops no word of this run.{less}\n{left.closes}\n\n"
         + table(COLUMNS, [last.row(at, left.longest) for last in found], 0)
-        + f"\nOf each channel its words before the switch, and the cycles of the last one. It must be sent before cycle {at:,} and the\n"
-        f"drain, and be taken before the cycle that is {count(left.longest, 'cycle')} later.\n"
+        + "\nThe cycles are those of the last word before the switch. It must be sent by the end of the drain, and be taken up to\n"
+        f"{count(left.longest, 'cycle')} behind it.\n"
     )

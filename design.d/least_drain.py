@@ -1,44 +1,40 @@
 """The least drain of a switch with which a closing channel drops no word, whatever words come that keep its rate.
 
-Words keep a rate of `words` in `per` cycles where no `per` cycles on end have more of them. A receiver keeps its delay of D
-cycles where it takes each word at most D cycles after it landed. Of a switch in cycle c with a drain of d a channel accepts words
-before c, sends before c + d, and takes before c + d + H, with H the longest path delay of all that closes. So all its words are
-sent, have landed and are taken where the last one is sent in a cycle p with p < c + d and p + h + D < c + d + H, with h the
-delay of its own path.
+Words keep a rate where no `per` cycles on end have more than `words` of them; they come evenly where any k of them also take
+(k - 1) * per / words cycles, rounded down, from the first to the last. A receiver keeps its delay of D cycles where it takes
+each word at most D cycles after it landed. Of a switch in cycle c with a drain of d a channel accepts words before c, sends
+before c + d, and takes before c + d + H, with H the longest path delay of all that closes. So nothing of it is dropped where
+its last word is sent in a cycle p with p < c + d and p + h + D < c + d + H, with h the delay of its own path.
 
-**How late p may be.** The private server of a channel, with a receiver that takes as late as it may, is linear in the sense of
-min-plus algebra: a slot adds 2 to what may be sent, a slot of the opposite channel 15 to what is returned, and all else are
-delays, the lesser of two counts, and the buffer added. So what is sent up to t is the least, over all cycles s up to c, of the words offered
-before s and of what a session would send that begins in s, is never out of words, and has all its credits. Let P(s, k) be the
-cycle in which this one sends its k-th word. Then the last word is sent in the greatest P(s, k), over s, with k the words offered
-from s on. That k is at most `words` for each begun `per` cycles, which bursts of all words of a period reach, that
-begin in s and end in c - 1. So for each s and each number q of further bursts, up to c - 1 = s + q * per, the words
+**How late p may be.** The private server of a channel, with a receiver that takes as late as it may, is linear in min-plus
+algebra: a slot adds 2 to what may be sent, a slot of the opposite channel 15 to what may be returned; all else are delays, the
+lesser of two counts, and the buffer that is added. So what is sent up to a cycle is the least, over all s, of the words offered
+before s and of what a session sends that begins in s, has all its credits, and is never out of words. Let P(s, k) be the cycle in
+which this one sends its k-th word. Then p is the greatest P(s, k), over s, with k the words that are offered from s on. For a
+span from s to c - 1 the most words come where they begin in s, as many and as early as they may: the n-th step of them has
+come by s + at(n), with words(n) words in all. So the least drain is the greatest value, over s and n, of
 
-    words * (q + 1)   offered in  s, s + per, .., s + q * per
+    P(s, words(n)) - s - at(n)
 
-need a drain of P(s, words * (q + 1)) - s - q * per, and the greatest of these is the least drain: with one cycle less the words
-of its bursts are dropped, and with it none are. A receiver that takes sooner returns credits sooner, so nothing is later by it.
+With a cycle less the last one of these words is dropped, in a session without any words before them; with it none ever is. A
+receiver that takes sooner returns credits sooner, and so nothing is sent later.
 
-**Which s and q.** P(s, k) is the same for all s from behind a slot up to the next one, so that s stands behind a slot. By the
-promise of a latency-rate server P(s, k) <= s + theta + k * S / N, so that q further bursts need at most
-
-    theta + words * S / N - q * (per - words * S / N)
-
-which falls with q, since the rate N / S is no less than the wish; that of q = 0 bounds the drain. Without want of credits
-P(s, k) is the cycle of the slot in place ceil(k / 2) from s on, and 2 * |X| further bursts need no more than none.
+**Which s and n.** P(s, k) - s is greatest right behind a slot, since no word is sent up to the next one. By the promise of a
+latency-rate server P(s, k) <= s + theta + k * S / N. So steps from n on need at most theta + words(m) * S / N - at(m), the
+greatest for m >= n; that doesn't rise with n, since the rate N / S is no less than the wish, and for n = 0 it bounds the drain.
+Where credits are never wanting P(s, k) is the slot in place ceil(k / 2) from s on. The words of 2 * |X| periods, with |X| slots
+in the table, take `words` rounds of the table then, which is no longer than these periods: so no more of them need be looked at.
 """
 from collections import deque
-from collections.abc import Iterator, Sequence
+from collections.abc import Iterable, Iterator, Sequence
 from dataclasses import dataclass
-from fractions import Fraction
-from functools import cached_property
-from itertools import count, islice
+from itertools import count
 from typing import NamedTuple
 
 from design_files import Wish
 
 WORDS_OF_FLIT, CREDITS_OF_FLIT = 2, 15
-MOST_STEPS = 1_000_000  # words that are looked at, of one channel
+MOST_STEPS = 100_000  # words that are looked at, of one channel
 
 
 class Slots:
@@ -72,27 +68,69 @@ class Turns:
         return cycle
 
 
-class Burst(NamedTuple):
-    """The words that need a drain: bursts of `words` words, each `per` cycles after the one before, the last one in the last
-    cycle before the switch."""
+@dataclass(frozen=True)
+class Pattern:
+    """The most words of a wish that may come from a cycle on, step by step: a whole period's at once, or one by one."""
 
-    first: int  # the cycle of the first one
-    further: int  # how many come behind it
+    wish: Wish
+    evenly: bool
+
+    def words(self, step: int) -> int:
+        """How many have come with a step."""
+        return step + 1 if self.evenly else self.wish.words * (step + 1)
+
+    def at(self, step: int) -> int:
+        """The cycles from the first step to this one."""
+        return step * self.wish.per // self.wish.words if self.evenly else step * self.wish.per
+
+    @property
+    def at_once(self) -> int:
+        return self.words(0)
+
+    @property
+    def period(self) -> int:
+        """The steps after which it goes on as at its beginning."""
+        return self.wish.words if self.evenly else 1
+
+
+class Worst(NamedTuple):
+    """The words that need a drain: those of a pattern from a cycle on, up to a step in the last cycle before the switch."""
+
+    first: int
+    step: int
     drain: int
 
 
 class Need(NamedTuple):
-    """What a channel needs: the bursts that need it, and the most that any may need, which is no more mostly."""
+    """What a channel needs: the words that need it, and the most that any may need, which mostly is no more."""
 
-    burst: Burst
+    worst: Worst
     most: int
 
 
-class Sent(NamedTuple):
-    """A word that is sent, and whether it had to wait for a credit."""
+class Session:
+    """A session of a channel that begins in a cycle, is never out of words, and has the latest receiver."""
 
-    cycle: int
-    was_held: bool
+    def __init__(self, channel: "Channel", start: int) -> None:
+        self.own, self.returning = Turns(channel.own, WORDS_OF_FLIT), Turns(channel.opposite, CREDITS_OF_FLIT)
+        self.taken_behind = channel.delay + channel.wish.delay + 1  # the cycles from a word's slot until its credit may go back
+        self.delay_back, self.start = channel.delay_back, start
+        self.credits = deque([start] * channel.buffer)  # the cycles from which on there are credits for the next words
+        self.was_held = False  # whether some word had to wait for its credit
+
+    def send(self) -> int:
+        """The cycle in which the next word is sent."""
+        credit, at_once = self.credits.popleft(), self.own.turn(self.start)
+        cycle = self.own.take(credit)
+        self.was_held = self.was_held or cycle > at_once
+        self.credits.append(self.returning.take(cycle + self.taken_behind) + self.delay_back)
+        return cycle
+
+    def state(self) -> tuple[int, ...]:
+        """All on which it rests how it goes on from the cycle of its last word."""
+        at, size = self.own.cycle, self.own.slots.size
+        credits = (max(0, credit - at) for credit in self.credits)
+        return at % size, self.own.taken, self.returning.cycle - at, self.returning.taken, *credits
 
 
 @dataclass(frozen=True)
@@ -110,42 +148,39 @@ class Channel:
     rate: int  # words in each round of the table
     theta: int  # its latency but for the path
 
-    def sendings(self, start: int) -> Iterator[Sent]:
-        """The words of a session that begins in a cycle and is never out of words, with the latest receiver."""
-        own, returning = Turns(self.own, WORDS_OF_FLIT), Turns(self.opposite, CREDITS_OF_FLIT)
-        credits: deque[int] = deque()
-        for number in count(1):
-            ready = max(start, credits.popleft()) if number > self.buffer else start
-            at_once = own.turn(start)
-            cycle = own.take(ready)
-            credits.append(returning.take(cycle + self.delay + self.wish.delay + 1) + self.delay_back)
-            yield Sent(cycle, cycle > at_once)
-
-    @cached_property
-    def spread(self) -> Fraction:
-        """The cycles in which a steady server of its rate sends the words of a period."""
-        return Fraction(self.wish.words * self.own.size, self.rate)
-
-    def most(self, further: int = 0) -> int:
-        """What bursts need at the most, with so many further ones or more, by the promise of a latency-rate server."""
-        return int(self.theta + self.spread - further * (self.wish.per - self.spread))
+    def most(self, pattern: Pattern, step: int = 0) -> int:
+        """What the words of a pattern need at the most, up to a step or a later one, by the promise of a latency-rate server."""
+        wish, each = self.wish, self.rate * pattern.period
+        served = pattern.words(step) * self.own.size * pattern.period
+        return self.theta + (served - step * wish.per * self.rate + (pattern.period - 1) * self.rate) // each
 
     @property
     def starts(self) -> list[int]:
         """The first cycles behind its slots, once round the table."""
         return [(slot + 1) % self.own.size for slot in self.own.starts]
 
-    def by_slots(self) -> Burst:
-        """The bursts that need most where credits are never wanting."""
-        places, slots = len(self.own.starts), self.own
-        found = []
-        for start in self.starts:
-            order = sorted((slot - start) % slots.size for slot in slots.starts)
-            for further in range(2 * places):
-                flit = -(-self.wish.words * (further + 1) // WORDS_OF_FLIT) - 1
-                sent = order[flit % places] + flit // places * slots.size
-                found.append(Burst(start, further, sent - further * self.wish.per))
-        return max(found, key=lambda burst: (burst.drain, -burst.further, -burst.first))
+    def by_slots(self, pattern: Pattern, start: int) -> Iterator[Worst]:
+        """What the words of a pattern from a cycle on need where credits are never wanting, step by step."""
+        places, size = len(self.own.starts), self.own.size
+        order = sorted((slot - start) % size for slot in self.own.starts)
+        for step in range(2 * places * pattern.period):
+            flit = -(-pattern.words(step) // WORDS_OF_FLIT) - 1
+            yield Worst(start, step, order[flit % places] + flit // places * size - pattern.at(step))
+
+    def by_credits(self, pattern: Pattern, start: int) -> Iterator[Worst]:
+        """What they need in any case, step by step, until the session goes on as it did before: then no step needs more."""
+        session = Session(self, start)
+        before: tuple[int, ...] = ()
+        for step in count():
+            sent = [session.send() for _ in range(pattern.at_once)][-1]
+            yield Worst(start, step, sent - start - pattern.at(step))
+            periods, more = divmod(step + 1, pattern.period)
+            if not more:
+                now = session.state()
+                if now == before:
+                    return
+                if periods.bit_count() == 1:  # an early one may never come again
+                    before = now
 
     def wants_credits(self) -> bool:
         """Whether credits may be wanting. Where none is over the first rounds none ever is: words go alike in each round
@@ -153,34 +188,36 @@ class Channel:
         if WORDS_OF_FLIT * len(self.own.starts) > CREDITS_OF_FLIT * len(self.opposite.starts):
             return True
         words = self.buffer + 4 * WORDS_OF_FLIT * (len(self.own.starts) + 1)
-        return any(
-            sent.was_held for start in self.starts for sent, _ in zip(self.sendings(start), range(words))
-        )
-
-    def with_credits(self, least: Burst) -> Need:
-        """The bursts that need most, among those that need more than some do; where these are too many to be looked at, what
-        the rest may need at the most is told."""
-        steps, rest = MOST_STEPS, least.drain
         for start in self.starts:
-            sendings = self.sendings(start)
-            for further in count():
-                if self.most(further) <= least.drain:
-                    break
-                steps -= self.wish.words
-                if steps < 0:
-                    rest = max(rest, self.most(further))
-                    break
-                sent = next(islice(sendings, self.wish.words - 1, None))
-                drain = sent.cycle - start - further * self.wish.per
-                if drain > least.drain:
-                    least = Burst(start, further, drain)
-        return Need(least, max(rest, least.drain))
+            session = Session(self, start)
+            for _ in range(words):
+                session.send()
+            if session.was_held:
+                return True
+        return False
 
-    def need(self) -> Need | None:
-        """What the channel needs for itself, that it has sent all; nothing where it has no words."""
+    def searched(self, pattern: Pattern, steps: Iterable[Iterator[Worst]], cost: int) -> Need:
+        """The greatest need of some words. Of each start the steps end where none behind them may need more, or where too many
+        were looked at: then the most is told that the others may need."""
+        worst, most, left = Worst(0, 0, 0), 0, MOST_STEPS
+        for each in steps:
+            for one in each:
+                if self.most(pattern, one.step) <= worst.drain:
+                    break
+                if left <= 0:
+                    most = max(most, self.most(pattern, one.step))
+                    break
+                left -= cost
+                if one.drain > worst.drain:
+                    worst = one
+        return Need(worst, max(most, worst.drain))
+
+    def need(self, evenly: bool = False) -> Need | None:
+        """What the channel needs so that it has sent all; nothing where it has no words."""
         if not self.wish.words:
             return None
-        burst = self.by_slots()
-        if burst.drain >= self.most() or not self.wants_credits():
-            return Need(burst, burst.drain)
-        return self.with_credits(burst)
+        pattern = Pattern(self.wish, evenly)
+        need = self.searched(pattern, (self.by_slots(pattern, start) for start in self.starts), 1)
+        if need.worst.drain >= self.most(pattern) or not self.wants_credits():
+            return need
+        return self.searched(pattern, (self.by_credits(pattern, start) for start in self.starts), pattern.at_once)

@@ -6,13 +6,13 @@ where its guaranteed rate is lower, its guaranteed latency greater, or where a s
 """
 from collections import defaultdict
 from collections.abc import Iterable
-from dataclasses import dataclass
+from dataclasses import dataclass, replace
 from enum import Enum
 from functools import cached_property
 from typing import NamedTuple
 
 from design import SIDES, Channel, Design, Key, passages
-from design_files import Link, UseCase
+from design_files import Link, UseCase, Wish
 from plan_texts import Seat
 from text_table import count
 
@@ -81,7 +81,7 @@ class ChannelChange:
         if not (old and new):
             return False
         ends = (old.sender, old.receiver) != (new.sender, new.receiver)
-        return ends or old.connection.wish(old.side) != new.connection.wish(new.side)
+        return ends or wish_of(old) != wish_of(new)
 
     @property
     def verdict(self) -> Verdict:
@@ -239,6 +239,12 @@ class Changes:
             )
             for link in chip.links
         ]
+
+
+def wish_of(channel: Channel) -> Wish:
+    """What a channel wishes; no words are none, whatever their period."""
+    wish = channel.connection.wish(channel.side)
+    return wish if wish.words else replace(wish, per=1)
 
 
 def place_of(seat: Seat | None) -> tuple[str, int] | None:

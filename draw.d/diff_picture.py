@@ -75,7 +75,7 @@ def told_of_seat(one: SeatChange) -> str:
 
 def load_told(one: LinkChange) -> str:
     """How many slots of a changed link are in use, before and after."""
-    return f": {one.before}{svg.ARROW}{one.after}" if one.before != one.after else f": {one.after}, others"
+    return f": {one.before}{svg.ARROW}{one.after}"
 
 
 def draw_link(chip_map: ChipMap, one: LinkChange) -> str:
