@@ -172,7 +172,7 @@ def units_of(clock: str | None, word: str | None) -> PhysicalUnits | None:
             raise Stop(NO_WORDS, "--word needs --clock beside it, as --clock 500MHz --word 4B")
         return None
     word = PLAIN_WORD if word is None else word
-    return PhysicalUnits(part_of("--clock", clock, "clock", CLOCKS), part_of("--word", word, "size of a word", WORDS))
+    return PhysicalUnits(part_of("--clock", clock, "clock", CLOCKS), part_of("--word", word, "word size", WORDS))
 
 
 class Rest(NamedTuple):
