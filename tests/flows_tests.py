@@ -1,5 +1,7 @@
 """Tests of `./design app`: the examples that are made of flows, wishes rounded to the safe side, and what can't be had."""
+from argparse import ArgumentParser
 from fractions import Fraction
+from unittest import mock
 import re
 import sys
 import tomllib
@@ -8,12 +10,20 @@ import unittest
 from home import Home, PROGRAM, TOP
 
 sys.path[:0] = [str(TOP / "design.d"), str(TOP / "common.d")]
-from flow_wishes import at_least  # noqa: E402: its folder is told above
+from application import Ask  # noqa: E402: its folder is told above
+from application_rules import application  # noqa: E402
+from ending import Passed, Stop  # noqa: E402
+from flow_wishes import at_least  # noqa: E402
 from physical_units import units_of  # noqa: E402
+import program  # noqa: E402
 
 EXAMPLES = TOP / "examples"
 MADE = sorted(path for path in EXAMPLES.glob("*.toml") if "# Made by: ./design app " in path.read_text())
 APPLICATIONS = sorted(path for path in EXAMPLES.glob("*.toml") if "[[connection]]" in path.read_text())
+WORDS = ArgumentParser()
+for name, kind in (("--word", {}), ("--seats", {}), ("--chip", {}), ("--detour", {"type": int, "default": 1})):
+    WORDS.add_argument(name, **kind)
+WORDS.add_argument("--smooth", action="append", type=lambda text: text.split(","), default=[])
 HEADER = "from,to,rate,latency,back_rate,back_latency,uses\n"
 
 
@@ -31,13 +41,25 @@ class Flows(unittest.TestCase):
     @classmethod
     def setUpClass(cls):
         cls.home = Home(PROGRAM)
-        cls.home.run("slots", "1", "1", "1", "0")
         cls.addClassCleanup(cls.home.end)
+        for name, value in (("AETH", PROGRAM), ("build", lambda: None)):
+            patch = mock.patch.object(program, name, value)
+            patch.start()
+            cls.addClassCleanup(patch.stop)
 
     def app(self, flows, *words, clock="500MHz"):
-        """How `design app` ends with a table."""
+        """How `design app` ends with a table: in this process, since a process of its own takes ten times as long."""
         self.home.put("f.csv", flows)
-        return self.home.design("app", "f.csv", "--clock", clock, *words)
+        given = WORDS.parse_args(words)
+        ask = Ask(units_of(clock, given.word), given.detour, "hops", given.smooth, ["app", "f.csv", "--clock", clock])
+        seats, chip = (name and str(self.home.top / name) for name in (given.seats, given.chip))
+        try:
+            made = application(str(self.home.top / "f.csv"), seats, chip, ask)
+            return made.status, made.text, made.errors
+        except Passed as passed:
+            return passed.status, "", passed.lines
+        except Stop as stop:
+            return stop.status, "", f"design: {stop.why}\n".replace(f"{self.home.top}/", "")
 
     def tree(self, flows, *words, clock="500MHz"):
         status, text, errors = self.app(flows, *words, clock=clock)
@@ -55,6 +77,7 @@ class Flows(unittest.TestCase):
 class Examples(Flows):
     def test_each_is_what_its_flows_make(self):
         self.assertEqual([path.stem for path in MADE], ["camera", "mpeg4", "vopd"])
+        self.home.run("slots", "1", "1", "1", "0")  # the program is built, and says so, in the first call
         for path in MADE:
             text = path.read_text()
             words = re.search(r"# Made by: \./design (.*)", text)[1].split(" ")
@@ -107,7 +130,7 @@ class Wishes(Flows):
         for rate, latency, clock, words, per, cycles, told in (
             ("240 MB/s", "121 ns", "500MHz", 240, 2000, 60, "asked 240 MB/s, within 121 ns; gets 240 MB/s, within 120 ns"),
             ("240MB/s", "120ns", "533MHz", 240, 2132, 63, "asked 240MB/s, within 120ns; gets 240 MB/s, within 118.2 ns"),
-            ("2.5 Gb/s", "1us", "500MHz", 5, 32, 500, "asked 2.5 Gb/s, within 1us; gets 2.5 Gb/s, within 1 us"),
+            ("2.5 Gb/s", "1us", "500MHz", 5, 32, 500, "asked 2.5 Gb/s, within 1us; gets the same"),
             ("4 GB/s", "4 ns", "500MHz", 4, 2, 2, "asked 4 GB/s, within 4 ns; gets the same"),
             ("0.5 MB/s", "3 s", "500MHz", 1, 4000, 4096, "asked 0.5 MB/s, within 3 s; gets 0.5 MB/s, within 8.192 us"),
             ("1 B/s", "", "500MHz", 1, 1_000_000, 4096, "asked 1 B/s; gets 2000 B/s"),
@@ -167,9 +190,6 @@ class Tables(Flows):
         made = self.tree("from,to,rate\na,b,1MB/s\nb,c,1MB/s\n", "--seats", "s.csv", "--chip", "examples/pair.toml")
         self.assertEqual(made["core"], [{"name": "b", "ni": "n1"}, {"name": "c"}, {"name": "a"}])
 
-    def test_no_flow(self):
-        self.assertEqual(self.tree("from,to,rate\n")["connection"], [])
-
 
 class Faults(Flows):
     def test_rows(self):
@@ -178,6 +198,7 @@ class Faults(Flows):
         for flows, tells in (
             ("", f"line 1: the header has no column `from`: the columns are {columns}"),
             ("from;to;rate\n", f"line 1: `from;to;rate` is no column: these are {columns}"),
+            ("from,to,rate\n\n# a,b,1MB/s\n", "line 1: no flow stands below the header"),
             ("from,to,rate,rate\n", "line 1: the header has column `rate` twice"),
             ("from,to,rate (ns)\n", f"line 1: `ns` is no unit of column `rate`: these are {rates}"),
             ("from (ns),to,rate\n", "line 1: `ns` is no unit of column `from`, which has none"),
@@ -227,13 +248,12 @@ class Faults(Flows):
             "(6 ns). It needs a greater latency, or a shorter way: more slots don't help"))
         self.assertEqual(self.refused(HEADER + "a,b,2GB/s,,,,\na,b,1.6GB/s,,,,\na,b,1MB/s,,,,\n", *words), (
             "f.csv, line 4: up to it the channels from interface `n0` in use case `main` need 9 slots together, and a link of the chip has 8"))
-        status, _, errors = self.app(HEADER + "a,b,1MB/s,,,,\n", "--chip", "examples/one.toml")
-        self.assertEqual((status, errors), (2, "refused chip 2 WrongKey 0 core\n"))
+        self.assertEqual(self.app(HEADER + "a,b,1MB/s,,,,\n", "--chip", "examples/one.toml"), (2, "", "refused chip 2 WrongKey 0 connection\n"))
 
     def test_seats(self):
         flows = HEADER + "".join(f"a{place},b{place},1MB/s,,,,\n" for place in range(5))
         for seats, tells in (
-            ("core\n", "line 1: the header has no column `interface`: the columns are core, interface"),
+            ("core,interface\n", "line 1: no seat stands below the header"), ("core\n", "line 1: the header has no column `interface`: the columns are core, interface"),
             ("core,interface\nc,n0\n", "line 2: no flow begins or ends at core `c`"),
             ("core,interface\na1,n0\na1,n1\n", "line 3: core `a1` stands twice"),
             ("core,interface\na1,N\n", "line 2: interface: `N` is no name, which has 1 to 32 of a-z, 0-9 and _"),
