@@ -137,7 +137,7 @@ class PhysicalUnits:
     @property
     def told(self) -> str:
         """A sentence on both."""
-        return f"A cycle is {self.time(1)}, and a word has {decimal(self.word)} byte{'' if self.word == 1 else 's'}."
+        return f"A cycle is {self.time(1, up=False)}, and a word has {decimal(self.word)} byte{'' if self.word == 1 else 's'}."
 
     def nanoseconds(self, cycles: int | Fraction, up: bool = True) -> str:
         """The same time in ns, without the unit, for a column of them."""
