@@ -94,7 +94,7 @@ class FlowDesign:
         """The use cases that each one names as smooth: the first of a list all others."""
         smooth: dict[str, list[str]] = defaultdict(list)
         for first, *others in self.ask.smooth:
-            smooth[first] += [other for other in others if other not in smooth[first]]
+            smooth[first] += [other for other in dict.fromkeys(others) if other not in (first, *smooth[first])]
         return dict(smooth)
 
     def root(self) -> Tree:

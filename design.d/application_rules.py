@@ -89,7 +89,7 @@ def rates_of(ask: Ask) -> Capacity:
     return Capacity(
         Fraction(LINK_RATE),
         lambda connection, side: Fraction(connection.wish(side).words, connection.wish(side).per),
-        lambda load: f"have {ask.units.rate(load, 1, up=True)} together, and a link has {link}",
+        lambda load: f"ask {ask.units.rate(load, 1, up=True)}, and a link has {link}",
     )
 
 
@@ -98,7 +98,7 @@ def slots_of(chip: Chip) -> Capacity:
     return Capacity(
         Fraction(chip.slots),
         lambda connection, side: Fraction(need_of(connection, side, chip.slots)),
-        lambda load: f"need {int(load)} slots together, and a link of the chip has {chip.slots}",
+        lambda load: f"need {int(load)} slots, and a link of the chip has {chip.slots}",
     )
 
 
@@ -115,7 +115,7 @@ def judge_loads(app: Application, lines: dict[str, int], capacity: Capacity) -> 
                     loads[way, place] += capacity.taken(connection, side)
                     if loads[way, place] > capacity.most:
                         tells = capacity.tells(loads[way, place])
-                        raise RowFault(lines[name], f"up to it the channels {way} {place} in use case `{use.name}` {tells}")
+                        raise RowFault(lines[name], f"with it the channels {way} {place} in use case `{use.name}` {tells}")
 
 
 def judge_paths(app: Application, lines: dict[str, int], chip: Chip, ask: Ask) -> None:

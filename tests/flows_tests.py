@@ -231,9 +231,9 @@ class Faults(Flows):
             ("a,b,1MB/s,,,0 ns,\n", "line 2: back_latency: 0 ns can't be had: the shortest path takes 2 cycles, 4 ns"),
             ("a,b,1MB/s,,5GB/s,,\na,c,1MB/s,,,,\nc,b,1MB/s,1 ns,,,\n", "line 2: back_rate: 5GB/s can't be had: a link has 4 GB/s, two words a cycle; and faults in line 4"),
             ("a,b,3GB/s,,,,u\na,c,3GB/s,,,,v\na,d,2GB/s,,,,u\n",
-             "line 4: up to it the channels from core `a` in use case `u` have 5 GB/s together, and a link has 4 GB/s"),
+             "line 4: with it the channels from core `a` in use case `u` ask 5 GB/s, and a link has 4 GB/s"),
             ("a,b,3GB/s,,1GB/s,,\nc,b,1GB/s,,,,\nd,b,1B/s,,,,\n",
-             "line 4: up to it the channels to core `b` in use case `main` have 4.001 GB/s together, and a link has 4 GB/s"),
+             "line 4: with it the channels to core `b` in use case `main` ask 4.001 GB/s, and a link has 4 GB/s"),
         ):
             with self.subTest(flows=flows):
                 self.assertEqual(self.refused(HEADER + flows), f"f.csv, {tells}")
@@ -247,7 +247,7 @@ class Faults(Flows):
             "f.csv, line 2: channel fwd: it wishes a latency of 2 (4 ns), and the quickest path from `a` on n0 to `b` on n1 takes 3 cycles "
             "(6 ns). It needs a greater latency, or a shorter way: more slots don't help"))
         self.assertEqual(self.refused(HEADER + "a,b,2GB/s,,,,\na,b,1.6GB/s,,,,\na,b,1MB/s,,,,\n", *words), (
-            "f.csv, line 4: up to it the channels from interface `n0` in use case `main` need 9 slots together, and a link of the chip has 8"))
+            "f.csv, line 4: with it the channels from interface `n0` in use case `main` need 9 slots, and a link of the chip has 8"))
         self.assertEqual(self.app(HEADER + "a,b,1MB/s,,,,\n", "--chip", "examples/one.toml"), (2, "", "refused chip 2 WrongKey 0 connection\n"))
 
     def test_seats(self):
