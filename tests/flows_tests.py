@@ -189,6 +189,8 @@ class Tables(Flows):
         self.home.put("s.csv", "core,interface\nb,n1\nc,\n")
         made = self.tree("from,to,rate\na,b,1MB/s\nb,c,1MB/s\n", "--seats", "s.csv", "--chip", "examples/pair.toml")
         self.assertEqual(made["core"], [{"name": "b", "ni": "n1"}, {"name": "c"}, {"name": "a"}])
+        self.home.put("s.csv", "core,interface\nb,r1\na,n3\n")
+        self.assertEqual(self.tree("from,to,rate\na,b,1MB/s\n", "--seats", "s.csv")["core"][0], {"name": "b", "ni": "r1"})
 
 
 class Faults(Flows):
@@ -248,10 +250,12 @@ class Faults(Flows):
             "(6 ns). It needs a greater latency, or a shorter way: more slots don't help"))
         self.assertEqual(self.refused(HEADER + "a,b,2GB/s,,,,\na,b,1.6GB/s,,,,\na,b,1MB/s,,,,\n", *words), (
             "f.csv, line 4: with it the channels from interface `n0` in use case `main` need 9 slots, and a link of the chip has 8"))
+        self.assertEqual(self.refused(HEADER + "".join(f"a{place},b{place},1MB/s,,,,\n" for place in range(5)), "--chip", "examples/pair.toml"),
+                         "f.csv, line 6: these are more than 8 cores, for which the chip has seats")
         self.assertEqual(self.app(HEADER + "a,b,1MB/s,,,,\n", "--chip", "examples/one.toml"), (2, "", "refused chip 2 WrongKey 0 connection\n"))
 
     def test_seats(self):
-        flows = HEADER + "".join(f"a{place},b{place},1MB/s,,,,\n" for place in range(5))
+        flows = HEADER + "".join(f"a{place},b,1MB/s,,,,\n" for place in range(5))
         for seats, tells in (
             ("core,interface\n", "line 1: no seat stands below the header"), ("core\n", "line 1: the header has no column `interface`: the columns are core, interface"),
             ("core,interface\nc,n0\n", "line 2: no flow begins or ends at core `c`"),
