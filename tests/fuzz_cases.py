@@ -24,7 +24,8 @@ WORDS = {
     "LOAD": ("0", "1", "100", "250"), "DRAIN": ("0", "64", "1000000"), "TABLES": ("8", "4,16", "65"), "DETOURS": ("0", "0,4"),
     "COSTS": ("hops", "hops,pressure"), "SIDE": ("fwd", "back"), "PLACE": ("1", "2"), "NUMBER": ("1", "8", "9"),
     "LIST": ("0", "0,4", "-"), "LOOKUP": ("headers", "tables"), "CLOCK": ("500MHz", "1 GHz", "66.6666MHz", "3Hz"), "BYTES": ("4B", "32b", "1000B", "1b"),
-    "SMOOTH": ("record,play", "play,record,play"), "DETOUR": ("0", "4"), "COST": ("hops", "pressure"), "FOLDER": ("made", "made/below", "chip.toml", "/proc/none"),
+    "SMOOTH": ("record,play", "play,record,play"), "DETOUR": ("0", "4"), "COST": ("hops", "pressure"), "TABLE": ("channels", "links", "switches"),
+    "FOLDER": ("made", "made/below", "chip.toml", "/proc/none"),
 }
 NAMES = {
     "USE": lambda uses, connections: uses,
@@ -32,7 +33,7 @@ NAMES = {
     "STALL": lambda uses, connections: [f"{connections[0]},fwd,5", f"{connections[0]},back,1000000"],
     "CHAIN": lambda uses, connections: [f"{connections[0]}:fwd:3,{connections[0]}:back"],
 }
-LOOSE = {"ODD", "SIZE", "SLOTS", "DELAY", "ROUTERS", "CONNECTION", "SIDE", "PLACE", "CLOCK", "FOLDER"}  # that may be wrong for a script
+LOOSE = {"ODD", "SIZE", "SLOTS", "DELAY", "ROUTERS", "CONNECTION", "SIDE", "PLACE", "CLOCK", "FOLDER", "TABLE"}  # that may be wrong for a script
 RUN = "chip app plan words receivers switches CYCLES"
 UNITS = ("--clock CLOCK", "--clock CLOCK =--word BYTES")
 DESIGN = ("app chip app",)
@@ -88,7 +89,11 @@ COMMANDS = (
         UNITS, ("tables chip app plan USE",), "picture",
     ),
     Command("draw", "run", (RUN, RUN, f"{RUN} CONNECTION", f"{RUN} CONNECTION SIDE"), UNITS, (f"simulate {RUN}",), "picture"),
-    Command("draw", "report", ("chip app plan", RUN), UNITS, (*PLANNED, f"simulate {RUN}")),
+    Command("draw", "report", ("chip app plan", RUN), (*UNITS, "--csv TABLE", "--json"), (*PLANNED, f"simulate {RUN}")),
+    Command(
+        "draw", "play", ("chip app plan", "chip app plan USE", RUN), UNITS,
+        ("app chip app", "tables chip app plan USE", "check chip app plan", f"simulate {RUN}"),
+    ),
     Command("draw", "refusal", ("chip app", "chip app PLACE"), UNITS, ("explain chip app",), "picture"),
     Command("draw", "wave", (RUN,), (), (f"links {RUN}",)),
 )
