@@ -75,9 +75,10 @@ class Words(unittest.TestCase):
                 if file.is_file() and file.suffix not in (".png", ".pyc"):
                     known.update(re.findall(r"\w+", file.read_text(errors="replace")))
         for page in PAGES + CALLING + sorted(TOP.glob("crates/*/README.md")):
+            made = set(re.findall(r"> (\w+)", page.read_text()))  # by a command of the page
             for code in re.findall(r"`([^`]+)`", prose(page)):
                 for word in re.findall(r"[^\W\d]\w{2,}", code):
-                    self.assertTrue(word in known, f"{page}: {word} of {code}")
+                    self.assertTrue(word in known | made, f"{page}: {word} of {code}")
 
     def test_definitions_of_the_rules(self):
         """`crate/File`, and behind a comma a further file of it, is there and has the words that stand in brackets behind it."""
