@@ -107,10 +107,14 @@ class Words(unittest.TestCase):
                     self.assertTrue(word in known, f"{crate}: {word} of {code}")
 
     def test_commands_in_lines(self):
-        """A command within a line is one that there is, and one that looks something up finds it."""
+        """A command within a line is one that there is, and one that looks something up finds it. README has each command."""
         verbs = {"./aeth": {page.name for page in (TOP / "aeth.d/help").iterdir()} | {"help"}}
         for name in ("design", "draw"):
             verbs[f"./{name}"] = set(re.findall(rf"^{name} ([a-z]+) ", sentences.docstring(TOP / name), re.M)) | {"help"}
+        told = (TOP / "README.md").read_text()
+        for script, known in verbs.items():
+            for verb in known - {"help", "aeth"}:
+                self.assertTrue(re.search(rf"(?:`|{script} ){verb}[` ]", told), f"{script} {verb}")
         for page in PAGES:
             for code in re.findall(r"`([^`]+)`", re.sub(r"\s+", " ", prose(page))):
                 script, _, rest = code.partition(" ")
