@@ -42,8 +42,9 @@ class Running(unittest.TestCase):
         self.given = self.home.room / "given"
         self.given.write_text("given ")
 
-    def on_terminal(self, *words, does=None, after=1.5):
-        """A call on a terminal of its own, to which something is done after some time, given its process and the terminal."""
+    def on_terminal(self, *words, does=None, when="aeth: 1 s"):
+        """A call on a terminal of its own, to which something is done when it has told something, given its process and the
+        terminal."""
         process, ours = pty.fork()
         if process == 0:
             for number in (signal.SIGPIPE, signal.SIGXFSZ, signal.SIGINT, signal.SIGQUIT):
@@ -53,7 +54,7 @@ class Running(unittest.TestCase):
             os.dup2(os.open(self.out, os.O_WRONLY | os.O_CREAT | os.O_TRUNC, 0o644), 1)
             os.execve(words[0], [str(word) for word in words], self.home.settings)
         os.set_blocking(ours, False)
-        said, due = b"", time.monotonic() + after
+        said = b""
         while True:
             try:
                 part = os.read(ours, 1 << 16)
@@ -65,7 +66,7 @@ class Running(unittest.TestCase):
             if part == b"":
                 break
             said += part or b""
-            if does and time.monotonic() > due:
+            if does and when.encode() in said:
                 does(process, ours)
                 does = None
         os.close(ours)
@@ -79,30 +80,34 @@ class Running(unittest.TestCase):
 
     def test_the_time_is_told_and_taken_away(self):
         told = self.aeth("2.4")
-        self.assertEqual((told.status, told.said), (0, "\raeth: 1 s\r\raeth: 2 s\r\r\x1b[K"))
+        self.assertEqual(told.status, 0)
+        self.assertRegex(told.said, r"\A(\raeth: \d+ s\r){2,}\r\x1b\[K\Z")
         self.assertRegex(self.out.read_text(), f"\\Agiven 2.4 {told.process}\n\\Z")
 
     def test_what_is_quick_is_done_without_a_word(self):
+        began = time.monotonic()
         told = self.aeth("0.1")
-        self.assertEqual((told.status, told.said), (0, ""))
+        self.assertEqual(told.status, 0)
+        if time.monotonic() - began < 1:
+            self.assertEqual(told.said, "")
         self.assertRegex(self.out.read_text(), f"\\Agiven 0.1 {told.process}\n\\Z")
 
     def test_a_message_covers_the_time(self):
         told = self.aeth("1.3", "3")
-        self.assertEqual((told.status, told.said), (3, "\raeth: 1 s\rrefused app 3 OutOfRange 1 2\r\n\r\x1b[K"))
+        self.assertEqual(told.status, 3)
+        self.assertRegex(told.said, r"\A(\raeth: \d+ s\r)+refused app 3 OutOfRange 1 2\r\n\r\x1b\[K\Z")
 
     def test_signals_end_it_as_they_would_the_program(self):
         for number in (signal.SIGINT, signal.SIGTERM, signal.SIGHUP, signal.SIGQUIT, signal.SIGUSR1):
-            told = self.aeth("7", "wait", does=lambda process, _: os.kill(process, number))
-            self.assertEqual((told.status, told.said), (-number, "\raeth: 1 s\r\r\x1b[K"), number)
+            told = self.aeth("70", "wait", does=lambda process, _: os.kill(process, number))
+            self.assertEqual(told.status, -number, told.said)
+            self.assertRegex(told.said, r"\A(\raeth: \d+ s\r)+\r\x1b\[K\Z", number)
             self.assertEqual(self.out.read_text(), "")
 
     def test_the_interrupt_of_the_terminal(self):
-        for after in (0.3, 1.5):
-            began = time.monotonic()
-            told = self.aeth("7", "wait", does=lambda _, terminal: os.write(terminal, b"\x03"), after=after)
-            self.assertEqual(told.status, -signal.SIGINT)
-            self.assertLess(time.monotonic() - began, 5)
+        for when in ("", "aeth: 1 s"):
+            told = self.aeth("70", "wait", does=lambda _, terminal: os.write(terminal, b"\x03"), when=when)
+            self.assertEqual(told.status, -signal.SIGINT, told.said)
 
     def test_nothing_is_told_where_it_would_stand_in_the_way(self):
         for text in ("AETH 1.3 | cat", "AETH 1.3 > text & wait", "AETH 1.3 >&-", "AETH 1.3 <&- > text", "setsid -w AETH 1.3 > text"):
