@@ -189,6 +189,8 @@ class Tables(Flows):
         self.home.put("s.csv", "core,interface\nb,n1\nc,\n")
         made = self.tree("from,to,rate\na,b,1MB/s\nb,c,1MB/s\n", "--seats", "s.csv", "--chip", "examples/pair.toml")
         self.assertEqual(made["core"], [{"name": "b", "ni": "n1"}, {"name": "c"}, {"name": "a"}])
+        self.home.put("s.csv", "core,interface\nb,r1\na,n3\n")
+        self.assertEqual(self.tree("from,to,rate\na,b,1MB/s\n", "--seats", "s.csv")["core"][0], {"name": "b", "ni": "r1"})
 
 
 class Faults(Flows):
@@ -231,9 +233,9 @@ class Faults(Flows):
             ("a,b,1MB/s,,,0 ns,\n", "line 2: back_latency: 0 ns can't be had: the shortest path takes 2 cycles, 4 ns"),
             ("a,b,1MB/s,,5GB/s,,\na,c,1MB/s,,,,\nc,b,1MB/s,1 ns,,,\n", "line 2: back_rate: 5GB/s can't be had: a link has 4 GB/s, two words a cycle; and faults in line 4"),
             ("a,b,3GB/s,,,,u\na,c,3GB/s,,,,v\na,d,2GB/s,,,,u\n",
-             "line 4: up to it the channels from core `a` in use case `u` have 5 GB/s together, and a link has 4 GB/s"),
+             "line 4: with it the channels from core `a` in use case `u` ask 5 GB/s, and a link has 4 GB/s"),
             ("a,b,3GB/s,,1GB/s,,\nc,b,1GB/s,,,,\nd,b,1B/s,,,,\n",
-             "line 4: up to it the channels to core `b` in use case `main` have 4.001 GB/s together, and a link has 4 GB/s"),
+             "line 4: with it the channels to core `b` in use case `main` ask 4.001 GB/s, and a link has 4 GB/s"),
         ):
             with self.subTest(flows=flows):
                 self.assertEqual(self.refused(HEADER + flows), f"f.csv, {tells}")
@@ -247,11 +249,13 @@ class Faults(Flows):
             "f.csv, line 2: channel fwd: it wishes a latency of 2 (4 ns), and the quickest path from `a` on n0 to `b` on n1 takes 3 cycles "
             "(6 ns). It needs a greater latency, or a shorter way: more slots don't help"))
         self.assertEqual(self.refused(HEADER + "a,b,2GB/s,,,,\na,b,1.6GB/s,,,,\na,b,1MB/s,,,,\n", *words), (
-            "f.csv, line 4: up to it the channels from interface `n0` in use case `main` need 9 slots together, and a link of the chip has 8"))
+            "f.csv, line 4: with it the channels from interface `n0` in use case `main` need 9 slots, and a link of the chip has 8"))
+        self.assertEqual(self.refused(HEADER + "".join(f"a{place},b{place},1MB/s,,,,\n" for place in range(5)), "--chip", "examples/pair.toml"),
+                         "f.csv, line 6: these are more than 8 cores, for which the chip has seats")
         self.assertEqual(self.app(HEADER + "a,b,1MB/s,,,,\n", "--chip", "examples/one.toml"), (2, "", "refused chip 2 WrongKey 0 connection\n"))
 
     def test_seats(self):
-        flows = HEADER + "".join(f"a{place},b{place},1MB/s,,,,\n" for place in range(5))
+        flows = HEADER + "".join(f"a{place},b,1MB/s,,,,\n" for place in range(5))
         for seats, tells in (
             ("core,interface\n", "line 1: no seat stands below the header"), ("core\n", "line 1: the header has no column `interface`: the columns are core, interface"),
             ("core,interface\nc,n0\n", "line 2: no flow begins or ends at core `c`"),

@@ -1,9 +1,9 @@
 #!/usr/bin/env python3
 """Turns files and words, and gives them to each command of `design` and `draw`.
 
-tests/fuzz.py [--count N] [--seed N] [--jobs N] [--only SCRIPT:COMMAND]... [--case N] [--keep FOLDER]
+tests/fuzz.py [--count N] [--first N] [--seed N] [--jobs N] [--only SCRIPT:COMMAND]... [--case N] [--keep FOLDER]
 
-N cases of each command (1,000), of a seed (1), on all processors. A case fails where a script ends with a status that its page
+N cases of each command (1,000), from a first one on (0), of a seed (1), on all processors. A case fails where a script ends with a status that its page
 hasn't, with more than a line of its own, with a trace of Python's, with a letter that a terminal obeys, after a minute, or
 without `aeth`'s status and lines where `aeth` refused its files; and where what it makes isn't accepted. A case that fails
 is told with its number, by which --only and --case do it again, and its files and texts are kept in a folder.
@@ -22,7 +22,6 @@ import json
 import os
 import shutil
 import signal
-import subprocess
 import sys
 import tempfile
 import traceback
@@ -32,7 +31,8 @@ sys.dont_write_bytecode = True
 TOP = Path(__file__).resolve().parent.parent
 sys.path[:0] = [str(TOP / "tests")]
 
-from fuzz_cases import COMMANDS, Case, Command, bases, made  # noqa: E402: its folder is told above
+from fuzz_answers import Calls, Ran, program, take  # noqa: E402: its folder is told above
+from fuzz_cases import COMMANDS, Case, Command, bases, made  # noqa: E402
 from home import PROGRAM  # noqa: E402
 
 SECONDS = 60  # of a case
@@ -42,15 +42,6 @@ TOO_MUCH = 1_000  # as a status: it took more memory
 STATUSES = {0, 1, 2, 3, 4}
 UNWRITTEN = 5  # where a folder may be one that can't be made
 BOUNDED = "keys and values other than strings"  # a file of more is accepted by nobody, or can't be read here
-
-
-@dataclass(frozen=True)
-class Ran:
-    """How a program or a script ended, and what it wrote."""
-
-    status: int
-    out: bytes
-    errors: str
 
 
 @dataclass(frozen=True)
@@ -72,18 +63,9 @@ class Task:
     known: list[dict[str, bytes]]
 
 
-def program(words: Sequence[str], folder: Path) -> Ran:
-    """How the program itself answers."""
-    try:
-        ran = subprocess.run([str(PROGRAM), *words], capture_output=True, check=False, cwd=folder, stdin=subprocess.DEVNULL)
-    except OSError as error:
-        return Ran(126, b"", str(error))
-    return Ran(ran.returncode, ran.stdout, ran.stderr.decode("utf-8", "replace"))
-
-
 def play(code: CodeType, case: Case) -> Ran:
     """How the script ends with the words of a case: in a process of its own."""
-    out, errors = case.folder / "out", case.folder / "errors"
+    out, errors, notes = case.folder / "out", case.folder / "errors", case.folder / "answers"
     child = os.fork()
     if child == 0:
         try:
@@ -92,6 +74,7 @@ def play(code: CodeType, case: Case) -> Ran:
             signal.signal(signal.SIGALRM, signal.SIG_DFL)
             signal.alarm(SECONDS)
             os.chdir(case.folder)
+            setattr(sys.modules["program"], "subprocess", Calls(notes))
             sys.argv = [str(TOP / case.command.script), case.command.name, *case.words]
             exec(code, {"__name__": "__main__", "__file__": sys.argv[0], "__doc__": None})  # what a script is
             os._exit(0)
@@ -101,6 +84,7 @@ def play(code: CodeType, case: Case) -> Ran:
             os.write(2, traceback.format_exc().encode())
             os._exit(1)
     _, ended, used = os.wait4(child, 0)
+    take(notes)
     status = os.waitstatus_to_exitcode(ended) if used.ru_maxrss < MOST_MEMORY else TOO_MUCH
     return Ran(status, out.read_bytes(), errors.read_bytes().decode("utf-8", "replace"))
 
@@ -136,7 +120,7 @@ def why_not_made(case: Case, ran: Ran) -> str:
         told = program(("app", case.given["chip"], str(case.folder / "out")), case.folder)
         return "" if told.status == 0 else f"no application: {told.errors}"
     if case.command.makes == "chip":
-        told = program(("chip", str(case.folder / "out")), case.folder)
+        told = program(["chip", str(case.folder / "out")], case.folder)
         return "" if told.status == 0 else f"no chip: {told.errors}"
     return ""
 
@@ -225,7 +209,7 @@ def fuzz(numbers: Sequence[int], seed: int, jobs: int, keep: Path, only: Sequenc
 
 def main() -> int:
     words = argparse.ArgumentParser(description=__doc__, formatter_class=argparse.RawDescriptionHelpFormatter)
-    for name, default in (("--count", 1_000), ("--seed", 1), ("--jobs", os.cpu_count() or 1), ("--case", None)):
+    for name, default in (("--count", 1_000), ("--first", 0), ("--seed", 1), ("--jobs", os.cpu_count() or 1), ("--case", None)):
         words.add_argument(name, type=int, default=default)
     words.add_argument("--only", action="append", default=[])
     words.add_argument("--keep", type=Path, default=Path(tempfile.gettempdir()) / "fuzz-kept")
@@ -233,7 +217,7 @@ def main() -> int:
     if PROGRAM is None:
         print("there is no built program")
         return 1
-    numbers = range(given.count) if given.case is None else [given.case]
+    numbers = range(given.first, given.first + given.count) if given.case is None else [given.case]
     found = fuzz(numbers, given.seed, given.jobs, given.keep, given.only)
     failed = len(found.failed)
     print(f"{found.tried:,} cases of seed {given.seed}, {failed:,} failed" + (f": kept in {given.keep}" if failed else ""))

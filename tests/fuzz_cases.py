@@ -5,9 +5,8 @@ A new command is a new row of COMMANDS, and where it takes words of a new kind a
 from dataclasses import dataclass, field
 from pathlib import Path
 from random import Random
-import subprocess
 
-from home import PROGRAM
+from fuzz_answers import program
 from turned import HOSTILE, WAYS, odd_path, random_design, turned
 
 EXAMPLES = Path(__file__).resolve().parent.parent / "examples"
@@ -130,20 +129,12 @@ def bases() -> list[dict[str, bytes]]:
         if app == "one":
             files["log"] = (EXAMPLES / "one.links.csv").read_bytes()
         for kind, name in (("plan", "allocate"), ("cert", "explain")):
-            files[kind] = printed(name, EXAMPLES / f"{chip}.toml", EXAMPLES / f"{app}.toml")
+            files[kind] = program([name, str(EXAMPLES / f"{chip}.toml"), str(EXAMPLES / f"{app}.toml")]).out
         if app == "camera":
             files["switches"] += b"0,record,0\n500,play,64\n"
             files["words"] += b"".join(b"cam_isp,fwd,%d,%d\n" % (cycle, cycle) for cycle in range(0, 900, 9))
         found.append(files)
     return found
-
-
-def printed(*words: str | Path) -> bytes:
-    """What the program prints."""
-    try:
-        return subprocess.run([str(PROGRAM), *words], capture_output=True, check=False, stdin=subprocess.DEVNULL).stdout
-    except OSError:
-        return b""
 
 
 def names_in(app: bytes, key: str) -> list[str]:
@@ -182,7 +173,7 @@ def put(case: Case, chance: Random, kinds: list[str], known: list[dict[str, byte
         path.write_bytes(case.files[kind])
         case.given[kind] = str(path)
     if "plan" in kinds and chance.randrange(8):
-        plan = printed("allocate", case.given["chip"], case.given["app"])
+        plan = program(["allocate", case.given["chip"], case.given["app"]]).out
         if plan:
             case.files["plan"] = plan if chance.randrange(4) else turned(plan, chance.choice(list(WAYS)), chance, texts)
             Path(case.given["plan"]).write_bytes(case.files["plan"])

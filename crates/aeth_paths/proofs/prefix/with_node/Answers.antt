@@ -1,7 +1,7 @@
 use Rattle.std.proofs.Common.{arith, subst}
 use Rattle.aeth_chip.specs.Chip.{IsNode}
 use Rattle.aeth_paths.proofs.PrefixLemmas.{bit-of}
-use Rattle.aeth_paths.proofs.search.with_node.Goals as goal
+use Rattle.aeth_paths.proofs.prefix.with_node.Goals as goal
 
 -- The router's bit is put in.
 pub returns-in-Router : goal.returns-in-Router

@@ -3,7 +3,7 @@ use Rattle.std.specs.Ordering.{is_lt}
 use Rattle.std.proofs.lemmas.Bool.{le-ltb, ltb-true}
 use Rattle.aeth_base.proofs.TestLemmas.{true_from_IsTrue}
 use Rattle.aeth_paths.proofs.OrderLemmas.{front-link, links-differ, links-same}
-use Rattle.aeth_paths.proofs.search.is_behind.Goals as goal
+use Rattle.aeth_paths.proofs.priced.is_behind.Goals as goal
 
 -- Two links differ.
 pub returns-then-link-its : goal.returns-then-link-its

@@ -2,11 +2,11 @@ use Rattle.std.proofs.Common.{◌≡◌, ◌∙◌, ◌+◌, ◌-◌, ℕ, ap, a
 use Rattle.aeth_slots.specs.Choice.{is_suitable}
 use Rattle.aeth_slots.specs.SlotSet.{Slots}
 use Rattle.aeth_paths.specs.Candidates.{gap_on, is_live}
-use Rattle.aeth_paths.specs.declared.search.Prefix.{Prefix}
-use Rattle.aeth_paths.specs.declared.search.Task.{Task}
+use Rattle.aeth_paths.specs.declared.prefix.Prefix.{Prefix}
+use Rattle.aeth_paths.specs.declared.prefix.Task.{Task}
 use Rattle.aeth_paths.specs.Walk.{IsPrefix}
 use Rattle.aeth_paths.proofs.LiveLemmas.{suitable-told, suitable-wide}
-use Rattle.aeth_paths.proofs.search.is_live.Goals as goal
+use Rattle.aeth_paths.proofs.prefix.is_live.Goals as goal
 
 -- The free starts and the gap of a list are those of its path.
 at-path : (task : Task) (prefix : Prefix) (gap : ℕ) → IsPrefix task prefix

@@ -4,7 +4,7 @@ use Rattle.std.proofs.lemmas.Bool.{OnTrue_at}
 use Rattle.aeth_base.proofs.TestLemmas.{true_from_IsTrue}
 use Rattle.aeth_chip.specs.declared.node.Link.{Link}
 use Rattle.aeth_paths.proofs.PrefixLemmas.{prefix-push}
-use Rattle.aeth_paths.proofs.search.grown.Goals as goal
+use Rattle.aeth_paths.proofs.prefix.grown.Goals as goal
 
 -- All is known of the longer list.
 pub returns-clause-prefix : goal.returns-clause-prefix

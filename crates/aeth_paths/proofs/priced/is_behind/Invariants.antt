@@ -2,7 +2,7 @@ use Rattle.std.proofs.Common.{◌≡◌, ◌++◌, List, drop, map}
 use Rattle.std.specs.Cmp.Lexicographic.{slice_cmp}
 use Rattle.std.specs.Ordering.{nat_cmp}
 use Rattle.aeth_base.specs.declared.ids.LinkId.{LinkId}
-use Rattle.aeth_paths.proofs.search.is_behind.Given as goal
+use Rattle.aeth_paths.proofs.priced.is_behind.Given as goal
 
 -- The links so far are the same, however the list goes on.
 abbrev pub invariant-loop-i : goal.invariant-loop-i

@@ -1,7 +1,7 @@
 use Rattle.std.proofs.Common.{◌≡◌, ◌∙◌, ◌≤◌, length, sym, ap, arith}
 use Rattle.std.specs.Ordering.{is_lt}
 use Rattle.aeth_paths.proofs.OrderLemmas.{before-links, links-differ, links-end, links-same}
-use Rattle.aeth_paths.proofs.search.comes_before.Goals as goal
+use Rattle.aeth_paths.proofs.priced.comes_before.Goals as goal
 
 -- Two links differ.
 pub returns-then-link-its : goal.returns-then-link-its
