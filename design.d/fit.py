@@ -9,6 +9,7 @@ import os
 from design_files import Application
 from ending import NO_WORDS, Result, Stop, printable
 from files import Files, judged, text_of
+from physical_units import PhysicalUnits
 from plan_texts import Plan, read_plan, read_queues, read_refused
 from program import Input, answer, made
 from progress import Progress
@@ -19,6 +20,7 @@ DETOURS = (0, 1, 2)
 MOST_DETOUR = 4
 PRICES = ("hops", "pressure")
 NONE_FITS = 3  # the status
+WORDS_A_FLIT = 2
 
 
 @dataclass(frozen=True)
@@ -102,12 +104,20 @@ def all_tries(files: Files, choices: Sequence[Choice]) -> list[Try]:
     return results
 
 
-def table_of(results: Iterable[Try]) -> Result:
+def measured(one: Try, units: PhysicalUnits | None) -> str:
+    """What a choice that grants everything takes and gives: with units as a rate and a time too."""
+    rate = f" {units.megabytes(WORDS_A_FLIT * one.fullest, one.choice.slots):>8}" if units else ""
+    time = f" {units.nanoseconds(one.latency):>8}" if units else ""
+    return f"{one.fullest:>7}{rate} {one.latency:>7}{time}"
+
+
+def table_of(results: Iterable[Try], units: PhysicalUnits | None) -> Result:
     """The choices as a table, and the smallest table that grants everything."""
-    lines = ["slots detour cost      granted       fullest latency\n"]
+    rate, time = ("     MB/s", "       ns") if units else ("", "")
+    lines = [f"slots detour cost      granted       fullest{rate} latency{time}\n"]
     for one in results:
         tells = one.error or (f"{one.refused} refused" if one.refused else "all")
-        rest = f"{one.fullest:>7} {one.latency:>7}" if one.fits else ""
+        rest = measured(one, units) if one.fits else ""
         choice = one.choice
         lines.append(f"{choice.slots:>5} {choice.detour:>6} {choice.price:<9} {tells:<13} {rest}".rstrip() + "\n")
     fits = [one for one in results if one.fits]
@@ -128,9 +138,11 @@ def judge(sizes: Iterable[int], detours: Iterable[int], prices: Iterable[str]) -
         raise Stop(NO_WORDS, f"a cost is {' or '.join(PRICES)}")
 
 
-def fit(chip: str, app: str, sizes: Sequence[int], detours: Sequence[int], prices: Sequence[str]) -> Result:
+def fit(
+    chip: str, app: str, sizes: Sequence[int], detours: Sequence[int], prices: Sequence[str], units: PhysicalUnits | None = None
+) -> Result:
     """The table of choices for two files; its status says whether one grants everything."""
     files = judged(chip, app)
     judge(sizes, detours, prices)
     choices = [Choice(slots, detour, price) for slots, detour, price in product(sizes, detours, prices)]
-    return table_of(all_tries(files, list(dict.fromkeys(choices))))
+    return table_of(all_tries(files, list(dict.fromkeys(choices))), units)

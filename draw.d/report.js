@@ -14,7 +14,7 @@ const rows = await unpacked(document.querySelector("#rows").textContent).then(JS
 });  // of each its mark, and its cells
 const value = cell => Array.isArray(cell) ? cell[0] : cell;
 const texts = rows.map(row => row.slice(1).filter((_, at) => kinds[at] === "text").map(text => (text ?? "").toLowerCase()));
-const format = new Intl.NumberFormat("en", {maximumFractionDigits: 1}).format;
+const format = new Intl.NumberFormat("en", {maximumFractionDigits: 3}).format;
 const collator = new Intl.Collator("en", {numeric: true});
 let order = rows.map((_, at) => at), matching = order, shown = 0;
 
@@ -98,5 +98,11 @@ for (const details of document.querySelectorAll(".picture")) {
   details.addEventListener("toggle", () => { if (details.open) unpack(details); });
   if (details.open) unpack(details);
 }
+const player = document.querySelector("#play");
+player?.addEventListener("toggle", () => {
+  const stage = player.querySelector("#stage");
+  if (!player.open || stage.shadowRoot) return;
+  openPlayer(stage, false).catch(error => { stage.textContent = `This browser can't show the player: ${error.message}`; });
+});
 const asked = location.hash.length > 1 && document.getElementById(decodeURIComponent(location.hash.slice(1)));
 if (asked && asked.tagName === "DETAILS") asked.open = true;

@@ -116,6 +116,9 @@ def why_not_made(case: Case, ran: Ran) -> str:
             ElementTree.fromstring(ran.out)
         except ElementTree.ParseError as error:
             return f"no picture: {error}"
+    if case.command.makes == "app" and "chip" in case.given:
+        told = program(("app", case.given["chip"], str(case.folder / "out")), case.folder)
+        return "" if told.status == 0 else f"no application: {told.errors}"
     if case.command.makes == "chip":
         told = program(["chip", str(case.folder / "out")], case.folder)
         return "" if told.status == 0 else f"no chip: {told.errors}"

@@ -15,6 +15,7 @@ BASES = (("pair", "one"), ("pair", "two"), ("pair", "roll"), ("wide", "one"), ("
 KINDS = {
     "chip": b"", "app": b"", "plan": b"", "words": b"connection,side,cycle,value\n", "receivers": b"connection,side,cycle,pull\n",
     "switches": b"cycle,use,drain\n", "log": b"cycle,link,header,first,second\n", "cert": b"explain 1\nend\n",
+    "flows": (EXAMPLES / "camera.flows.csv").read_bytes(), "seats": (EXAMPLES / "camera.seats.csv").read_bytes(),
 }
 # The kinds of words. Those of a name in NAMES are names of the application, or made of them.
 WORDS = {
@@ -22,7 +23,9 @@ WORDS = {
     "DELAY": ("1", "4", "5"), "ROUTERS": ("r0", "r0,r1,r1"), "KIND": ("periodic", "greedy", "random"), "SEED": ("0", "7"),
     "LOAD": ("0", "1", "100", "250"), "DRAIN": ("0", "64", "1000000"), "TABLES": ("8", "4,16", "65"), "DETOURS": ("0", "0,4"),
     "COSTS": ("hops", "hops,pressure"), "SIDE": ("fwd", "back"), "PLACE": ("1", "2"), "NUMBER": ("1", "8", "9"),
-    "LIST": ("0", "0,4", "-"), "LOOKUP": ("headers", "tables"), "FOLDER": ("made", "made/below", "chip.toml", "/proc/none"),
+    "LIST": ("0", "0,4", "-"), "LOOKUP": ("headers", "tables"), "CLOCK": ("500MHz", "1 GHz", "66.6666MHz", "3Hz"), "BYTES": ("4B", "32b", "1000B", "1b"),
+    "SMOOTH": ("record,play", "play,record,play"), "DETOUR": ("0", "4"), "COST": ("hops", "pressure"), "TABLE": ("channels", "links", "switches"),
+    "FOLDER": ("made", "made/below", "chip.toml", "/proc/none"),
 }
 NAMES = {
     "USE": lambda uses, connections: uses,
@@ -30,8 +33,9 @@ NAMES = {
     "STALL": lambda uses, connections: [f"{connections[0]},fwd,5", f"{connections[0]},back,1000000"],
     "CHAIN": lambda uses, connections: [f"{connections[0]}:fwd:3,{connections[0]}:back"],
 }
-LOOSE = {"ODD", "SIZE", "SLOTS", "DELAY", "ROUTERS", "CONNECTION", "SIDE", "PLACE", "FOLDER"}  # that may be wrong for a script
+LOOSE = {"ODD", "SIZE", "SLOTS", "DELAY", "ROUTERS", "CONNECTION", "SIDE", "PLACE", "CLOCK", "FOLDER", "TABLE"}  # that may be wrong for a script
 RUN = "chip app plan words receivers switches CYCLES"
+UNITS = ("--clock CLOCK", "--clock CLOCK =--word BYTES")
 DESIGN = ("app chip app",)
 PLANNED = ("app chip app", "check chip app plan")
 
@@ -40,7 +44,7 @@ PLANNED = ("app chip app", "check chip app plan")
 class Command:
     """A command of a script. A form is its words: the kind of a file, in capitals the kind of a word, or behind `=` the word
     itself. Options are words that may follow, each with its own. `judged` are the calls of `aeth` whose refusal it passes on
-    where the case has their words. `makes` is what its text is: a picture or a chip."""
+    where the case has their words. `makes` is what its text is: a picture, a chip or an application (`app`)."""
 
     script: str
     name: str
@@ -68,7 +72,11 @@ COMMANDS = (
         "design", "switches", ("chip app CYCLES USE", "chip app CYCLES USE USE", "chip app CYCLES USE USE USE"),
         ("--plan plan", "--drain DRAIN"), PLANNED,
     ),
-    Command("design", "fit", ("chip app =--slots TABLES",), ("--detours DETOURS", "--costs COSTS")),
+    Command(
+        "design", "app", ("flows =--clock CLOCK",),
+        ("--seats seats", "--chip chip", "--word BYTES", "--smooth SMOOTH", "--detour DETOUR", "--cost COST"), ("chip chip",), "app",
+    ),
+    Command("design", "fit", ("chip app =--slots TABLES",), ("--detours DETOURS", "--costs COSTS", *UNITS)),
     Command("design", "rtl", ("chip app plan =--to FOLDER",), ("--routers LOOKUP",), PLANNED),
     Command("design", "where", (
         "=chip chip", "=app chip app", "=allocate chip app", "=check chip app plan", "=explain chip app", "=explain chip app cert",
@@ -78,11 +86,15 @@ COMMANDS = (
     ), (), ()),
     Command(
         "draw", "plan", ("chip app plan USE", "chip app plan USE", "chip app plan USE CONNECTION", "chip app plan USE CONNECTION SIDE"),
-        (), ("tables chip app plan USE",), "picture",
+        UNITS, ("tables chip app plan USE",), "picture",
     ),
-    Command("draw", "run", (RUN, RUN, f"{RUN} CONNECTION", f"{RUN} CONNECTION SIDE"), (), (f"simulate {RUN}",), "picture"),
-    Command("draw", "report", ("chip app plan", RUN), (), (*PLANNED, f"simulate {RUN}")),
-    Command("draw", "refusal", ("chip app", "chip app PLACE"), (), ("explain chip app",), "picture"),
+    Command("draw", "run", (RUN, RUN, f"{RUN} CONNECTION", f"{RUN} CONNECTION SIDE"), UNITS, (f"simulate {RUN}",), "picture"),
+    Command("draw", "report", ("chip app plan", RUN), (*UNITS, "--csv TABLE", "--json"), (*PLANNED, f"simulate {RUN}")),
+    Command(
+        "draw", "play", ("chip app plan", "chip app plan USE", RUN), UNITS,
+        ("app chip app", "tables chip app plan USE", "check chip app plan", f"simulate {RUN}"),
+    ),
+    Command("draw", "refusal", ("chip app", "chip app PLACE"), UNITS, ("explain chip app",), "picture"),
     Command("draw", "wave", (RUN,), (), (f"links {RUN}",)),
 )
 
