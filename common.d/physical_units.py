@@ -137,7 +137,7 @@ class PhysicalUnits:
     @property
     def told(self) -> str:
         """A sentence on both."""
-        return f"A cycle is {self.time(1)}, and a word has {decimal(self.word)} byte{'' if self.word == 1 else 's'}."
+        return f"A cycle is {self.time(1, up=False)}, and a word has {decimal(self.word)} byte{'' if self.word == 1 else 's'}."
 
     def nanoseconds(self, cycles: int | Fraction, up: bool = True) -> str:
         """The same time in ns, without the unit, for a column of them."""
@@ -172,7 +172,7 @@ def units_of(clock: str | None, word: str | None) -> PhysicalUnits | None:
             raise Stop(NO_WORDS, "--word needs --clock beside it, as --clock 500MHz --word 4B")
         return None
     word = PLAIN_WORD if word is None else word
-    return PhysicalUnits(part_of("--clock", clock, "clock", CLOCKS), part_of("--word", word, "size of a word", WORDS))
+    return PhysicalUnits(part_of("--clock", clock, "clock", CLOCKS), part_of("--word", word, "word size", WORDS))
 
 
 class Rest(NamedTuple):

@@ -4,6 +4,7 @@ from collections.abc import Sequence
 from dataclasses import asdict, dataclass
 from functools import cached_property
 import re
+import shlex
 
 from ending import printable, shortened
 from files import spelled
@@ -93,7 +94,7 @@ class FlowDesign:
         """The use cases that each one names as smooth: the first of a list all others."""
         smooth: dict[str, list[str]] = defaultdict(list)
         for first, *others in self.ask.smooth:
-            smooth[first] += [other for other in others if other not in smooth[first]]
+            smooth[first] += [other for other in dict.fromkeys(others) if other not in (first, *smooth[first])]
         return dict(smooth)
 
     def root(self) -> Tree:
@@ -134,7 +135,7 @@ def names_in_lines(key: str, names: Sequence[str]) -> str:
 
 def head_of(design: FlowDesign) -> str:
     """The comments of the table, how the file was made, and what a cycle and a word are."""
-    made_by = printable(shortened(" ".join(["./design", *design.ask.words]), 400))
+    made_by = printable(shortened(shlex.join(["./design", *design.ask.words]), 400))
     lines = [*design.comments, f"Made by: {made_by}", design.ask.units.told]
     return "".join(f"# {line}".rstrip() + "\n" for line in lines)
 

@@ -4,6 +4,7 @@ from collections.abc import Callable, Iterator, Sequence
 from contextlib import contextmanager
 from dataclasses import dataclass
 from fractions import Fraction
+from itertools import count, islice
 
 from application import Ask, FlowDesign, text_of
 from design_files import Application, Chip, Connection, application_of, read_chip
@@ -52,16 +53,17 @@ def judge_seats(seats: Sequence[Seat], cores: set[str], interfaces: Sequence[str
             raise RowFault(seat.line, f"these are more than {MOST_INTERFACES} interfaces")
 
 
-def judge_cores(flows: Sequence[FlowWishes]) -> None:
+def judge_cores(flows: Sequence[FlowWishes], chip: Chip | None) -> None:
     """Stops at the flow with which a core has too many connections, or with which there are too many cores."""
+    seats = MOST_AT_INTERFACE * len(chip.interfaces) if chip else MOST_CORES
     at: Counter[str] = Counter()
     for flow, _, _ in flows:
         for core in (flow.source, flow.target):
             at[core] += 1
             if at[core] > MOST_AT_CORE:
                 raise RowFault(flow.line, f"core `{core}` is an end of {MOST_AT_CORE} flows already, the most there may be")
-        if len(at) > MOST_CORES:
-            raise RowFault(flow.line, f"these are more than {MOST_CORES} cores")
+        if len(at) > seats:
+            raise RowFault(flow.line, f"these are more than {seats} cores" + (", for which the chip has seats" if chip else ""))
 
 
 def judge_smooth(ask: Ask, uses: Sequence[str]) -> None:
@@ -89,7 +91,7 @@ def rates_of(ask: Ask) -> Capacity:
     return Capacity(
         Fraction(LINK_RATE),
         lambda connection, side: Fraction(connection.wish(side).words, connection.wish(side).per),
-        lambda load: f"have {ask.units.rate(load, 1, up=True)} together, and a link has {link}",
+        lambda load: f"ask {ask.units.rate(load, 1, up=True)}, and a link has {link}",
     )
 
 
@@ -98,7 +100,7 @@ def slots_of(chip: Chip) -> Capacity:
     return Capacity(
         Fraction(chip.slots),
         lambda connection, side: Fraction(need_of(connection, side, chip.slots)),
-        lambda load: f"need {int(load)} slots together, and a link of the chip has {chip.slots}",
+        lambda load: f"need {int(load)} slots, and a link of the chip has {chip.slots}",
     )
 
 
@@ -115,7 +117,7 @@ def judge_loads(app: Application, lines: dict[str, int], capacity: Capacity) -> 
                     loads[way, place] += capacity.taken(connection, side)
                     if loads[way, place] > capacity.most:
                         tells = capacity.tells(loads[way, place])
-                        raise RowFault(lines[name], f"up to it the channels {way} {place} in use case `{use.name}` {tells}")
+                        raise RowFault(lines[name], f"with it the channels {way} {place} in use case `{use.name}` {tells}")
 
 
 def judge_paths(app: Application, lines: dict[str, int], chip: Chip, ask: Ask) -> None:
@@ -136,9 +138,9 @@ def plain_chip(app: Application) -> str:
     """A chip that has the interfaces which an application names, and as many as there may be: it is judged by this where no
     chip is given."""
     names = dict.fromkeys(core.interface for core in app.cores.values() if core.interface)
-    names.update(dict.fromkeys(f"n{number}" for number in range(MOST_INTERFACES) if len(names) < MOST_INTERFACES))
+    names.update(dict.fromkeys(f"n{number}" for number in range(MOST_INTERFACES)))
     interfaces = list(names)[:MOST_INTERFACES]
-    routers = [f"r{number}" for number in range(len(interfaces))]
+    routers = list(islice((f"r{number}" for number in count() if f"r{number}" not in names), MOST_INTERFACES))
     pairs = [pair for one, other in zip(interfaces, routers) for pair in ((one, other), (other, one))]
     links = [{"from": one, "to": other} for one, other in pairs]
     return plain_text({"version": 1, "slots": 1, "routers": routers, "nis": interfaces, "link": links})
@@ -159,7 +161,7 @@ def application(flows: str, seats: str | None, chip_name: str | None, ask: Ask) 
         table = table_in(flow_file, "flow")
         rows = all_of(table.rows, lambda row: flow_of(row, table.units))
         wishes = all_of(rows, lambda flow: wishes_of(flow, ask.units))
-        judge_cores(wishes)
+        judge_cores(wishes, chip)
     fixed: list[Seat] = []
     if seat_file:
         with within(seat_file):

@@ -5,7 +5,6 @@ from concurrent.futures import ThreadPoolExecutor
 from dataclasses import dataclass
 from itertools import product
 import os
-import sys
 
 from design_files import Application
 from ending import NO_WORDS, Result, Stop, printable
@@ -13,6 +12,7 @@ from files import Files, judged, text_of
 from physical_units import PhysicalUnits
 from plan_texts import Plan, read_plan, read_queues, read_refused
 from program import Input, answer, made
+from progress import Progress
 from shapes import MOST_SLOTS, PLAIN_SLOTS
 
 SIZES = (8, 12, 16, 24, 32, 48, 64, 96, 128)
@@ -89,22 +89,18 @@ def tried(files: Files, choice: Choice) -> Try:
 
 
 def all_tries(files: Files, choices: Sequence[Choice]) -> list[Try]:
-    """Each choice, several at once, with a line of progress on a terminal."""
+    """Each choice, several at once."""
     results: list[Try] = []
-    shows = sys.stderr is not None and sys.stderr.isatty()
+    progress = Progress("design", f"0 of {len(choices)} choices tried")
     pool = ThreadPoolExecutor(os.cpu_count() or 1)
     try:
         for result in pool.map(lambda choice: tried(files, choice), choices):
             results.append(result)
-            if shows:
-                now = f"{result.choice.slots} slots, detour {result.choice.detour}, {result.choice.price}"
-                sys.stderr.write(f"\r{len(results)} of {len(choices)}: {now}\033[K")
-                sys.stderr.flush()
+            last = f"{result.choice.slots} slots, detour {result.choice.detour}, {result.choice.price}"
+            progress.say(f"{len(results)} of {len(choices)} choices tried, the last with {last}")
     finally:
         pool.shutdown(cancel_futures=True)
-        if shows:
-            sys.stderr.write("\r\033[K")
-            sys.stderr.flush()
+        progress.end()
     return results
 
 

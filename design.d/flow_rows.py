@@ -174,6 +174,8 @@ def table_of(text: str, kind: str) -> Table:
         if len(rows) == MOST_ROWS[kind]:
             raise RowFault(line, f"these are more than {MOST_ROWS[kind]} {kind}s")
         rows.append(row_of(line, cells, columns))
+    if not rows:
+        raise RowFault(line, f"no {kind} stands below the header")
     return Table(comments_above(text), rows, dict(heads))
 
 

@@ -49,10 +49,10 @@ def rate_of(asked: Asked | None, units: PhysicalUnits) -> Rate:
     unit, as of a MB/s, or in a multiple of them."""
     if asked is None:
         return Rate(0, 1)
-    rate = at_least(units.words_per_cycle(asked.value), MOST_PER)
-    of_unit = 1 / units.words_per_cycle(RATES[asked.unit])
+    exact, of_unit = units.words_per_cycle(asked.value), 1 / units.words_per_cycle(RATES[asked.unit])
+    rate = at_least(exact, MOST_PER)
     per = lcm(rate.denominator, of_unit.numerator)
-    if of_unit.denominator > 1 or per > MOST_PER:
+    if rate != exact or of_unit.denominator > 1 or per > MOST_PER:
         per = rate.denominator
     return Rate(int(rate * per), per)
 

@@ -5,7 +5,7 @@ import re
 
 from ending import printable, shortened
 from given import Given
-from physical_units import in_rate, in_time
+from physical_units import in_time
 from places import WALKS, row_lines
 from rules import NAME, SECTIONS, keys_of, table_at
 from toml_lines import Moment, Path, TomlError, Tree
@@ -123,7 +123,7 @@ def in_physical_units(given: Given, kind: str, rule: int, path: Path) -> str:
     root = given.tree(kind)[0]
     found, per = stands(path, root), stands((*path[:-1], "per"), root)
     if kind == "app" and rule == 6:
-        return in_rate(found, per, given.units)
+        return f" ({given.units.rate(found, per)}, and a link has {given.units.rate(2, 1)})" if given.units else ""
     is_time = kind == "app" and rule == 3 and path[-1] in ("latency", "delay") and isinstance(found, int) and found >= 0
     return in_time(found, given.units) if is_time else ""
 

@@ -80,7 +80,8 @@ class Units:
         connection, units = self.given.app.connections[unit.connection], self.given.units
         if units:
             wish = connection.wish(unit.side)
-            lines.append(f"It wishes {units.rate(wish.words, wish.per)} within {units.time(wish.latency)}.")
+            asked = f"wishes {units.rate(wish.words, wish.per, up=True)}" if wish.words else "carries credits alone,"
+            lines.append(f"It {asked} within {units.time(wish.latency, up=False)}.")
         why = why_none(self.ways, self.given.app, connection, unit.side, units)
         if why is None and self.tried < MOST_TRIED and self.given.seconds < MOST_SECONDS:
             self.tried += 1

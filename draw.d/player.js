@@ -170,7 +170,7 @@ class Player {
   // Follows the word before or behind the one that is told, in the cycle in which it is offered.
   stepWord(by) {
     const session = this.session, at = this.at;
-    if (!session || !session.offers.length) return;
+    if (!session?.offers.length) return this.say(session ? "no word is offered in this session" : "no channel of a run is followed");
     const {sessions} = this.followed, place = sessions.indexOf(session);
     const word = at === null ? 0 : at + by;
     if (word >= 0 && word < session.offers.length) return this.goWord(session, word);
@@ -212,7 +212,8 @@ class Player {
 
   moment() {
     const {scene, cycle} = this, use = `use case ${scene.useAt(cycle)}`;
-    return scene.isRun ? `cycle ${grouped(cycle)} of ${grouped(scene.length)}, slot ${cycle % this.data.slots}, ${use}`
+    const time = this.data.cycle ? ` (${grouped(cycle * this.data.cycle)} ns)` : "";
+    return scene.isRun ? `cycle ${grouped(cycle)} of ${grouped(scene.length)}${time}, slot ${cycle % this.data.slots}, ${use}`
       : `slot ${cycle} of ${scene.length}, ${use}`;
   }
 

@@ -14,6 +14,7 @@ from typing import NamedTuple, TypeAlias
 
 from chip_map import ChipMap
 from design import SIDES, Design, Key
+from physical_units import NANOSECONDS
 from player_map import corners_of, draw_ground, spots_of
 from runs import Ends, Run
 from sessions import ChannelLog, Session
@@ -108,11 +109,14 @@ def grants_of(design: Design, connection: str, side: str) -> dict[str, Json]:
     for group in sorted(set(design.app.groups.values())):
         key = Key(connection, side, group)
         if key in design.promises:
-            grant, promise = design.grants[key], design.promises[key]
-            found[str(group)] = {
+            grant, promise, units = design.grants[key], design.promises[key], design.units
+            told: dict[str, Json] = {
                 "links": list(grant.links), "starts": list(grant.starts), "rate": promise.rate, "latency": promise.latency,
                 "buffer": promise.buffer,
             }
+            if units:
+                told["physical"] = [units.rate(promise.rate, design.chip.slots), units.time(promise.latency)]
+            found[str(group)] = told
     return found
 
 
@@ -131,6 +135,8 @@ def channels_of(design: Design, chip_map: ChipMap, played: Played | None) -> lis
                 "from": sender, "to": receiver, "ends": [*spots[sender], *spots[receiver]],
                 "wish": [wish.words, wish.per, wish.latency], "grants": grants,
             }
+            if design.units:
+                channel["physical"] = [design.units.rate(wish.words, wish.per, up=True), design.units.time(wish.latency, up=False)]
             if played:
                 log = logs.get((name, side))
                 channel["sessions"] = sessions_of(log, played.flits.get((name, side), Sent()))
@@ -156,6 +162,6 @@ def player_data(design: Design, chip_map: ChipMap, uses: Sequence[str], played: 
         "corners": [list(corner) for corner in corners_of(chip_map)],
         "uses": [{"name": use, "group": app.groups[use], "connections": numbers(use)} for use in uses],
         "channels": channels_of(design, chip_map, played), "run": run_of(played.run) if played else None,
-        "ground": draw_ground(chip_map),
+        "ground": draw_ground(chip_map), "cycle": float(design.units.seconds(1) / NANOSECONDS) if design.units else None,
     }
     return json.dumps(data, separators=(",", ":"))

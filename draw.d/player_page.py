@@ -14,7 +14,7 @@ from svg import DARK, GROUNDS, LIGHT, PLAIN, colour_rules
 
 HERE = pathlib.Path(__file__).resolve().parent
 SCRIPTS = ("player_model.js", "player_chart.js", "player_texts.js", "player.js")
-READABLE = 0.75  # of its full size: the map is never narrower than that where it is to be readable
+READABLE = 0.7  # of its full size: the map is never narrower than that where it is to be readable
 
 PAGE_STYLE = """
 :root{color-scheme:light dark;--ink:#1b1f24;--ground:#fff}

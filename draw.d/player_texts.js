@@ -3,16 +3,20 @@
 const row = (cells, properties = {}) => element("tr", properties, ...cells.map(cell => element("td", {textContent: cell})));
 const rateOf = (words, cycles) => new Intl.NumberFormat("en", {maximumFractionDigits: 1}).format(1000 * words / cycles);
 
+// A text with the same in physical units behind it, where there are some.
+const withUnits = (text, physical) => physical ? `${text}, ${physical}` : text;
+
 // The promise of a channel beside what it wished, its path, and the slots in which its flits enter the first link.
 const tellPromise = (parts, channel, grant, way, data) => {
   const [words, per, latency] = channel.wish, nodes = way.links.map(number => data.links[number][1]);
   const texts = {
     name: channel.name,
     ends: `${channel.from} \u2192 ${channel.to}`,
-    rate: `${rateOf(grant.rate, data.slots)} words in 1,000 cycles (${grant.rate} in ${data.slots})`,
-    latency: many(grant.latency, "cycle"),
+    rate: withUnits(`${rateOf(grant.rate, data.slots)} words in 1,000 cycles (${grant.rate} in ${data.slots})`, grant.physical?.[0]),
+    latency: withUnits(many(grant.latency, "cycle"), grant.physical?.[1]),
     buffer: many(grant.buffer, "word"),
-    wish: `${rateOf(words, per)} words in 1,000 cycles (${grouped(words)} in ${grouped(per)}), latency ${many(latency, "cycle")}`,
+    wish: withUnits(`${rateOf(words, per)} words in 1,000 cycles (${grouped(words)} in ${grouped(per)})`, channel.physical?.[0])
+      + `; ${withUnits(many(latency, "cycle"), channel.physical?.[1])}`,
     path: [data.links[way.links[0]][0], ...nodes].join(" \u2192 "),
     slots: grant.starts.join(" "),
   };

@@ -235,13 +235,14 @@ def summary(refusal: Refusal) -> list[str]:
 
 def fullest(refusal: Refusal) -> str:
     """Which links end most cuts and what fills them, in a sentence; an empty text where there is no cut."""
-    loads = loads_of(refusal) if refusal.is_told else {}
+    loads, slots = loads_of(refusal), refusal.chip.slots
     told = []
     for number in refusal.trial.by_cuts[:3]:
-        link = refusal.chip.links[number]
-        load = f", in use are {filled(loads.get(number), refusal.chip.slots, MOST_NAMED)}" if refusal.is_told else ""
+        link, load, more = refusal.chip.links[number], loads.get(number), ""
+        if refusal.is_told:
+            more = f", in use are {filled(load, slots, MOST_NAMED)}" if load else f", though none of its {svg.count(slots, 'slot')} is in use"
         cuts = svg.count(refusal.trial.ended[number].cuts, "cut")
-        told.append(f"link {number} ({link.source} to {link.target}) ends {cuts}{load}")
+        told.append(f"link {number} ({link.source} to {link.target}) ends {cuts}{more}")
     return "; ".join(told)
 
 

@@ -1,7 +1,7 @@
 """Owns the page of a report: one HTML text that needs nothing else.
 
-The table of channels stands in it as data, of which the page's script shows as many rows as are looked at. Pictures stand in
-it compressed, and each is unpacked when it is opened.
+The table of channels stands in it as data, of which the page's script shows as many rows as are looked at. Data and pictures
+stand in it compressed, and a picture is unpacked when it is opened.
 """
 from base64 import b64encode
 from dataclasses import dataclass
@@ -171,7 +171,7 @@ def data_of(report: Report) -> str:
     for line in report.lines:
         cells = cells_of(line) | (units_of(line, report.units) if report.units else {})
         rows.append([mark_of(line), *(cells[column] for column in columns)])
-    return json.dumps(rows, separators=(",", ":")).replace("<", "\\u003c")
+    return packed(json.dumps(rows, separators=(",", ":")))
 
 
 def heads_of(columns: list[Column]) -> str:
@@ -202,8 +202,9 @@ def tools(report: Report) -> str:
     )
 
 
-def packed(picture: Picture) -> str:
-    return b64encode(zlib.compress(picture.text.encode(), 9)).decode("ascii")
+def packed(text: str) -> str:
+    """A text as the page's script unpacks it."""
+    return b64encode(zlib.compress(text.encode(), 9)).decode("ascii")
 
 
 def figure(shown: Shown, is_open: bool) -> str:
@@ -212,7 +213,7 @@ def figure(shown: Shown, is_open: bool) -> str:
     size = f'data-width="{shown.picture.width}" data-height="{shown.picture.height}"'
     return (
         f'<details class="picture" id="{escape(shown.anchor)}"{" open" if is_open else ""}><summary>{escape(shown.name)}</summary>'
-        f'{told}<figure {size}></figure><script type="text/plain">{packed(shown.picture)}</script></details>'
+        f'{told}<figure {size}></figure><script type="text/plain">{packed(shown.picture.text)}</script></details>'
     )
 
 
@@ -255,8 +256,8 @@ def page(report: Report) -> str:
         parts += [figure(shown, len(report.pictures) <= MOST_OPEN and not at) for at, shown in enumerate(report.pictures)]
     if report.player:
         parts.append(player_section(report.player))
-    parts.append(f'<script type="application/json" id="rows">{data_of(report)}</script>')
-    parts.append(f"<script>{script}</script></body></html>\n")
+    parts.append(f'<script type="text/plain" id="rows">{data_of(report)}</script>')
+    parts.append(f'<script type="module">{script}</script></body></html>\n')
     return "\n".join(parts)
 
 

@@ -164,7 +164,7 @@ levels_by S T routers goal places levels there back row = record {
 }
 
 -- Each interface has a row: the rows have the least numbers of links.
-pub rows_least : (links : List Link) (routers places : ℕ) (origins : List (Vec ℕ Global))
+pub rows_least : (links : List Link) (routers places : ℕ) (origins : List ℕ)
     (rows : List (Vec (Option ℕ) Global)) → HasPlaces links routers places
     → AreOrigins links routers places origins → length rows + routers ≡ places
     → ((b : ℕ) (row : Vec (Option ℕ) Global) → slice_get rows b ≡ Some row

@@ -1,17 +1,19 @@
 -- Laws of the search in levels: what it has found after some rounds, and at its end.
-use Rattle.std.proofs.Common.{◌≡◌, ◌⊎◌, ◌∙◌, ◌+◌, ◌<◌, ◌≤◌, ℕ, zero, suc, List, [], ◌∷◌, Option}
-use Rattle.std.proofs.Common.{Some, None, length, get_or, slice_get, Contains, refl, sym, ap, subst}
-use Rattle.std.proofs.Common.{inl, inr, arith}
+use Rattle.std.proofs.Common.{◌≡◌, ◌⊎◌, ◌∙◌, ◌+◌, ◌<◌, ◌≤◌, ℕ, zero, suc, List, Option}
+use Rattle.std.proofs.Common.{Some, None, length, slice_get, refl, sym, ap, subst, inl, inr, arith}
 use Rattle.std.specs.Prelude.{replicate}
 use Rattle.std.proofs.lemmas.List.{length-replicate}
 use Rattle.std.proofs.lemmas.Bool.{cases_eq, cases_lt}
-use Rattle.aeth_chip.specs.Levels.{AreLevels, AreRoutersOfLevel, HasLevel, HasLevelWithin}
-use Rattle.aeth_chip.specs.Levels.{ReachesGoal, SpreadsLevel, count_none}
+use Rattle.std.proofs.lemmas.Nat.Bits.{bit_at-zero}
+use Rattle.aeth_chip.specs.Levels.{AreLevels, HasBit, HasLevel, HasLevelWithin, MarksLevel}
+use Rattle.aeth_chip.specs.Levels.{ReachesGoal}
 use Rattle.aeth_chip.proofs.ReachLemmas.{PassesRouters, reaches-none, reaches-step, step-reaches}
+use Rattle.aeth_chip.proofs.SpreadLemmas.{count-less, count_none, level-cases, marks-cases}
+use Rattle.aeth_chip.proofs.SpreadLemmas.{marks-kept}
 
--- After some rounds: each place within so many steps of the goal has its level, and the frontier
--- has those to go on from.
-pub record Found (Step : ℕ → ℕ → Type 0) (routers goal places rounds : ℕ) (frontier : List ℕ)
+-- After some rounds: each place within so many steps of the goal has its level, and the frontier,
+-- a mask, has those to go on from.
+pub record Found (Step : ℕ → ℕ → Type 0) (routers goal places rounds frontier : ℕ)
     (levels : List (Option ℕ)) : Type 0 where
   pub size : length levels ≡ places
   pub reached : (place level : ℕ) → HasLevel levels place level
@@ -19,10 +21,22 @@ pub record Found (Step : ℕ → ℕ → Type 0) (routers goal places rounds : �
   pub bound : (place level : ℕ) → HasLevel levels place level → level ≤ rounds
   pub least : (place level : ℕ) → level ≤ rounds → ReachesGoal Step routers goal level place
       → HasLevelWithin levels place level
-  pub front : (place : ℕ) → Contains frontier place → PassesRouters Step routers goal rounds place
-  pub start : rounds ≡ 0 → Contains frontier goal
-  pub full : (place : ℕ) → place < routers → HasLevel levels place rounds → Contains frontier place
-  pub room : rounds + count_none levels + length frontier ≤ places + 1
+  pub front : (place : ℕ) → HasBit frontier place → PassesRouters Step routers goal rounds place
+  pub start : rounds ≡ 0 → HasBit frontier goal
+  pub full : (place : ℕ) → place < routers → HasLevel levels place rounds → HasBit frontier place
+  pub room : (place : ℕ) → HasBit frontier place → rounds + count_none levels ≤ places
+
+-- What a round does: the fresh places, those without a level from which a link leads to the
+-- frontier, get the level of the round, and the routers among them are the next frontier.
+pub record IsRound (Step : ℕ → ℕ → Type 0) (routers rounds frontier fresh next : ℕ)
+    (old new : List (Option ℕ)) : Type 0 where
+  pub leads : (place : ℕ) → HasBit fresh place → (to : ℕ) × HasBit frontier to × Step place to
+  pub none : (place : ℕ) → HasBit fresh place → slice_get old place ≡ Some None
+  pub each : (place : ℕ) → (to : ℕ) × HasBit frontier to × Step place to
+      → slice_get old place ≡ Some None → HasBit fresh place
+  pub marks : MarksLevel fresh (suc rounds) old new
+  pub goes_on : (place : ℕ) → HasBit next place → (place < routers) × HasBit fresh place
+  pub routers_go : (place : ℕ) → place < routers → HasBit fresh place → HasBit next place
 
 -- A router that is reached may be passed.
 passes_from : (Step : ℕ → ℕ → Type 0) (routers goal steps place : ℕ) → place < routers
@@ -31,10 +45,10 @@ passes_from Step routers goal zero place router reaches = reaches-none reaches
 passes_from Step routers goal (suc steps) place router reaches = (router, reaches)
 
 -- A place a step before a router with a level has a level itself, or the router is in the frontier.
-before_router : (Step : ℕ → ℕ → Type 0) (routers goal places rounds : ℕ) (frontier : List ℕ)
+before_router : (Step : ℕ → ℕ → Type 0) (routers goal places rounds : ℕ) (frontier : ℕ)
     (levels : List (Option ℕ)) → Found Step routers goal places rounds frontier levels
     → (place next level : ℕ) → Step place next → next < routers → HasLevel levels next level
-    → HasLevelWithin levels place (suc level) ⊎ Contains frontier next
+    → HasLevelWithin levels place (suc level) ⊎ HasBit frontier next
 before_router Step routers goal places rounds frontier levels found place next level step router
     at =
     elim (cases_eq level rounds) [
@@ -52,15 +66,15 @@ within-more : (levels : List (Option ℕ)) (place less more : ℕ) → less ≤ 
 within-more levels place less more le (least, at, low) = (least, at, omega arith)
 
 -- A place some steps before the goal has a level, or one step on is a place of the frontier.
-before_frontier : (Step : ℕ → ℕ → Type 0) (routers goal places rounds : ℕ) (frontier : List ℕ)
+before_frontier : (Step : ℕ → ℕ → Type 0) (routers goal places rounds : ℕ) (frontier : ℕ)
     (levels : List (Option ℕ)) → Found Step routers goal places rounds frontier levels
     → (place steps next : ℕ) → Step place next → PassesRouters Step routers goal steps next
     → ((level : ℕ) → level ≡ steps → ReachesGoal Step routers goal level next
     → HasLevelWithin levels next level)
-    → HasLevelWithin levels place (suc steps) ⊎ Contains frontier next
+    → HasLevelWithin levels place (suc steps) ⊎ HasBit frontier next
 before_frontier Step routers goal places zero frontier levels found place zero next step passes
     within =
-    inr (subst (λ (p : ℕ). Contains frontier p) (sym passes) (found.start refl))
+    inr (subst (λ (p : ℕ). HasBit frontier p) (sym passes) (found.start refl))
 before_frontier Step routers goal places (suc rounds) frontier levels found place zero next step
     passes within =
     inl (found.least place 1 (omega arith)
@@ -76,40 +90,47 @@ before_frontier Step routers goal places rounds frontier levels found place (suc
     ]
 
 -- One more round.
-pub found-more : (Step : ℕ → ℕ → Type 0) (routers goal places rounds : ℕ)
-    (frontier next : List ℕ) (levels new : List (Option ℕ))
-    → Found Step routers goal places rounds frontier levels → 0 < length frontier
-    → SpreadsLevel (λ from. (to : ℕ) × Contains frontier to × Step from to) (suc rounds) routers
-    levels new [] next
+pub found-more : (Step : ℕ → ℕ → Type 0) (routers goal places rounds frontier fresh next : ℕ)
+    (levels new : List (Option ℕ)) → ((from to : ℕ) → Step from to → from < places)
+    → Found Step routers goal places rounds frontier levels
+    → IsRound Step routers rounds frontier fresh next levels new
     → Found Step routers goal places (suc rounds) next new
-found-more Step routers goal places rounds frontier next levels new found some spreads =
-    let lists : AreRoutersOfLevel (suc rounds) routers new next =
-    spreads.lists (λ p. (
-      (λ (k, within, at). absurd (omega arith)),
-      (λ has. let high = found.bound p (suc rounds) has.1 in absurd (omega arith)),
-    )) in
+found-more Step routers goal places rounds frontier fresh next levels new placed found round =
+    let marks = round.marks in
+    let kept = marks-kept fresh (suc rounds) levels new marks round.none in
+    let cases = marks-cases fresh (suc rounds) levels new marks in
     let reached : (place level : ℕ) → HasLevel new place level
     → ReachesGoal Step routers goal level place =
-    λ place level at. elim (spreads.fresh place level at) [
+    λ place level at. elim (cases place level at) [
       | inl was ↦ found.reached place level was
-      | inr (same, (to, has, step)) ↦
+      | inr (same, bit) ↦
+          let (to, has, step) = round.leads place bit in
           subst (λ (n : ℕ). ReachesGoal Step routers goal n place) (sym same)
           (step-reaches Step routers goal rounds place to step (found.front to has))
     ] in
     let bound : (place level : ℕ) → HasLevel new place level → level ≤ suc rounds =
-    λ place level at. elim (spreads.fresh place level at) [
+    λ place level at. elim (cases place level at) [
       | inl was ↦ let low = found.bound place level was in omega arith
-      | inr (same, (to, has, step)) ↦ omega arith
+      | inr (same, bit) ↦ omega arith
     ] in
-    let kept : (place level : ℕ) → HasLevelWithin levels place level
+    let within : (place level : ℕ) → HasLevelWithin levels place level
     → HasLevelWithin new place level =
-    λ place level (least, at, low). (least, spreads.kept place least at, low) in
+    λ place level (least, at, low). (least, kept place least at, low) in
+    let got : (place : ℕ) → (to : ℕ) × HasBit frontier to × Step place to
+    → (k : ℕ) × HasLevel new place k =
+    λ place (to, has, step).
+    let low = placed place to step in
+    let size = found.size in
+    elim (level-cases levels place (omega arith)) [
+      | inl none ↦ (suc rounds, marks.here place (round.each place (to, has, step) none))
+      | inr (k, at) ↦ (k, kept place k at)
+    ] in
     record {
-      size = spreads.size ∙ found.size;
+      size = marks.size ∙ found.size;
       reached = reached;
       bound = bound;
       least = λ place level le reaches. elim (cases_lt rounds level) [
-        | inr low ↦ kept place level (found.least place level low reaches)
+        | inr low ↦ within place level (found.least place level low reaches)
         | inl high ↦
             let same : level ≡ suc rounds = omega arith in
             let on = reaches-step Step routers goal rounds place
@@ -117,44 +138,54 @@ found-more Step routers goal places rounds frontier next levels new found some s
             elim (before_frontier Step routers goal places rounds frontier levels found place rounds
             on.0 on.1 on.2
             (λ n e. found.least on.0 n (omega arith))) [
-              | inl near ↦ kept place level
+              | inl near ↦ within place level
                   (within-more levels place (suc rounds) level (omega arith) near)
               | inr here ↦
-                  let got = spreads.all place (on.0, here, on.1) in
-                  let low = bound place got.0 got.1 in
-                  (got.0, got.1, omega arith)
+                  let (k, at) = got place (on.0, here, on.1) in
+                  let low = bound place k at in
+                  (k, at, omega arith)
             ]
       ];
       front = λ place has.
-          let at = (lists place).0 has in (at.0, reached place (suc rounds) at.1);
+          let (router, bit) = round.goes_on place has in
+          (router, reached place (suc rounds) (marks.here place bit));
       start = λ none. absurd (omega arith);
-      full = λ place router at. (lists place).1 (router, at);
-      room = let room = found.room in let count = spreads.count in omega arith;
+      full = λ place router at. elim (cases place (suc rounds) at) [
+        | inl was ↦ let high = found.bound place (suc rounds) was in absurd (omega arith)
+        | inr (same, bit) ↦ round.routers_go place router bit
+      ];
+      room = λ place has.
+          let bit = (round.goes_on place has).1 in
+          let (to, on, step) = round.leads place bit in
+          let room = found.room to on in
+          let fewer = count-less levels new place (suc rounds) marks.size kept
+          (round.none place bit) (marks.here place bit) in
+          omega arith;
     }
 
 -- With nothing left to go on from, each place that reaches the goal has its level.
 all-least : (Step : ℕ → ℕ → Type 0) (routers goal places rounds : ℕ) (levels : List (Option ℕ))
-    → Found Step routers goal places rounds [] levels → (level place : ℕ)
+    → Found Step routers goal places rounds 0 levels → (level place : ℕ)
     → ReachesGoal Step routers goal level place → HasLevelWithin levels place level
 all-least Step routers goal places rounds levels found zero place reaches = reaches-none reaches
 all-least Step routers goal places rounds levels found (suc level) place reaches =
     let (next, step, passes) = reaches-step Step routers goal level place reaches in
-    elim (before_frontier Step routers goal places rounds [] levels found place level next step
+    elim (before_frontier Step routers goal places rounds 0 levels found place level next step
     passes
     (λ n e on. subst (λ (m : ℕ). HasLevelWithin levels next m) (sym e)
     (all-least Step routers goal places rounds levels found level next
     (subst (λ (m : ℕ). ReachesGoal Step routers goal m next) e on)))) [
       | inl near ↦ near
-      | inr (k, within, at) ↦ absurd (omega arith)
+      | inr has ↦ absurd (omega (arith, has, bit_at-zero next))
     ]
 
 -- The search has ended.
-pub found-all : (Step : ℕ → ℕ → Type 0) (routers goal places rounds : ℕ) (frontier : List ℕ)
+pub found-all : (Step : ℕ → ℕ → Type 0) (routers goal places rounds : ℕ) (frontier : ℕ)
     (levels : List (Option ℕ)) → Found Step routers goal places rounds frontier levels
-    → frontier ≡ [] → AreLevels Step routers goal places levels
+    → frontier ≡ 0 → AreLevels Step routers goal places levels
 found-all Step routers goal places rounds frontier levels found none =
-    let ended = subst (λ (xs : List ℕ).
-    Found Step routers goal places rounds xs levels) none found in
+    let ended = subst (λ (set : ℕ).
+    Found Step routers goal places rounds set levels) none found in
     record {
       size = found.size;
       reached = found.reached;
@@ -172,31 +203,27 @@ count-replicate : (places : ℕ) → count_none (replicate places None) ≡ plac
 count-replicate zero = refl
 count-replicate (suc places) = ap suc (count-replicate places)
 
-goal_only : (goal place k : ℕ) → k < 1 → get_or (goal ∷ []) k place ≡ place → place ≡ goal
-goal_only goal place zero within at = sym at
-goal_only goal place (suc k) within at = absurd (omega arith)
-
 -- Before the first round, no place has a level, and the goal is to go on from.
-pub found-start : (Step : ℕ → ℕ → Type 0) (routers goal places : ℕ)
-    → Found Step routers goal places 0
-    (goal ∷ []) (replicate places None)
-found-start Step routers goal places = record {
+pub found-start : (Step : ℕ → ℕ → Type 0) (routers goal places frontier : ℕ)
+    → HasBit frontier goal → ((place : ℕ) → HasBit frontier place → place ≡ goal)
+    → Found Step routers goal places 0 frontier (replicate places None)
+found-start Step routers goal places frontier here only = record {
   size = length-replicate places None;
   reached = λ place level at. absurd (replicate-none places place level at);
   bound = λ place level at. absurd (replicate-none places place level at);
   least = λ place level low reaches.
       let none : level ≡ 0 = omega arith in
       reaches-none (subst (λ (n : ℕ). ReachesGoal Step routers goal n place) none reaches);
-  front = λ place (k, within, at). goal_only goal place k within at;
-  start = λ same. (0, omega arith, refl);
+  front = λ place has. only place has;
+  start = λ same. here;
   full = λ place router at. absurd (replicate-none places place 0 at);
-  room = let count = count-replicate places in omega arith;
+  room = λ place has. let count = count-replicate places in omega arith;
 }
 
 -- The places to go on from are the goal or routers.
-pub front-below : {Step : ℕ → ℕ → Type 0} {routers goal places rounds : ℕ} {frontier : List ℕ}
+pub front-below : {Step : ℕ → ℕ → Type 0} {routers goal places rounds frontier : ℕ}
     {levels : List (Option ℕ)} → Found Step routers goal places rounds frontier levels
-    → goal < places → routers ≤ goal → (place : ℕ) → Contains frontier place → place < places
+    → goal < places → routers ≤ goal → (place : ℕ) → HasBit frontier place → place < places
 front-below {Step} {routers} {goal} {places} {rounds} found within before place has =
     let go : (n : ℕ) → PassesRouters Step routers goal n place → place < places =
     elim [
@@ -205,29 +232,9 @@ front-below {Step} {routers} {goal} {places} {rounds} found within before place 
     ] in
     go rounds (found.front place has)
 
--- One more round, in the terms of a call.
-pub found-round : {Step : ℕ → ℕ → Type 0} {routers goal places rounds more : ℕ}
-    {frontier read start next : List ℕ} {levels seen new : List (Option ℕ)}
-    → Found Step routers goal places rounds frontier levels → (length frontier ≡ 0 → ⊥)
-    → SpreadsLevel (λ from. (to : ℕ) × Contains read to × Step from to) more routers seen new start
-    next
-    → read ≡ frontier → more ≡ rounds + 1 → seen ≡ levels → start ≡ []
-    → Found Step routers goal places more next new
-found-round {Step} {routers} {goal} {places} {rounds} {more} {frontier} {read} {start} {next}
-    {levels} {seen} {new} found some spreads reads counts sees starts =
-    let one : more ≡ suc rounds = omega arith in
-    let with_read = subst (λ (xs : List ℕ).
-    SpreadsLevel (λ from. (to : ℕ) × Contains xs to × Step from to) more routers seen new start
-    next) reads spreads in
-    let with_level = subst (λ (n : ℕ).
-    SpreadsLevel (λ from. (to : ℕ) × Contains frontier to × Step from to) n routers seen new start
-    next) one with_read in
-    let with_seen = subst (λ (ls : List (Option ℕ)).
-    SpreadsLevel (λ from. (to : ℕ) × Contains frontier to × Step from to) (suc rounds) routers ls
-    new start next) sees with_level in
-    let with_start = subst (λ (xs : List ℕ).
-    SpreadsLevel (λ from. (to : ℕ) × Contains frontier to × Step from to) (suc rounds) routers
-    levels new xs next) starts with_seen in
-    subst (λ (n : ℕ). Found Step routers goal places n next new) (sym one)
-    (found-more Step routers goal places rounds frontier next levels new found (omega arith)
-    with_start)
+-- A place without a level, of a list that has none.
+pub replicate-at : (places place : ℕ) → place < places
+    → slice_get {X = Option ℕ} (replicate places None) place ≡ Some None
+replicate-at zero place within = absurd (omega arith)
+replicate-at (suc places) zero within = refl
+replicate-at (suc places) (suc place) within = replicate-at places place (omega arith)

@@ -14,9 +14,11 @@ pub mod JoinedLaws
 mod PathLemmas
 mod RouterLemmas
 pub mod PathTestLemmas
+mod MaskLemmas
 mod SpreadLemmas
 mod ReachLemmas
 mod LevelLemmas
+mod RoundLemmas
 mod OriginLemmas
 mod WalkLemmas
 mod DistanceLemmas

@@ -36,7 +36,7 @@ pub record AreRows (links : List Link) (routers : ℕ) (rows : List (Vec (Option
   pub beyond : (r : RouterId) (b : NiId) → routers ≤ r.0 → IsOnwardDistance links r b None
 
 -- A row for each of so many interfaces: the levels before it, whose place is behind the routers'.
-abbrev pub AreLevelRows : List (Vec ℕ Global) → ℕ → ℕ → List (Vec (Option ℕ) Global) → Type 0
+abbrev pub AreLevelRows : List ℕ → ℕ → ℕ → List (Vec (Option ℕ) Global) → Type 0
 AreLevelRows origins routers count rows = HasEntries (λ b row.
     AreLevels (IsOrigin origins) routers (routers + b) (length origins) row.items) count rows
 

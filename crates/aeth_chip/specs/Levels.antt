@@ -1,16 +1,16 @@
 -- Levels of nodes before a goal, and what a search keeps of them. The nodes of a chip stand at
--- places: first the routers, then the interfaces.
+-- places: first the routers, then the interfaces. A set of places is a mask, with a bit for each.
 --   node_place, HasPlace, HasPlaces      where the nodes and the ends of links stand
 --   IsLinkStep, HasLinkStep      what a link does between places
---   items_at, IsOrigin, AreOrigins, Enters      for each place, from where links lead there
+--   HasBit, IsOrigin, AreOrigins, Enters      for each place, from where links lead there
+--   LeadsTo, IsLedFrom      from where links lead to a set
 --   ReachesGoal, AreLevels      steps to a goal, and the least numbers of them
---   HasLevel, HasLevelWithin, AreRoutersOfLevel      what a level is
---   SpreadsLevel      what giving a level to places changes
+--   HasLevel, HasLevelWithin      what a level is
+--   MarksLevel, MarksFrom      what giving a level to a set changes
 -- This project's own.
-use Rattle.std.specs.Prelude.{◌≡◌, ◌⊎◌, ◌+◌, ◌<◌, ◌≤◌, ◌++◌, ℕ, suc, List, [], ◌∷◌, Option, Some}
-use Rattle.std.specs.Prelude.{None, length, slice_get, Contains}
-use Rattle.std.specs.declared.vec.Vec.{Vec}
-use Rattle.std.specs.declared.alloc.Global.{Global}
+use Rattle.std.specs.Prelude.{◌≡◌, ◌≢◌, ◌⊎◌, ◌+◌, ◌<◌, ◌≤◌, ◌++◌, ℕ, List, [], ◌∷◌, Option, Some}
+use Rattle.std.specs.Prelude.{length, slice_get, slice_index, Contains}
+use Rattle.std.specs.Int.{bit_at}
 use Rattle.std.specs.List.{AllByRecursion}
 use Rattle.aeth_chip.specs.Joined.{IsJoined}
 use Rattle.aeth_chip.specs.declared.node.Link.{Link}
@@ -44,33 +44,39 @@ abbrev pub HasPlaces : List Link → ℕ → ℕ → Type 0
 HasPlaces links routers places = (link : Link) → Contains links link
     → HasPlace routers places link.from × HasPlace routers places link.to
 
--- What a list of lists has at a place.
-abbrev pub items_in : Option (Vec ℕ Global) → List ℕ
-items_in (Some items) = items.items
-items_in None = []
+-- The places of half a mask.
+abbrev pub half_places : ℕ
+half_places = 64
 
--- The list at a place of a list of lists.
-abbrev pub items_at : List (Vec ℕ Global) → ℕ → List ℕ
-items_at lists place = items_in (slice_get lists place)
+-- A place is in the set that is this mask.
+abbrev pub HasBit : ℕ → ℕ → Type 0
+HasBit set place = bit_at set place ≡ 1
 
--- A link was entered in lists that have, for each place, the places from which a link leads there.
-pub record Enters (routers : ℕ) (link : Link) (old new : List (Vec ℕ Global)) : Type 0 where
+-- A place is in the set of a place.
+abbrev pub IsOrigin : List ℕ → ℕ → ℕ → Type 0
+IsOrigin origins from to = HasBit (slice_index origins to) from
+
+-- A link was entered in sets that have, for each place, the places from which a link leads there.
+pub record Enters (routers : ℕ) (link : Link) (old new : List ℕ) : Type 0 where
   pub size : length new ≡ length old
-  pub only : (from to : ℕ) → Contains (items_at new to) from
-      → Contains (items_at old to) from ⊎ IsLinkStep routers link from to
-  pub kept : (from to : ℕ) → Contains (items_at old to) from → Contains (items_at new to) from
-  pub each : (from to : ℕ) → IsLinkStep routers link from to → Contains (items_at new to) from
+  pub only : (from to : ℕ) → IsOrigin new from to
+      → IsOrigin old from to ⊎ IsLinkStep routers link from to
+  pub kept : (from to : ℕ) → IsOrigin old from to → IsOrigin new from to
+  pub each : (from to : ℕ) → IsLinkStep routers link from to → IsOrigin new from to
 
--- A list for each place has a place exactly where some link leads from that to this.
-pub record AreOrigins (links : List Link) (routers places : ℕ) (origins : List (Vec ℕ Global))
-    : Type 0 where
+-- The set of each place has a place exactly where some link leads from that to this.
+pub record AreOrigins (links : List Link) (routers places : ℕ) (origins : List ℕ) : Type 0 where
   pub size : length origins ≡ places
-  pub only : (from to : ℕ) → Contains (items_at origins to) from → HasLinkStep links routers from to
-  pub each : (from to : ℕ) → HasLinkStep links routers from to → Contains (items_at origins to) from
+  pub only : (from to : ℕ) → IsOrigin origins from to → HasLinkStep links routers from to
+  pub each : (from to : ℕ) → HasLinkStep links routers from to → IsOrigin origins from to
 
--- A place is in the list of a place.
-abbrev pub IsOrigin : List (Vec ℕ Global) → ℕ → ℕ → Type 0
-IsOrigin origins from to = Contains (items_at origins to) from
+-- A link leads from the place to one of a set.
+abbrev pub LeadsTo : List ℕ → ℕ → ℕ → Type 0
+LeadsTo origins set from = (to : ℕ) × HasBit set to × IsOrigin origins from to
+
+-- The set has the place exactly where links lead from it.
+abbrev pub IsLedFrom : ℕ → ℕ → Type 0 → Type 0
+IsLedFrom set from Leads = (HasBit set from → Leads) × (Leads → HasBit set from)
 
 -- The goal lies just so many steps on from a place, at least one, and between them are routers.
 pub record ReachesGoal (Step : ℕ → ℕ → Type 0) (routers goal steps place : ℕ) : Type 0 where
@@ -96,25 +102,15 @@ pub record AreLevels (Step : ℕ → ℕ → Type 0) (routers goal places : ℕ)
   pub least : (place level : ℕ) → ReachesGoal Step routers goal level place
       → HasLevelWithin levels place level
 
--- How many places have no level.
-abbrev pub count_none : List (Option ℕ) → ℕ
-count_none [] = 0
-count_none (None ∷ levels) = suc (count_none levels)
-count_none (Some level ∷ levels) = count_none levels
-
--- The list has just the routers of a level.
-abbrev pub AreRoutersOfLevel : ℕ → ℕ → List (Option ℕ) → List ℕ → Type 0
-AreRoutersOfLevel level routers levels next = (place : ℕ)
-    → (Contains next place → (place < routers) × HasLevel levels place level)
-    × ((place < routers) × HasLevel levels place level → Contains next place)
-
--- The places with a property that had no level have got this one, and the routers among them were
--- put into a list.
-pub record SpreadsLevel (P : ℕ → Type 0) (level routers : ℕ) (old new : List (Option ℕ))
-    (before after : List ℕ) : Type 0 where
+-- The places of a set got this level, and no others.
+pub record MarksLevel (set level : ℕ) (old new : List (Option ℕ)) : Type 0 where
   pub size : length new ≡ length old
-  pub kept : (place k : ℕ) → HasLevel old place k → HasLevel new place k
-  pub fresh : (place k : ℕ) → HasLevel new place k → HasLevel old place k ⊎ ((k ≡ level) × P place)
-  pub all : (place : ℕ) → P place → (k : ℕ) × HasLevel new place k
-  pub lists : AreRoutersOfLevel level routers old before → AreRoutersOfLevel level routers new after
-  pub count : count_none new + length after ≤ count_none old + length before
+  pub here : (place : ℕ) → HasBit set place → HasLevel new place level
+  pub away : (place : ℕ) → bit_at set place ≡ 0 → slice_get new place ≡ slice_get old place
+
+-- The same of a half of a mask, whose places begin with this one.
+pub record MarksFrom (half base level : ℕ) (old new : List (Option ℕ)) : Type 0 where
+  pub size : length new ≡ length old
+  pub here : (i : ℕ) → HasBit half i → HasLevel new (base + i) level
+  pub away : (place : ℕ) → ((i : ℕ) → HasBit half i → place ≢ base + i)
+      → slice_get new place ≡ slice_get old place

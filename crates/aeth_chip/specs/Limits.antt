@@ -1,6 +1,6 @@
 -- The limits of chips. Those of slot tables and of the delays of links are aeth_base's.
 -- This project's own.
-use Rattle.std.specs.Prelude.{ℕ}
+use Rattle.std.specs.Prelude.{◌+◌, ℕ}
 
 -- In a file of version 1 a slot table has at most so many slots; in one of version 2 it may have
 -- `max_slots`.
@@ -14,6 +14,10 @@ max_routers = 64
 -- A chip has at most so many network interfaces.
 abbrev pub max_nis : ℕ
 max_nis = 64
+
+-- A chip has at most so many routers and network interfaces together.
+abbrev pub max_places : ℕ
+max_places = max_routers + max_nis
 
 -- A chip has at most so many links.
 abbrev pub max_links : ℕ

@@ -1,12 +1,12 @@
 // Least numbers of links, found by levels from each interface backwards over the links.
-ghost use Rattle.std.specs.Prelude.{◌≡◌, ◌+◌, ◌^◌, ◌<◌, ◌≤◌, ℕ, IfOk, IfSome, length};
+ghost use Rattle.std.specs.Prelude.{◌≡◌, ◌+◌, ◌<◌, ◌≤◌, ℕ, IfOk, IfSome, length};
 ghost use Rattle.aeth_chip.specs.Distances.{AreLevelRows, AreRows, entry_at};
-ghost use Rattle.aeth_chip.specs.Limits.{max_nis, max_routers};
+ghost use Rattle.aeth_chip.specs.Limits.{max_nis, max_places, max_routers};
 ghost use Rattle.aeth_chip.specs.Levels.{HasPlaces, IsOrigin};
 ghost use Rattle.aeth_chip.specs.Paths.{IsDistance, IsOnwardDistance};
 
 use crate::chip::Chip;
-use crate::levels::{Room, levels_to, origins_of, room_for};
+use crate::levels::{levels_to, origins_of};
 use crate::node::Link;
 use aeth_base::{LinkId, NiId, NoMemory, RouterId};
 use std::alloc::Global;
@@ -116,7 +116,7 @@ fn levels_of(
     alloc: Global,
     routers: u32,
     nis: u32,
-    origins: &[Vec<usize>],
+    origins: &[u128],
 ) -> Result<Vec<Vec<Option<u32>>>, NoMemory>
     requires routers { routers ≤ max_routers }
     requires nis { nis ≤ max_nis }
@@ -124,10 +124,9 @@ fn levels_of(
     requires places { (from to : ℕ) → IsOrigin origins.now from to → from < length origins.now }
     ensures { IfOk result (λ rows. AreLevelRows origins.now routers nis rows.items) }
 {
-    let mut room = room_for(alloc, routers)?;
     let mut rows = Vec::with_capacity(alloc, nis as usize)?;
     for ni in 0..nis {
-        add_levels(alloc, routers, ni, origins, &mut room, &mut rows)?;
+        add_levels(alloc, routers, ni, origins, &mut rows)?;
     }
     Ok(rows)
 }
@@ -137,18 +136,17 @@ fn add_levels(
     alloc: Global,
     routers: u32,
     ni: u32,
-    origins: &[Vec<usize>],
-    room: &mut Room,
+    origins: &[u128],
     rows: &mut Vec<Vec<Option<u32>>>,
 ) -> Result<(), NoMemory>
     requires goal { routers + ni < length origins.now }
     requires places { (from to : ℕ) → IsOrigin origins.now from to → from < length origins.now }
-    requires most { length origins.now < 2 ^ 31 }
+    requires most { length origins.now ≤ max_places }
     requires rows { AreLevelRows origins.now routers ni rows.old.items }
     ensures { IfOk result (λ _. AreLevelRows origins.now routers (ni + 1) rows.new.items) }
 {
     let goal = routers as usize + ni as usize;
-    let levels = levels_to(alloc, origins, routers, goal, room)?;
+    let levels = levels_to(alloc, origins, routers, goal)?;
     rows.push(levels)?;
     Ok(())
 }

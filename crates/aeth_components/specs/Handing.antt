@@ -1,5 +1,8 @@
 -- Which channels hand words on, and which of them wait for room in their source queues.
 --
+-- Of those that wait a cycle looks at those whose interface sends or has an event. Where two channels wait at one queue,
+-- which seats and queue numbers rule out, the second stays marked as one that hands words on.
+--
 --   room_left, IsFull                the room in a source queue
 --   HasWaitingPlaces, IsWaiting      that there are marks, and the channel that waits at a place
 --   IsResting, AreHanding            what is marked of the channels of a network

@@ -1,4 +1,6 @@
--- For each queue of an interface the channel of which words may land there.
+-- For each queue of an interface the channel of which words may land there, if its receiver is still at this
+-- interface. The components don't know that no two channels share a queue. Where two did, each that receives there and
+-- has words on their way would be counted.
 --
 --   home_at, home_count        the place of a queue
 --   AreHomes                   what is noted of channels

@@ -1,4 +1,5 @@
--- Which interfaces have an entry for a slot, as marks of their numbers for each slot.
+-- Which interfaces have an entry for a slot, as marks of their numbers for each slot. The marks follow the writes, and
+-- the next cycle in which an interface sends is found by them.
 --
 --   entries_of, table_at, entry_at     the slot tables of components, and one entry
 --   marks_at, AreInjecting     the marks of those that have an entry

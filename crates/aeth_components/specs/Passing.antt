@@ -1,5 +1,11 @@
 -- What is passed on within a cycle of the flits on wires.
 --
+-- A flit is passed on as soon as it is on a wire, a cycle before it is driven, where that depends on the flit alone. In
+-- a router with a table it depends on the cycle, and on rows that may enter until then. So a second walk, in the drive,
+-- looks its flits up. Each wire is an input of one component, and no router receives on a wire twice. So the one input
+-- that passes anything on decides what is emitted. A wire to which a second flit comes carries none: the first is taken
+-- off again when all have come.
+--
 --   part_at, passed_from      the component at the end of a wire, and what it sends on of what the wire has
 --   Way, way_of      how a component passes flits on, and whether it needs to know the cycle for that
 --   forwarded_from      what is sent on of what a wire has in every cycle alike

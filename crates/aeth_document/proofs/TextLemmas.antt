@@ -1,9 +1,11 @@
 -- Sets of texts, as lists of what the texts show.
-use Rattle.std.proofs.Common.{◌≡◌, ℕ, List, [], ◌∷◌, inl, inr, map, refl}
+use Rattle.std.proofs.Common.{◌≡◌, ◌≤◌, ◌∙◌, ℕ, List, [], ◌∷◌, ◌++◌, Option, Some, None, inl, inr}
+use Rattle.std.proofs.Common.{ap, length, map, refl, take}
+use Rattle.std.specs.Prelude.{IsSome}
 use Rattle.std.specs.List.{list_any}
 use Rattle.std.specs.Str.{bytes_eq}
 use Rattle.std.proofs.lemmas.Bool.{cases_Bool}
-use Rattle.std.proofs.lemmas.List.{map-append}
+use Rattle.std.proofs.lemmas.List.{map-append, take-append-le}
 use Rattle.aeth_base.proofs.Lists.{list_any-map}
 use Rattle.indexmap.specs.IndexSet.{insert_key}
 
@@ -17,3 +19,13 @@ map-insert_key f xs x =
       | inl old ↦ rw old refl
       | inr new ↦ rw new (map-append f xs (x ∷ []))
     ])
+
+-- The texts that a list begins with are still its first after one more is looked up, and put at its end where
+-- it is new.
+pub front_kept : {X : Type 0} (found : Option X) (count : ℕ) (front seen after : List (List ℕ))
+    (text : List ℕ) → (found ≡ None → after ≡ seen ++ text ∷ []) → (IsSome found → after ≡ seen)
+    → count ≤ length seen → take count seen ≡ front → take count after ≡ front
+front_kept None count front seen after text new known within is =
+    ap (take count) (new refl) ∙ take-append-le count seen (text ∷ []) within ∙ is
+front_kept (Some x) count front seen after text new known within is =
+    ap (take count) (known refl) ∙ is

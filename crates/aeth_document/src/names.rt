@@ -1,5 +1,6 @@
 // Names in files.
-ghost use Rattle.std.specs.Prelude.{◌≡◌, ◌<◌, ◌^◌, ◌++◌, ◌∷◌, [], length, map, not, IfOk, IsSome, OnOk, None};
+ghost use Rattle.std.specs.Prelude.{◌≡◌, ◌<◌, ◌^◌, ◌++◌, ◌∷◌, [], length, map, not, take};
+ghost use Rattle.std.specs.Prelude.{IfOk, IsSome, OnErr, OnOk, None};
 ghost use Rattle.std.specs.List.{filter_map, list_any};
 ghost use Rattle.std.specs.Str.{bytes_eq};
 ghost use Rattle.aeth_base.specs.Name.{name_of};
@@ -50,12 +51,14 @@ fn add_text<'a>(seen: &mut IndexSet<&'a str>, text: &'a str) -> Result<bool, NoM
         ≡ not (list_any (bytes_eq text.now) (map (λ t. t.now) seen.old.keys))) }
     ensures keys { OnOk result (map (λ t. t.now) seen.new.keys
         ≡ insert_key bytes_eq (map (λ t. t.now) seen.old.keys) text.now) }
+    ensures err { OnErr result (map (λ t. t.now) seen.new.keys ≡ map (λ t. t.now) seen.old.keys) }
 {
     let (_, is_new) = seen.insert_full(text)?;
     Ok(is_new)
 }
 
 /// A text that is among those of a set, which then stays as it was. A new one is put at the set's end.
+/// Where memory is wanting, the set's texts stay as they were.
 pub fn repeated<'a>(seen: &mut IndexSet<&'a str>, text: &'a str) -> Result<Option<Shown>, NoMemory>
     ensures shown { IfOk result (λ shown. shown
         ≡ repeated (map (λ t. t.now) seen.old.keys) text.now) }
@@ -63,6 +66,7 @@ pub fn repeated<'a>(seen: &mut IndexSet<&'a str>, text: &'a str) -> Result<Optio
         → map (λ t. t.now) seen.new.keys ≡ map (λ t. t.now) seen.old.keys ++ text.now ∷ []) }
     ensures known { IfOk result (λ shown. IsSome shown
         → map (λ t. t.now) seen.new.keys ≡ map (λ t. t.now) seen.old.keys) }
+    ensures err { OnErr result (map (λ t. t.now) seen.new.keys ≡ map (λ t. t.now) seen.old.keys) }
 {
     if add_text(seen, text)? {
         Ok(None)
@@ -72,8 +76,8 @@ pub fn repeated<'a>(seen: &mut IndexSet<&'a str>, text: &'a str) -> Result<Optio
 }
 
 /// The walk after a check of each text, which is to differ from those of a set and from the texts
-/// before it. The texts are put at the set's end, up to the first that is broken; which texts the set then has is
-/// left open.
+/// before it. The texts are put at the set's end, up to the first that is broken. Where one is, or memory is
+/// wanting, those that the set had stand at its front still.
 pub fn repeats<'a>(
     walk: Walk,
     seen: &mut IndexSet<&'a str>,
@@ -83,6 +87,8 @@ pub fn repeats<'a>(
         ≡ walked walk (repeats (map (λ t. t.now) seen.old.keys) (texts_in texts.entry))) }
     ensures seen { IfOk result (λ after. found_by after ≡ None
         → map (λ t. t.now) seen.new.keys ≡ map (λ t. t.now) seen.old.keys ++ texts_in texts.entry) }
+    ensures front { take (length seen.old.keys) (map (λ t. t.now) seen.new.keys)
+        ≡ map (λ t. t.now) seen.old.keys }
 {
     let mut walk = walk;
     for text in texts {

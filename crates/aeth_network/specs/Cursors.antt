@@ -1,4 +1,5 @@
--- How far a network is in what it is given.
+-- How far a network is in what it is given. Beside the cursors stands a cycle before which nothing comes but words. So
+-- most busy cycles look at the words alone, and it is found anew where something else came.
 --
 --   stimuli_with, routing_with      what a network is given, and by what its routers send on
 --   AreInOrder      what is given comes in the order of cycles

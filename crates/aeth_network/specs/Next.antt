@@ -1,5 +1,11 @@
 -- The cycles in which a network does something, by what it is given and by how its channels stand.
 --
+-- Where a wire has a flit, the next is the one that comes. Else it is the first in which a word is offered, a switch's
+-- window is open, an interface sends in its slot, or a receiver takes a word that waits. Events and later sessions fall
+-- in windows. Of several rows of receivers for one cycle and channel the last counts. What receivers take is asked last,
+-- below the least of the others. Asked first, each busy cycle of a burst would walk over the receivers' rows of a whole
+-- run.
+--
 --   HasOffer, HasWindow      a word is offered in a cycle, and a switch does something
 --   pull_behind      how many words a receiver takes in a cycle at most, behind rows
 --   AsksIn, HasAsker      a channel has a word that its receiver takes

@@ -1,5 +1,6 @@
 // The records of a file in CSV, one after the other.
-ghost use Rattle.std.specs.Prelude.{◌≡◌, ◌≤◌, ◌+◌, ◌/◌, ◌∷◌, [], true, IfOk, MatchBool, length, min};
+ghost use Rattle.std.specs.Prelude.{◌≡◌, ◌≤◌, ◌+◌, ◌/◌, ◌∷◌, [], true, IfOk, MatchBool, OnErr, length, min};
+ghost use Rattle.csv.specs.Reading.{has_failed};
 ghost use Rattle.csv.specs.Records.{fields_of};
 ghost use Rattle.aeth_records.specs.Left.{IsReading, left};
 ghost use Rattle.aeth_records.specs.Limits.{short_row};
@@ -23,15 +24,17 @@ pub fn open(alloc: Global, bytes: &[u8]) -> Reader<&[u8]>
         .from_reader(alloc, bytes)
 }
 
-/// Takes the next record, and says whether there is one. `Err` where there was no memory; the reader
-/// isn't to be used behind it. The settings leave no other cause to refuse a record: any number of
-/// fields is taken, no text is asked for, and the reader underneath is of bytes in memory.
+/// Takes the next record, and says whether there is one. `Err` where there was no memory; the reader has
+/// failed then, and isn't to be used behind it, since it would say that there is no record. The settings
+/// leave no other cause to refuse a record: any number of fields is taken, no text is asked for, and the
+/// reader underneath is of bytes in memory.
 pub fn next_row(reader: &mut Reader<&[u8]>, row: &mut ByteRecord) -> Result<bool, AllocError>
     requires { IsReading reader.old }
     ensures reading { IfOk result (λ found. found ≡ true → IsReading reader.new) }
     ensures row { IfOk result (λ found.
         MatchBool found (left reader.old ≡ fields_of row.new ∷ left reader.new)
         (left reader.old ≡ [])) }
+    ensures err { OnErr result (has_failed reader.new ≡ true) }
 {
     match reader.read_byte_record(row) {
         Ok(found) => Ok(found),

@@ -8,6 +8,11 @@
 --   Owns, IsGoing      the cycles in which it has its queues, and in which it is in use
 --   IsInTables      the cycles in which tables of routers have it
 --   IsSameQueue      two sessions whose sending ends are one queue
+--
+-- Tables of routers have a session from the finish of what the switch closes, while interfaces are still written to. It
+-- is of these sessions that no two enter a wire in one slot; of those in use it follows. Each entry is one of such a
+-- session: one that is left over could send another session's flit to a second port.
+--
 -- Slot tables that are written while the network runs: after Æthereal (2005). This form of them:
 -- this project's own.
 use Rattle.std.specs.Prelude.{◌≡◌, ◌≤◌, ◌<◌, ℕ, Bool, List, Some, slice_get, ◌==◌}

@@ -2,6 +2,11 @@
 --
 --   IsStill      the next cycle leaves a network
 --   passed_over      a network behind a later cycle that left it
+--
+-- A cycle of a run is idle by its private servers, words and switches; a network is still by its wires and by what is
+-- done, offered or taken. Cycle 0 is special: the first row of switches is no switch, yet its sessions go then. So
+-- whoever passes over cycle 0 lets these go first. Rows of receivers count in no cycle, and hold from theirs on.
+--
 -- This project's own.
 use Rattle.std.specs.Prelude.{◌≡◌, ◌<◌, ◌+◌, ℕ, true, [], None, Some, All, fold, slice_get}
 use Rattle.aeth_clocked.specs.Wires.{flit_on}

@@ -5,8 +5,8 @@ use Rattle.aeth_answers.proofs.Listing.{list_text-cons}
 use Rattle.aeth_answers.proofs.text.push_slots.Goals as goal
 
 -- The first slot and those that the loop went through are the set's slots.
-pub returns : goal.returns
-returns c =
+pub returns-clause-ok : goal.returns-clause-ok
+returns-clause-ok c =
     let first = c.in-Some.first in
     let gone = c.loop-slot.yielded in
     let starts = sym c.iter-slots.ensures ∙ c.in-Some.ensures.steps in

@@ -23,7 +23,7 @@ levels_of-requires-clause-places c =
     rw (c.deref.ensures.value, c.in_ok-origins.ensures.size) below
 
 -- The rows have the least numbers of links.
-least : (links : List Link) (routers nis : ℕ) (origins read : List (Vec ℕ Global))
+least : (links : List Link) (routers nis : ℕ) (origins read : List ℕ)
     (rows : Result (Vec (Vec (Option ℕ) Global) Global) NoMemory)
     → HasPlaces links routers (routers + nis) → AreOrigins links routers (routers + nis) origins
     → read ≡ origins → IfOk rows (λ its. AreLevelRows read routers nis its.items)
@@ -31,7 +31,7 @@ least : (links : List Link) (routers nis : ℕ) (origins read : List (Vec ℕ Gl
 least links routers nis origins read (Ok rows) placed are same levels =
     let row = λ (b : ℕ) (row : Vec (Option ℕ) Global) (is : slice_get rows.items b ≡ Some row).
     subst (λ (n : ℕ). AreLevels (IsOrigin origins) routers (routers + b) n row.items) are.size
-    (subst (λ (os : List (Vec ℕ Global)). AreLevels (IsOrigin os) routers (routers + b) (length os)
+    (subst (λ (os : List ℕ). AreLevels (IsOrigin os) routers (routers + b) (length os)
     row.items) same (levels.each b row is)) in
     let size = levels.size in
     rows_least links routers (routers + nis) origins rows.items placed are (omega arith) row

@@ -22,7 +22,7 @@ pub returns : goal.returns
 returns c =
     let origins = c.args.origins.now in
     let levels = c.in_ok-levels.levels in
-    let found = c.in_ok-search.ensures in
+    let found = c.search.ensures in
     let long = levels.ok in
     let same : length c.search.new.levels ≡ length levels.items = found.size
     ∙ sym (ap length (none_yet (goal.at.returns c).In_ok-levels)

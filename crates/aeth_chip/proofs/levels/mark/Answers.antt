@@ -1,29 +1,21 @@
-use Rattle.std.proofs.Common.{refl, inl, inr}
-use Rattle.aeth_chip.proofs.SpreadLemmas.{level_missing, level_there, spreads-kept, spreads-set}
+use Rattle.std.proofs.Common.{◌+◌, arith}
+use Rattle.aeth_chip.proofs.MaskLemmas.{high-has, low-has}
+use Rattle.aeth_chip.proofs.SpreadLemmas.{marks-halves}
 use Rattle.aeth_chip.proofs.levels.mark.Goals as goal
 
--- The place has a level already.
-pub returns-then-is_some : goal.returns-then-is_some
-returns-then-is_some c =
-    let there = level_there c.args.levels.now c.args.place c.is_some.result c.requires
-    c.if-is_some.true c.is_some.ensures in
-    spreads-kept c.args.place c.args.level c.args.routers there.0 c.args.levels.now
-    c.args.next.now.items there.1
+-- The places of the halves are those of the set.
+pub mark_from-requires-clause-places : goal.mark_from-requires-clause-places
+mark_from-requires-clause-places c = λ i has.
+    let within = c.requires i (low-has c.args.set i has).1 in omega (arith, within)
 
--- A router's place.
-pub returns-in_ok-push : goal.returns-in_ok-push
-returns-in_ok-push c =
-    spreads-set c.args.place c.args.level c.args.routers c.args.levels.now c.args.next.now.items
-    c.push.new.self.items c.requires
-    (level_missing c.args.levels.now c.args.place c.is_some.result c.requires c.if-is_some.false
-    c.is_some.ensures)
-    (inl (c.if-place-routers.true, c.in_ok-push.ensures.items))
+pub mark_from-requires-2-clause-places : goal.mark_from-requires-2-clause-places
+mark_from-requires-2-clause-places c = λ i has.
+    let within = c.requires (64 + i) (high-has c.args.set i has) in
+    let size = c.mark_from.ensures.size in
+    omega (arith, within, size)
 
--- An interface's place.
-pub returns-else-place-routers : goal.returns-else-place-routers
-returns-else-place-routers c =
-    spreads-set c.args.place c.args.level c.args.routers c.args.levels.now c.args.next.now.items
-    c.args.next.now.items c.requires
-    (level_missing c.args.levels.now c.args.place c.is_some.result c.requires c.if-is_some.false
-    c.is_some.ensures)
-    (inr (c.if-place-routers.false, refl))
+-- Both halves got their level.
+pub returns : goal.returns
+returns c =
+    marks-halves c.args.set c.args.level c.args.levels.now c.mark_from.new.levels
+    c.mark_from-2.new.levels c.mark_from.ensures c.mark_from-2.ensures

@@ -1,6 +1,7 @@
-use Rattle.std.proofs.Common.{◌∙◌, ◌++◌, ◌∷◌, [], map, sym, append_assoc}
+use Rattle.std.proofs.Common.{◌∙◌, ◌++◌, ◌∷◌, [], arith, length, length-append, map, sym, append_assoc}
 use Rattle.aeth_document.specs.Arrays.{texts_in}
 use Rattle.aeth_document.specs.Walks.{repeats}
+use Rattle.aeth_document.proofs.TextLemmas.{front_kept}
 use Rattle.aeth_document.proofs.WalkLemmas.{goes_on-none, walked-append, walked-ended, walked-nil}
 use Rattle.aeth_document.proofs.names.repeats.Goals as goal
 
@@ -27,9 +28,21 @@ loop-text-preserved c =
           before.walk;
       seen = rw (set, append_assoc seen (c.in-Some.text.now ∷ []) (texts_in c.next.new.self))
           before.seen;
+      within =
+          rw (set, length-append seen (c.in-Some.text.now ∷ [])) (omega (arith, before.within));
+      front = front_kept c.in_ok-repeated.field-0 (length c.args.seen.now.keys) _ seen _ c.in-Some.text.now
+          c.in_ok-repeated.ensures.seen c.in_ok-repeated.ensures.known before.within before.front;
     }
 
 -- No text is left.
 pub returns-clause-walk : goal.returns-clause-walk
 returns-clause-walk c =
     sym (walked-nil c.loop-text.walk) ∙ rw c.in-None.ensures.steps.0 at c.loop-text.invariant.walk
+
+-- The first texts stay where the walk has stopped.
+pub returns-then-not-goes_on-clause-front : goal.returns-then-not-goes_on-clause-front
+returns-then-not-goes_on-clause-front c =
+    let seen = map (λ t. t.now) c.loop-text.seen.keys in
+    front_kept c.in_ok-repeated.field-0 (length c.args.seen.now.keys) _ seen _ c.in-Some.text.now
+    c.in_ok-repeated.ensures.seen c.in_ok-repeated.ensures.known c.loop-text.invariant.within
+    c.loop-text.invariant.front

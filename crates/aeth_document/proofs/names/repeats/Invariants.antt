@@ -1,4 +1,4 @@
-use Rattle.std.proofs.Common.{◌≡◌, ◌++◌, map}
+use Rattle.std.proofs.Common.{◌≡◌, ◌≤◌, ◌++◌, length, map, take}
 use Rattle.aeth_document.specs.Arrays.{texts_in}
 use Rattle.aeth_document.specs.Walks.{repeats, walked}
 use Rattle.aeth_document.proofs.names.repeats.Given as goal
@@ -9,4 +9,7 @@ invariant-loop-text l = record {
       ≡ walked l.fn.walk (repeats (map (λ t. t.now) l.initial.seen.keys) (texts_in l.fn.texts));
   seen : map (λ t. t.now) l.seen.keys ++ (texts_in l.text-iterator)
       ≡ map (λ t. t.now) l.initial.seen.keys ++ (texts_in l.fn.texts);
+  within : length l.initial.seen.keys ≤ length (map (λ t. t.now) l.seen.keys);
+  front : take (length l.initial.seen.keys) (map (λ t. t.now) l.seen.keys)
+      ≡ map (λ t. t.now) l.initial.seen.keys;
 }

@@ -1,8 +1,0 @@
-use Rattle.std.proofs.Common.{take}
-use Rattle.aeth_chip.specs.Levels.{AreOrigins}
-use Rattle.aeth_chip.proofs.levels.origins_of.Given as goal
-
--- The links so far have been entered.
-abbrev pub invariant-loop-link : goal.invariant-loop-link
-invariant-loop-link l =
-    AreOrigins (take l.link-index l.links) l.routers l.places l.origins.items
