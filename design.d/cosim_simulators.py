@@ -30,6 +30,13 @@ def jobs() -> str:
     return str(len(os.sched_getaffinity(0)))
 
 
+# Verilator's code is compiled once and run once, so compiling it fast counts for more. Its signals stay apart, so queues of a
+# kind share their code. Large files read the long declarations less often, and short functions are compiled in less time.
+FAST = (
+    "-fno-gate", "--output-split", "400000", "--output-split-cfuncs", "2000",
+    "-MAKEFLAGS", "OPT_FAST=-O0", "-MAKEFLAGS", "OPT_SLOW=-O0", "-MAKEFLAGS", "OPT_GLOBAL=-O0",
+)
+
 SIMULATORS = {
     "icarus": Simulator(
         "Icarus Verilog", "iverilog", ("iverilog", "vvp"),
@@ -38,7 +45,7 @@ SIMULATORS = {
     ),
     "verilator": Simulator(
         "Verilator", "verilator", ("verilator", "g++", "make"),
-        ("verilator", "--binary", "--assert", "-Wno-fatal", "-j", jobs(), "-f", "bench.f", "--top-module", "aeth_bench"),
+        ("verilator", "--binary", "--assert", "-Wno-fatal", *FAST, "-j", jobs(), "-f", "bench.f", "--top-module", "aeth_bench"),
         ("--trace", f"-D{FLAG}"),
         ("obj_dir/Vaeth_bench", "+verilator+error+limit+1000000"),
     ),

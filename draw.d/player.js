@@ -1,6 +1,7 @@
 // The controls of a player, what it tells beside its map, and its keys.
 
 const STEPS = [0.5, 1, 2, 5, 10, 20, 50, 100, 200];  // speeds, in slots or cycles a second
+const CALM = 2;  // the greatest speed at which what is followed is kept in sight
 const TELL = 120;  // milliseconds between two texts while it plays
 const WINDOW = 7;  // words of a channel that are told at a time
 const grouped = new Intl.NumberFormat("en").format;
@@ -197,6 +198,7 @@ class Player {
     if (!this.playing || now - this.told > TELL) {
       this.told = now;
       this.tell();
+      if (this.playing && this.followed && this.parts.speed.value <= CALM) this.bringNear();
     }
   }
 

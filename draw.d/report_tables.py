@@ -78,7 +78,8 @@ def switches_table(facts: Facts) -> Table[Change]:
         return app.uses[change.new].connections if change.old is None else left(change.new, change.old)
 
     def kept(change: Change) -> list[str]:
-        return [name for name in app.uses[change.new].connections if name not in opened(change)]
+        gone = frozenset(opened(change))
+        return [name for name in app.uses[change.new].connections if name not in gone]
 
     return Table([
         Column[Change]("cycle", "cycle", lambda change: change.cycle),

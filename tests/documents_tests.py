@@ -75,9 +75,10 @@ class Words(unittest.TestCase):
                 if file.is_file() and file.suffix not in (".png", ".pyc"):
                     known.update(re.findall(r"\w+", file.read_text(errors="replace")))
         for page in PAGES + CALLING + sorted(TOP.glob("crates/*/README.md")):
+            made = set(re.findall(r"> (\w+)", page.read_text()))  # by a command of the page
             for code in re.findall(r"`([^`]+)`", prose(page)):
                 for word in re.findall(r"[^\W\d]\w{2,}", code):
-                    self.assertTrue(word in known, f"{page}: {word} of {code}")
+                    self.assertTrue(word in known | made, f"{page}: {word} of {code}")
 
     def test_definitions_of_the_rules(self):
         """`crate/File`, and behind a comma a further file of it, is there and has the words that stand in brackets behind it."""
@@ -106,10 +107,14 @@ class Words(unittest.TestCase):
                     self.assertTrue(word in known, f"{crate}: {word} of {code}")
 
     def test_commands_in_lines(self):
-        """A command within a line is one that there is, and one that looks something up finds it."""
+        """A command within a line is one that there is, and one that looks something up finds it. README has each command."""
         verbs = {"./aeth": {page.name for page in (TOP / "aeth.d/help").iterdir()} | {"help"}}
         for name in ("design", "draw"):
             verbs[f"./{name}"] = set(re.findall(rf"^{name} ([a-z]+) ", sentences.docstring(TOP / name), re.M)) | {"help"}
+        told = (TOP / "README.md").read_text()
+        for script, known in verbs.items():
+            for verb in known - {"help", "aeth"}:
+                self.assertTrue(re.search(rf"(?:`|{script} ){verb}[` ]", told), f"{script} {verb}")
         for page in PAGES:
             for code in re.findall(r"`([^`]+)`", re.sub(r"\s+", " ", prose(page))):
                 script, _, rest = code.partition(" ")
