@@ -107,6 +107,8 @@ class Bash(WithText):
         self.assertEqual(self.offered("./design", "chip", ""), ["mesh", "torus", "ring", "tree"])
         self.assertEqual(self.offered("./design", "chip", "mesh", "2", "--slots", "8", ""), [])
         self.assertIn("--cosim", self.offered("./draw", "report", *"xxxxxx", "9", ""))
+        self.assertEqual(self.offered("./draw", "report", *"xxx", "--csv", ""), ["channels", "links", "switches"])
+        self.assertEqual(self.offered("./draw", "report", *"xxx", "--j"), ["--json"])
         self.assertEqual(self.offered("./draw", "report", "--csv", ""), ["channels", "links", "switches"])
 
     def test_words_of_a_refusal(self):
