@@ -19,6 +19,9 @@ BROKEN_OFF = 130  # by the user
 MOST_LETTERS = 1_000  # of a line that says why
 
 
+at_end: list[Callable[[], None]] = []  # what is done when the work is over, before anything is written
+
+
 class Stop(Exception):
     """Ends a script: with a status and a line that says why. The line is empty where `aeth` has said it."""
 
@@ -117,11 +120,20 @@ def fault_of(error: BaseException) -> str:
     ).removesuffix("; ")
 
 
+def done(work: Callable[[list[str]], Result], words: list[str]) -> Result:
+    """What the work of a script gives, with what is to be done behind it."""
+    try:
+        return work(words)
+    finally:
+        for action in at_end:
+            action()
+
+
 def ended(script: str, work: Callable[[list[str]], Result], words: list[str]) -> int:
     """Does the work of a script with its words, writes what it gives, and tells the status with which to end."""
     closed = open_streams()
     try:
-        result = work(words)
+        result = done(work, words)
         write(result.text, "what was asked for", closed)
         tell(result.errors)
         return result.status

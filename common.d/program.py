@@ -9,6 +9,7 @@ import pathlib
 import subprocess
 
 from ending import NOT_RUN, UNWRITTEN, Passed, Stop, shortened
+from progress import silence
 
 HOME = pathlib.Path(__file__).resolve().parent.parent
 AETH = HOME / "aeth"
@@ -76,7 +77,8 @@ def build() -> None:
     if os.access(HOME / "out/aeth", os.X_OK):
         return
     try:
-        status = subprocess.run([str(AETH), "slots", "1", "1", "1", "0"], stdout=subprocess.DEVNULL, check=False).returncode
+        with silence():
+            status = subprocess.run([str(AETH), "slots", "1", "1", "1", "0"], stdout=subprocess.DEVNULL, check=False).returncode
     except OSError as error:
         raise Stop(NOT_RUN, f"{AETH} can't be run: {error.strerror}") from error
     if status:

@@ -5,10 +5,11 @@ from pathlib import Path
 import tempfile
 
 from cosim_compare import MOST_CYCLES_OF_LINKS, Comparison
-from cosim_simulators import SIMULATORS, Broken, Progress, compiled, found, played
+from cosim_simulators import SIMULATORS, Broken, compiled, found, played
 from cosim_wave import write_wave
 from ending import UNWRITTEN, Result, Stop
 from program import Input, text_of
+from progress import Progress
 from rtl import make_folder
 from rtl_bench import Run, Stimuli
 from rtl_tables import read_network
@@ -51,7 +52,7 @@ def cosim(given: Namespace) -> Result:
         list(read_words(words.data, given.cycles)), list(read_receivers(receivers.data, given.cycles)),
         read_switches(switches.data, given.cycles), given.cycles,
     )
-    run, progress = Run(network, stimuli), Progress()
+    run, progress = Run(network, stimuli), Progress("design")
     with tempfile.TemporaryDirectory(prefix="aeth-cosim-") as room:
         folder = Path(room) / "hardware"
         try:

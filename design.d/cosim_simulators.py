@@ -5,9 +5,9 @@ import os
 import re
 import shutil
 import subprocess
-import sys
 
-from ending import Passed, Stop, tell
+from ending import Passed, Stop
+from progress import Progress
 
 NO_SIMULATOR = 7  # or one that failed
 MOST_TEXT = 4_000  # of a simulator that failed
@@ -65,20 +65,6 @@ class Broken:
     cycle: int
 
 
-class Progress:
-    """One line on standard error that is rewritten, where that is a terminal."""
-
-    def __init__(self) -> None:
-        self.is_terminal = sys.stderr is not None and sys.stderr.isatty()
-
-    def say(self, text: str) -> None:
-        if self.is_terminal:
-            tell(f"\r{text}\033[K")
-
-    def end(self) -> None:
-        self.say("")
-
-
 def found(name: str) -> Simulator:
     """The simulator of this name, if its programs are there."""
     simulator = SIMULATORS[name]
@@ -97,7 +83,7 @@ def failed(simulator: Simulator, does: str, text: str, status: int) -> Passed:
 
 def compiled(simulator: Simulator, folder: Path, with_wave: bool, progress: Progress) -> None:
     """Compiles the network and the bench of a folder."""
-    progress.say(f"design: {simulator.name} compiles the network")
+    progress.say(f"{simulator.name} compiles the network")
     words = [*simulator.compile, *(simulator.trace if with_wave else ())]
     ran = subprocess.run(words, cwd=folder, stdout=subprocess.PIPE, stderr=subprocess.STDOUT, check=False)
     if ran.returncode:
@@ -111,7 +97,7 @@ def told_by(line: bytes) -> str:
 
 def played(simulator: Simulator, folder: Path, first_cycle: int, progress: Progress) -> list[Broken]:
     """Runs what was compiled, and answers the promises of the modules that weren't kept."""
-    progress.say(f"design: {simulator.name} runs it")
+    progress.say(f"{simulator.name} runs it")
     words = [str(folder / simulator.run[0]) if "/" in simulator.run[0] else simulator.run[0], *simulator.run[1:]]
     text: list[str] = []
     broken: list[Broken] = []
@@ -121,7 +107,7 @@ def played(simulator: Simulator, folder: Path, first_cycle: int, progress: Progr
             for line in map(told_by, ran.stdout or ()):
                 told, promise = re.match(r"aeth_bench: (cycle|done)(.*)", line), BROKEN.search(line)
                 if told and told[1] == "cycle":
-                    progress.say(f"design: {simulator.name} runs it: cycle{told[2]}")
+                    progress.say(f"{simulator.name} runs it: cycle{told[2]}")
                 elif told:
                     done = True
                 elif promise:

@@ -5,13 +5,14 @@ from concurrent.futures import ThreadPoolExecutor
 from dataclasses import dataclass
 from itertools import product
 import os
-import sys
 
 from design_files import Application
 from ending import NO_WORDS, Result, Stop, printable
 from files import Files, judged, text_of
+from physical_units import PhysicalUnits
 from plan_texts import Plan, read_plan, read_queues, read_refused
 from program import Input, answer, made
+from progress import Progress
 from shapes import MOST_SLOTS, PLAIN_SLOTS
 
 SIZES = (8, 12, 16, 24, 32, 48, 64, 96, 128)
@@ -19,6 +20,7 @@ DETOURS = (0, 1, 2)
 MOST_DETOUR = 4
 PRICES = ("hops", "pressure")
 NONE_FITS = 3  # the status
+WORDS_A_FLIT = 2
 
 
 @dataclass(frozen=True)
@@ -87,31 +89,35 @@ def tried(files: Files, choice: Choice) -> Try:
 
 
 def all_tries(files: Files, choices: Sequence[Choice]) -> list[Try]:
-    """Each choice, several at once, with a line of progress on a terminal."""
+    """Each choice, several at once."""
     results: list[Try] = []
-    shows = sys.stderr is not None and sys.stderr.isatty()
+    progress = Progress("design", f"0 of {len(choices)} choices tried")
     pool = ThreadPoolExecutor(os.cpu_count() or 1)
     try:
         for result in pool.map(lambda choice: tried(files, choice), choices):
             results.append(result)
-            if shows:
-                now = f"{result.choice.slots} slots, detour {result.choice.detour}, {result.choice.price}"
-                sys.stderr.write(f"\r{len(results)} of {len(choices)}: {now}\033[K")
-                sys.stderr.flush()
+            last = f"{result.choice.slots} slots, detour {result.choice.detour}, {result.choice.price}"
+            progress.say(f"{len(results)} of {len(choices)} choices tried, the last with {last}")
     finally:
         pool.shutdown(cancel_futures=True)
-        if shows:
-            sys.stderr.write("\r\033[K")
-            sys.stderr.flush()
+        progress.end()
     return results
 
 
-def table_of(results: Iterable[Try]) -> Result:
+def measured(one: Try, units: PhysicalUnits | None) -> str:
+    """What a choice that grants everything takes and gives: with units as a rate and a time too."""
+    rate = f" {units.megabytes(WORDS_A_FLIT * one.fullest, one.choice.slots):>8}" if units else ""
+    time = f" {units.nanoseconds(one.latency):>8}" if units else ""
+    return f"{one.fullest:>7}{rate} {one.latency:>7}{time}"
+
+
+def table_of(results: Iterable[Try], units: PhysicalUnits | None) -> Result:
     """The choices as a table, and the smallest table that grants everything."""
-    lines = ["slots detour cost      granted       fullest latency\n"]
+    rate, time = ("     MB/s", "       ns") if units else ("", "")
+    lines = [f"slots detour cost      granted       fullest{rate} latency{time}\n"]
     for one in results:
         tells = one.error or (f"{one.refused} refused" if one.refused else "all")
-        rest = f"{one.fullest:>7} {one.latency:>7}" if one.fits else ""
+        rest = measured(one, units) if one.fits else ""
         choice = one.choice
         lines.append(f"{choice.slots:>5} {choice.detour:>6} {choice.price:<9} {tells:<13} {rest}".rstrip() + "\n")
     fits = [one for one in results if one.fits]
@@ -132,9 +138,11 @@ def judge(sizes: Iterable[int], detours: Iterable[int], prices: Iterable[str]) -
         raise Stop(NO_WORDS, f"a cost is {' or '.join(PRICES)}")
 
 
-def fit(chip: str, app: str, sizes: Sequence[int], detours: Sequence[int], prices: Sequence[str]) -> Result:
+def fit(
+    chip: str, app: str, sizes: Sequence[int], detours: Sequence[int], prices: Sequence[str], units: PhysicalUnits | None = None
+) -> Result:
     """The table of choices for two files; its status says whether one grants everything."""
     files = judged(chip, app)
     judge(sizes, detours, prices)
     choices = [Choice(slots, detour, price) for slots, detour, price in product(sizes, detours, prices)]
-    return table_of(all_tries(files, list(dict.fromkeys(choices))))
+    return table_of(all_tries(files, list(dict.fromkeys(choices))), units)

@@ -4,6 +4,7 @@ from functools import cached_property
 
 from design_files import Application, Chip, application_of, chip_of
 from ending import printable, shortened
+from physical_units import PhysicalUnits
 from plan_texts import Plan, read_plan
 from program import Input
 from toml_lines import Lines, Tree, read
@@ -20,8 +21,8 @@ def kinds_of(command: str) -> list[str]:
 class Given:
     """A command with its words, by their kinds."""
 
-    def __init__(self, words: Sequence[str]) -> None:
-        self.words = list(words)
+    def __init__(self, words: Sequence[str], units: PhysicalUnits | None = None) -> None:
+        self.words, self.units = list(words), units
         self.by_kind: dict[str, str] = {}
         self.files: dict[str, Input] = {}
         self.seconds = 0.0  # which `aeth` took to answer

@@ -4,6 +4,7 @@ from dataclasses import dataclass
 from functools import cached_property
 
 from design_files import Application, Chip, Connection
+from physical_units import PhysicalUnits, in_time
 
 MOST_LINKS = 8  # of a path
 
@@ -85,8 +86,8 @@ def place_of(core: str, interfaces: Sequence[str]) -> str:
     return f"`{core}` on {interfaces[0]}" if len(interfaces) == 1 else f"any place of `{core}`"
 
 
-def why_none(ways: Ways, app: Application, connection: Connection, side: str) -> str | None:
-    """Why no path suits a channel, whatever slots are free; none where one may."""
+def why_none(ways: Ways, app: Application, connection: Connection, side: str, units: PhysicalUnits | None = None) -> str | None:
+    """Why no path suits a channel, whatever slots are free; none where one may. Units tell cycles as a time too."""
     sender, receiver = connection.sender(side), connection.receiver(side)
     starts, ends = (interfaces_of(core, ways.chip, app) for core in (sender, receiver))
     way = f"from {place_of(sender, starts)} to {place_of(receiver, ends)}"
@@ -101,7 +102,7 @@ def why_none(ways: Ways, app: Application, connection: Connection, side: str) ->
     latency = connection.wish(side).latency
     if least.delay is not None and latency < least.delay:
         return (
-            f"It wishes a latency of {latency}, and the quickest path {way} takes {least.delay} cycles. It needs a greater "
-            "latency, or a shorter way: more slots don't help."
+            f"It wishes a latency of {latency}{in_time(latency, units)}, and the quickest path {way} takes {least.delay} "
+            f"cycles{in_time(least.delay, units)}. It needs a greater latency, or a shorter way: more slots don't help."
         )
     return None

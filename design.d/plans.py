@@ -2,7 +2,9 @@
 from collections.abc import Sequence
 
 from design_files import Application, Chip, Connection
+from given import Given
 from paths import Ways
+from physical_units import in_rate, in_time
 from plan_texts import Grant, Plan
 
 
@@ -59,19 +61,20 @@ def gap_of(starts: Sequence[int], slots: int) -> int:
     return max((after - start - 1) % slots + 1 for start, after in zip(starts, [*starts[1:], starts[0]]))
 
 
-def why_unsuitable(chip: Chip, app: Application, grant: Grant) -> str:
+def why_unsuitable(given: Given, grant: Grant) -> str:
     """Why a grant's slots don't do for its channel."""
-    connection = app.connections[grant.connection]
+    chip, connection, units = given.chip, given.app.connections[grant.connection], given.units
     wish = connection.wish(grant.side)
     need, gap = need_of(connection, grant.side, chip.slots), gap_of(grant.starts, chip.slots)
-    delay = chip.delay_of(grant.links)
+    delay, latency = chip.delay_of(grant.links), f"{wish.latency}{in_time(wish.latency, units)}"
     if len(grant.starts) < need:
-        return f"It needs {need} slots, and has {len(grant.starts)}."
+        had = len(grant.starts)
+        return f"It needs {need} slots{in_rate(2 * need, chip.slots, units)}, and has {had}{in_rate(2 * had, chip.slots, units)}."
     if wish.latency < delay:
-        return f"Its path takes {delay} cycles, more than its latency of {wish.latency}, whatever its slots are."
+        return f"Its path takes {delay} cycles{in_time(delay, units)}, more than its latency of {latency}, whatever its slots are."
     return (
-        f"The greatest gap of its slots is {gap}. A latency of {wish.latency} on a path of {delay} cycles allows one of "
-        f"{wish.latency + 1 - delay}."
+        f"The greatest gap of its slots is {gap}. A latency of {latency} on a path of {delay} cycles{in_time(delay, units)} "
+        f"allows one of {wish.latency + 1 - delay}."
     )
 
 
@@ -89,10 +92,10 @@ def where_they_meet(chip: Chip, grant: Grant, other: Grant) -> str:
     return f"Both have slot {slot} of link {number}, from {link.source} to {link.target}."
 
 
-def why_broken(rule: int, shown: Sequence[Grant], plan: Plan, chip: Chip, app: Application) -> str | None:
+def why_broken(rule: int, shown: Sequence[Grant], plan: Plan, given: Given) -> str | None:
     """What is wrong with the grants that a rule names, where more can be said than the rule says."""
     if rule == 5:
-        return why_no_path(chip, app, plan, shown[0])
+        return why_no_path(given.chip, given.app, plan, shown[0])
     if rule == 6:
-        return why_unsuitable(chip, app, shown[0])
-    return where_they_meet(chip, *shown) if rule == 7 else None
+        return why_unsuitable(given, shown[0])
+    return where_they_meet(given.chip, *shown) if rule == 7 else None

@@ -5,6 +5,7 @@ import re
 
 from ending import printable, shortened
 from given import Given
+from physical_units import in_time
 from places import WALKS, row_lines
 from rules import NAME, SECTIONS, keys_of, table_at
 from toml_lines import Moment, Path, TomlError, Tree
@@ -117,6 +118,16 @@ def fixed_on(given: Given, place: int) -> str:
     return f"{name} has " + ", ".join(core["name"] for core in given.tree("app")[0]["core"] if core.get("ni") == name)
 
 
+def in_physical_units(given: Given, kind: str, rule: int, path: Path) -> str:
+    """A latency, a delay or too high a rate of a wish in physical units, where there are some."""
+    root = given.tree(kind)[0]
+    found, per = stands(path, root), stands((*path[:-1], "per"), root)
+    if kind == "app" and rule == 6:
+        return f" ({given.units.rate(found, per)}, and a link has {given.units.rate(2, 1)})" if given.units else ""
+    is_time = kind == "app" and rule == 3 and path[-1] in ("latency", "delay") and isinstance(found, int) and found >= 0
+    return in_time(found, given.units) if is_time else ""
+
+
 def in_toml(given: Given, kind: str, rule: int, place: int, value: str) -> tuple[str, Path | None]:
     """Where a refusal of a chip or an application points, in words, and the path."""
     root = given.tree(kind)[0]
@@ -132,7 +143,7 @@ def in_toml(given: Given, kind: str, rule: int, place: int, value: str) -> tuple
     before = earlier(kind, root, at) if rule == 4 else None
     again = f", as in line {given.tree(kind)[1].get(before)}" if before else ""
     count = f", with {value} links one way" if (kind, rule) == ("chip", 6) else ""
-    return f"{where} is {shown(found)}{again}{count}", at
+    return f"{where} is {shown(found)}{again}{count}{in_physical_units(given, kind, rule, at)}", at
 
 
 def shown_lines(kind: str, data: bytes) -> list[str]:
@@ -181,7 +192,7 @@ def in_rows(given: Given, kind: str, name: str, place: int, value: str) -> list[
     if name == "Unknown":
         told[-1] += f"   (field {value})"
     if name == "Overlap":
-        told[-1] += f"   (the switch before is over in cycle {value})"
+        told[-1] += f"   (the switch before is over in cycle {value}{in_time(int(value), given.units)})"
     if name == "BadLine":
         data = given.files[kind].data
         lines = shown_lines(kind, data)

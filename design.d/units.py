@@ -5,6 +5,7 @@ from files import Files
 from fit import SIZES, Choice, all_tries
 from given import Given
 from paths import Ways, why_none
+from physical_units import in_time
 from plan_texts import RefusedUnit
 from turns import Trial
 
@@ -42,10 +43,11 @@ def why_no_slots(given: Given, refused: list[RefusedUnit], unit: RefusedUnit) ->
         delay = given.chip.delay_of(found.grant.links)
         allowed = f"one of {latency + 1 - delay}" if latency >= delay else "none"
         apart += (
-            f": along the path {','.join(map(str, found.grant.links))}, of {delay} cycles, their greatest gap is "
-            f"{found.latency + 1 - delay}, and its latency of {latency} allows {allowed}"
+            f": along the path {','.join(map(str, found.grant.links))}, of {delay} cycles{in_time(delay, given.units)}, their greatest "
+            f"gap is {found.latency + 1 - delay}, and its latency of {latency}{in_time(latency, given.units)} allows {allowed}"
         )
-    return f"{apart}. With a latency of {found.latency:,} or more it has a candidate in its turn.", True
+    suits = f"{found.latency:,}{in_time(found.latency, given.units)}"
+    return f"{apart}. With a latency of {suits} or more it has a candidate in its turn.", True
 
 
 def what_fits(given: Given) -> str:
@@ -75,7 +77,12 @@ class Units:
             f"Connection `{unit.connection}` in {group_named(self.given, unit.group)}: in turn {unit.turn} its channel {unit.side} "
             "had no admissible path with a suitable set of free slots."
         ]
-        why = why_none(self.ways, self.given.app, self.given.app.connections[unit.connection], unit.side)
+        connection, units = self.given.app.connections[unit.connection], self.given.units
+        if units:
+            wish = connection.wish(unit.side)
+            asked = f"wishes {units.rate(wish.words, wish.per, up=True)}" if wish.words else "carries credits alone,"
+            lines.append(f"It {asked} within {units.time(wish.latency)}.")
+        why = why_none(self.ways, self.given.app, connection, unit.side, units)
         if why is None and self.tried < MOST_TRIED and self.given.seconds < MOST_SECONDS:
             self.tried += 1
             why, is_apart = why_no_slots(self.given, self.refused, unit)

@@ -5,6 +5,7 @@ import time
 
 from ending import Result, Stop, fault_of, printable
 from given import Given
+from physical_units import in_time, without_units
 from places import WALKS
 from plan_texts import read_refused
 from plans import why_broken
@@ -56,7 +57,7 @@ def broken_plan(given: Given, rule: str, *numbers: str) -> list[str]:
         core = next(core for core in given.app.cores.values() if core.interface not in (None, seats.get(core.name)))
         return (shown or [f"{given.name('plan')}: it has no line `seat {core.name} {core.interface} ..`"]) + [says]
     grants = [grant for number in lines for grant in given.plan.grants if grant.line == number]
-    why = why_broken(int(rule), grants, given.plan, given.chip, given.app)
+    why = why_broken(int(rule), grants, given.plan, given)
     return shown + [says] + ([why] if why else [])
 
 
@@ -65,7 +66,7 @@ def fault(given: Given, rule: str, number: str) -> list[str]:
     shown = rows_at(given, "log", [int(number)])
     row = FlitRow(*map(int, list(records_of(given.files["log"].data))[int(number)]))
     link, slot = given.chip.links[row.link], row.cycle % given.chip.slots
-    shown += [f"Link {row.link} leads from {link.source} to {link.target}, and cycle {row.cycle} is slot {slot}."]
+    shown += [f"Link {row.link} leads from {link.source} to {link.target}, and cycle {row.cycle}{in_time(row.cycle, given.units)} is slot {slot}."]
     return shown + [f"It breaks rule {rule} of the rows of a clean log, which says: {rules_of_logs()[rule]}"]
 
 
@@ -143,7 +144,7 @@ class Telling:
 
 def where(words: Sequence[str]) -> Result:
     """Runs a command, and says what it refuses in words. Gives its status, and both texts with these words."""
-    given = Given(words)
+    given = Given(*without_units(words))
     began = time.monotonic()
     told_ = answer(*given.for_program)
     given.seconds = time.monotonic() - began

@@ -16,9 +16,6 @@ from placing import place_routers
 import svg
 
 GAP = 12  # from a router to what stands beside it
-LINES = 24  # the room of the two lines of a pair of links, between their strips
-LINE_AT = 5  # how far a line is from the middle of its pair
-APART = 10  # the lines of an interface, one from the other
 SEAT_HEIGHT = 16
 LEAST_ROOM = 120  # beside a router, for an interface with its cores
 SIGN = 9  # the size of the number of a link
@@ -38,6 +35,10 @@ def sign_of(link: Link) -> str:
 class Strip:
     """The shape of all tables of slots: rows of cells. Where colours alone don't tell the connections apart, cells are wide
     enough for their numbers."""
+
+    lines = 24  # the room of the two lines of a pair of links, between their strips
+    line_at = 5  # how far a line is from the middle of its pair
+    apart = 10  # the lines of an interface, one from the other
 
     def __init__(self, slots: int, connections: Sequence[int]) -> None:
         self.slots = slots
@@ -121,8 +122,8 @@ class ChipMap:
             self.at_router[chip.routers_by_interface[interface]].append(interface)
         self.has_delays = any(link.delay > 1 for link in chip.links)
         self.sort_links()
-        self.band = 2 * strip.breadth + LINES
-        ports = self.band + 4 * APART * max(map(len, self.at_router.values()))
+        self.band = 2 * strip.breadth + strip.lines
+        ports = self.band + 4 * strip.apart * max(map(len, self.at_router.values()))
         texts = [str(link.number) for link in chip.links] + [delay_of(link) for link in chip.links]
         below = max(svg.text_width(text, SIGN) for text in [*texts, *signs, ""])
         self.box_width = max(ports, self.corridors.edge_width(), math.ceil(2 * below))
@@ -192,22 +193,22 @@ class ChipMap:
 
     def lay_pairs(self) -> None:
         """Links between neighbours: to the right above, to the left below; downwards right, upwards left."""
-        signs = SIGN_ROW * (2 if self.has_delays else 1)
+        strip, signs = self.strip, SIGN_ROW * (2 if self.has_delays else 1)
         for (source, target), link in self.between.items():
             (x0, y0), (x1, y1) = self.middle(source), self.middle(target)
-            across = self.strip.breadth + LINES // 2
+            across = strip.breadth + strip.lines // 2
             if y0 == y1:
                 ahead = 1 if x1 > x0 else -1
-                y, half = y0 - ahead * LINE_AT, self.box_width // 2
-                top = y0 - across if ahead == 1 else y0 + LINES // 2
+                y, half = y0 - ahead * strip.line_at, self.box_width // 2
+                top = y0 - across if ahead == 1 else y0 + strip.lines // 2
                 route = line((x0 + ahead * half, y), (x1 - ahead * half, y))
                 self.lanes[link.number] = Lane(route, min(x0, x1) + half + GAP, top)
             else:
                 ahead = 1 if y1 > y0 else -1
-                x, half = x0 + ahead * LINE_AT, self.band // 2
-                left = x0 + LINES // 2 if ahead == 1 else x0 - across
+                x, half = x0 + ahead * strip.line_at, self.band // 2
+                left = x0 + strip.lines // 2 if ahead == 1 else x0 - across
                 lower = max(self.places[source][1], self.places[target][1])
-                room = abs(y1 - y0) - self.band - self.corridors.height(lower) - self.strip.length - signs
+                room = abs(y1 - y0) - self.band - self.corridors.height(lower) - strip.length - signs
                 route = line((x, y0 + ahead * half), (x, y1 - ahead * half))
                 top = min(y0, y1) + half + room // 2
                 self.lanes[link.number] = Lane(route, left, top, upright=True, sign_before=ahead == -1)
@@ -218,7 +219,7 @@ class ChipMap:
         right, bottom = left + self.box_width, top + self.band
         x, y = right + GAP, bottom + GAP
         for number, interface in enumerate(self.at_router[router]):
-            self.lay_interface(interface, x, y, right - 6 - 2 * APART * number, bottom)
+            self.lay_interface(interface, x, y, right - 6 - 2 * self.strip.apart * number, bottom)
             y += self.interface_height(interface) + GAP
         for link in self.apart[router]:
             self.lanes[link.number] = Lane(line(*self.corridors.points(link, self)), x, y + 13, apart=True)
@@ -226,16 +227,16 @@ class ChipMap:
 
     def lay_interface(self, interface: str, x: float, y: float, post: float, bottom: float) -> None:
         """The two links of an interface, from the router's lower edge to the interface's upper one."""
-        middle, end = y + self.band // 2, x + self.room + 5
+        strip, middle, end = self.strip, y + self.band // 2, x + self.room + 5
         under = y + self.band + 4
-        high, low = middle - LINE_AT, middle + LINE_AT
-        route = line((post, bottom), (post, high), (end + APART, high), (end + APART, under))
+        high, low = middle - strip.line_at, middle + strip.line_at
+        route = line((post, bottom), (post, high), (end + strip.apart, high), (end + strip.apart, under))
         self.lanes[self.to_interface[interface].number] = Lane(route, x, y)
-        route = line((end, under), (end, low), (post - APART, low), (post - APART, bottom))
-        self.lanes[self.from_interface[interface].number] = Lane(route, x, middle + LINES // 2)
+        route = line((end, under), (end, low), (post - strip.apart, low), (post - strip.apart, bottom))
+        self.lanes[self.from_interface[interface].number] = Lane(route, x, middle + strip.lines // 2)
 
     def interface_box(self, interface: str) -> Box:
         """Where an interface is."""
         lane = self.lanes[self.to_interface[interface].number]
         height = self.interface_height(interface) - self.band - 4
-        return Box(lane.left, lane.top + self.band + 4, self.room + 2 * APART, height)
+        return Box(lane.left, lane.top + self.band + 4, self.room + 2 * self.strip.apart, height)

@@ -2,7 +2,7 @@
 from collections import defaultdict
 from collections.abc import Iterable
 
-from chip_map import SIGN, SIGN_ROW, ChipMap, Lane, Strip, delay_of, sign_of
+from chip_map import SIGN, SIGN_ROW, Box, ChipMap, Lane, Strip, delay_of, sign_of
 from design import passages
 from design_files import Chip, Link
 from plan_texts import Grant
@@ -49,6 +49,15 @@ def draw_router(chip_map: ChipMap, router: str, tells: str) -> str:
     )
 
 
+def seat_boxes(chip_map: ChipMap, interface: str) -> list[Box]:
+    """Where the cores of an interface are, in the order of their seats."""
+    box, cores = chip_map.interface_box(interface), chip_map.seats.get(interface, [])
+    room = (box.width - 6) / (1 if len(cores) == 1 else 2)
+    return [
+        Box(box.left + 4 + seat % 2 * room, box.top + 18 + seat // 2 * 16, room - 2, 14) for seat in range(len(cores))
+    ]
+
+
 def draw_interface(chip_map: ChipMap, interface: str) -> str:
     box = chip_map.interface_box(interface)
     cores = chip_map.seats.get(interface, [])
@@ -57,11 +66,9 @@ def draw_interface(chip_map: ChipMap, interface: str) -> str:
         svg.tag("rect", class_="box", x=box.left, y=box.top, width=box.width, height=box.height, rx=4),
         svg.label(interface, box.left + 6, box.top + 13, "bold", box.width - 12),
     ]
-    room = (box.width - 6) / (1 if len(cores) == 1 else 2)
-    for seat, core in enumerate(cores):
-        x, y = box.left + 4 + seat % 2 * room, box.top + 18 + seat // 2 * 16
-        parts.append(svg.tag("rect", class_="core", x=x, y=y, width=room - 2, height=14, rx=3))
-        parts.append(svg.label(core, x + 4, y + 11, width=room - 8))
+    for core, seat in zip(cores, seat_boxes(chip_map, interface)):
+        parts.append(svg.tag("rect", class_="core", x=seat.left, y=seat.top, width=seat.width, height=seat.height, rx=3))
+        parts.append(svg.label(core, seat.left + 4, seat.top + 11, width=seat.width - 6))
     return svg.tag("g", *parts)
 
 

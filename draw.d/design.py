@@ -10,6 +10,7 @@ from functools import cached_property
 from typing import NamedTuple
 
 from design_files import Application, Chip, Connection, Link
+from physical_units import PhysicalUnits
 from plan_texts import Grant, Plan, read_queues
 
 SIDES = ("fwd", "back")
@@ -84,6 +85,7 @@ class Design:
     app: Application
     plan: Plan
     promises: dict[Key, Promise] = field(default_factory=dict)
+    units: PhysicalUnits | None = None  # in which rates and times are told too
 
     def channels(self, use: str) -> list[Channel]:
         """The channels of a use case, in the order of the plan."""

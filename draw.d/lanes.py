@@ -1,9 +1,10 @@
 """Owns the lane of a channel in the picture of a run: its sessions, its words, and the numbers beside it."""
 from bisect import bisect_left
-from collections.abc import Iterator
+from collections.abc import Iterable, Iterator
 from dataclasses import dataclass
 from typing import NamedTuple
 
+from physical_units import PhysicalUnits, in_time
 from sessions import ChannelLog, Session
 import svg
 from svg import MARGIN
@@ -22,10 +23,16 @@ class Amount:
     room: int
 
 
-AMOUNTS = (
-    Amount("longest", "cycles", 76), Amount("latency", "cycles", 56), Amount("late", "words", 44),
-    Amount("overdue", "words", 56), Amount("dropped", "words", 56),
-)
+def amounts_of(units: PhysicalUnits | None) -> list[Amount]:
+    """The numbers at the right of a lane; with units the longest time and the latency stand in these too."""
+    amounts = [
+        Amount("longest", "cycles", 76), Amount("latency", "cycles", 56), Amount("late", "words", 44),
+        Amount("overdue", "words", 56), Amount("dropped", "words", 56),
+    ]
+    if units:
+        amounts[1:1] = [Amount("longest", "ns", 66)]
+        amounts[3:3] = [Amount("latency", "ns", 66)]
+    return amounts
 
 
 def cross(x: float, y: float) -> str:
@@ -126,32 +133,38 @@ def guarantee(channel: ChannelLog) -> str:
     return ", ".join(map(str, channel.latencies))
 
 
-def broken_promise(channel: ChannelLog) -> str:
+def times(cycles: Iterable[int], units: PhysicalUnits) -> str:
+    """Cycles in ns, as a text."""
+    return ", ".join(map(units.nanoseconds, cycles))
+
+
+def broken_promise(channel: ChannelLog, units: PhysicalUnits | None) -> str:
     """Since when a promise has ended, since the receiver hasn't kept its delay; an empty text where it hasn't."""
     session = next((session for session in channel.sessions if session.broken is not None), None)
-    if session is None:
+    if session is None or session.broken is None:
         return ""
     return (
-        f"in cycle {session.broken:,} its receiver hadn't taken a word within its delay of "
-        f"{svg.count(session.delay, 'cycle')}, so that the promise ended there"
+        f"in cycle {session.broken:,}{in_time(session.broken, units)} its receiver hadn't taken a word within its delay of "
+        f"{svg.count(session.delay, 'cycle')}{in_time(session.delay, units)}, so that the promise ended there"
     )
 
 
-def tells_of(channel: ChannelLog) -> str:
+def tells_of(channel: ChannelLog, units: PhysicalUnits | None) -> str:
     """What a run shows of a channel, in words."""
     near = ""
     if channel.spare is not None:
         before = f"{channel.spare} before" if channel.spare >= 0 else f"{-channel.spare} after"
         near = (
-            f"; at most {svg.count(channel.longest, 'cycle')} from offer to landing; the word that came nearest to its "
+            f"; at most {svg.count(channel.longest, 'cycle')}{in_time(channel.longest, units)} from offer to landing; the word that came nearest to its "
             f"due cycle landed {before} it"
         )
-    broken = broken_promise(channel)
+    broken = broken_promise(channel, units)
+    in_ns = f" ({times(channel.latencies, units)} ns)" if units else ""
     return (
         f"{channel.name}: {svg.count(channel.offered, 'word')} offered, {channel.landed} landed, "
         f"{channel.late} of them late, {channel.overdue} overdue, {channel.dropped} dropped, {channel.outside} outside "
         f"of all sessions; {svg.count(len(channel.sessions), 'session')}; "
-        f"guaranteed latency {guarantee(channel)}{near}" + (f"; {broken}" if broken else "")
+        f"guaranteed latency {guarantee(channel)}{in_ns}{near}" + (f"; {broken}" if broken else "")
     )
 
 
@@ -161,24 +174,29 @@ def is_summed(channel: ChannelLog, scale: Timescale) -> bool:
     return (channel.landed + channel.overdue) * LEAST_WIDTH > in_use * scale.unit
 
 
-def draw_amounts(channel: ChannelLog, scale: Timescale, y: float) -> str:
+def draw_amounts(channel: ChannelLog, scale: Timescale, y: float, units: PhysicalUnits | None) -> str:
     """The numbers at the right of a lane: those of late, overdue and dropped words where there are such words. Late and
     overdue words are marked as such where a promise didn't hold, and else as those of a receiver that didn't keep its delay."""
     longest = str(channel.longest) if channel.landed else "-"
-    amounts = [longest, guarantee(channel), *(str(n or "") for n in (channel.late, channel.overdue, channel.dropped))]
-    kinds = ["", "", *2 * ["lateness " if channel.failed else "excused "], "excused "]
+    before = [longest, guarantee(channel)]
+    if units:
+        before = [longest, times([channel.longest], units) if channel.landed else "-", before[1], times(channel.latencies, units)]
+    amounts = [*before, *(str(n or "") for n in (channel.late, channel.overdue, channel.dropped))]
+    kinds = [*len(before) * [""], *2 * ["lateness " if channel.failed else "excused "], "excused "]
     parts, x = [], scale.right
-    for text, amount, kind in zip(amounts, AMOUNTS, kinds):
+    for text, amount, kind in zip(amounts, amounts_of(units), kinds):
         x += amount.room
         if text:
             parts.append(svg.label(text, x, y, f"{kind or 'less '}end", amount.room - 4))
     return "".join(parts)
 
 
-def draw_lane(channel: ChannelLog, scale: Timescale, top: float, high: float, name_width: float) -> str:
+def draw_lane(
+    channel: ChannelLog, scale: Timescale, top: float, high: float, name_width: float, units: PhysicalUnits | None
+) -> str:
     """The lane of a channel; a session is shaded, and the less so from where its promise has ended."""
     middle = top + high / 2 + 4
-    parts = [svg.title(tells_of(channel)), svg.label(channel.name, MARGIN, middle, "name", name_width)]
+    parts = [svg.title(tells_of(channel, units)), svg.label(channel.name, MARGIN, middle, "name", name_width)]
     for kind, spans in (
         ("session", [Span(s.log.go, s.promised) for s in channel.sessions if s.promised > s.log.go]),
         ("session ended", [Span(max(s.promised, s.log.go), s.end) for s in channel.sessions if s.end > s.promised]),
@@ -191,5 +209,5 @@ def draw_lane(channel: ChannelLog, scale: Timescale, top: float, high: float, na
             parts.append(svg.tag("path", class_="broken", d=f"M{x} {top}v{high}m0 {-high}h6l-6 6"))
     draw = draw_sums if is_summed(channel, scale) else draw_words
     parts += [draw(channel, scale, top, high), draw_drops(channel, scale, top + high)]
-    parts.append(draw_amounts(channel, scale, middle))
+    parts.append(draw_amounts(channel, scale, middle, units))
     return svg.tag("g", *parts, class_="lane", role="img", tabindex="0")

@@ -8,20 +8,18 @@ from dataclasses import dataclass
 import os
 import pathlib
 import re
-import subprocess
 
 from allocation import Allocation, state_of
 from design import Design, Key, Promise, promises_in, uses_for_all
 from design_files import Application, Chip, read_application, read_chip
-from ending import NO_WORDS, Passed, Stop, printable, shortened
+from ending import NO_WORDS, Stop, printable, shortened
+from physical_units import PhysicalUnits
 from plan_picture import draw_plan
-from plan_texts import Need, RefusedUnit, read_needs, read_plan, read_refused
-from program import HOME, Input, answer, lines_of, text_of
+from plan_texts import Need, read_needs, read_plan
+from program import Input, lines_of, text_of
 from progress import Progress
 from refusal_picture import Refusal, draw_refusal
 from refusals import Trial, read_trials
-from report import draw_report, refused_report
-from report_page import Verdict
 from run_picture import draw_run
 from run_texts import read_flits
 from runs import Run, RunFiles, read_run
@@ -29,7 +27,6 @@ from waveform import draw_wave
 
 MOST_CYCLES = 1_000_000
 MOST_CYCLES_OF_WAVES = 10_000
-MOST_REFUSALS = 8  # of a page, that have pictures
 
 
 @dataclass(frozen=True)
@@ -52,7 +49,7 @@ def cycles_of(word: str, most: int) -> int:
     return int(word)
 
 
-def design_of(files: DesignFiles, tables: dict[str, str] | None = None) -> Design:
+def design_of(files: DesignFiles, units: PhysicalUnits | None, tables: dict[str, str] | None = None) -> Design:
     """The design of files that `aeth` accepts, with the promises of the use cases whose tables are told, or of all channels."""
     chip, app = read_chip(files.chip.data), read_application(files.app.data)
     if tables is None:
@@ -62,7 +59,7 @@ def design_of(files: DesignFiles, tables: dict[str, str] | None = None) -> Desig
     promises: dict[Key, Promise] = {}
     for use, text in tables.items():
         promises.update(promises_in(text, app.groups[use]))
-    return Design(chip, app, read_plan(files.plan.data), promises)
+    return Design(chip, app, read_plan(files.plan.data), promises, units)
 
 
 def names_of(names: Sequence[str], chosen: Sequence[str], where: str) -> list[str]:
@@ -73,75 +70,39 @@ def names_of(names: Sequence[str], chosen: Sequence[str], where: str) -> list[st
     return found
 
 
-def plan(chip: str, app: str, plan_file: str, use: str, *chosen: str) -> str:
+def plan(chip: str, app: str, plan_file: str, use: str, *chosen: str, units: PhysicalUnits | None = None) -> str:
     """The picture of a plan in a use case."""
     files = DesignFiles(Input(chip), Input(app), Input(plan_file))
     tables = text_of("tables", *files.words, use)  # which judges all files, and the use case
-    design = design_of(files, {use: tables})
+    design = design_of(files, units, {use: tables})
     names = names_of([channel.name for channel in design.channels(use)], chosen, f"use case {use}")
     return draw_plan(design, use, names).text
 
 
-def run_of(files: DesignFiles, run_files: RunFiles, cycles: int, progress: Progress) -> tuple[Design, Run]:
+def run_of(
+    files: DesignFiles, run_files: RunFiles, cycles: int, progress: Progress, units: PhysicalUnits | None
+) -> tuple[Design, Run]:
     """A run, and its design."""
     progress.say("aeth simulates")
     given = run_files.words, run_files.receivers, run_files.switches
     log = text_of("simulate", *files.words, *given, cycles)
     progress.say("aeth tells the tables")
-    design = design_of(files)
+    design = design_of(files, units)
     progress.say("the log of the run is read")
     return design, read_run(design, run_files, cycles, log)
 
 
 def run(
-    chip: str, app: str, plan_file: str, words: str, receivers: str, switches: str, cycles: str, *chosen: str
+    chip: str, app: str, plan_file: str, words: str, receivers: str, switches: str, cycles: str, *chosen: str,
+    units: PhysicalUnits | None = None,
 ) -> str:
     """The picture of a run."""
     count, progress = cycles_of(cycles, MOST_CYCLES), Progress("draw")
     files = DesignFiles(Input(chip), Input(app), Input(plan_file))
-    _, shown = run_of(files, RunFiles(Input(words), Input(receivers), Input(switches)), count, progress)
+    _, shown = run_of(files, RunFiles(Input(words), Input(receivers), Input(switches)), count, progress, units)
     progress.end()
     names = names_of([channel.name for channel in shown.channels], chosen, "run")
     return draw_run(shown, [channel for channel in shown.channels if channel.name in names]).text
-
-
-def report(chip: str, app: str, plan_file: str, *of_run: str) -> str:
-    """The page of a plan and, where the last words name its files and cycles, of a run. A plan that `allocate` didn't
-    print, since it refused units, is told with these."""
-    with_hardware, of_run = of_run[4:] != (), of_run[:4]
-    cycles = cycles_of(of_run[3], MOST_CYCLES) if of_run else 0
-    progress, title = Progress("draw"), title_of(app)
-    files = DesignFiles(Input(chip), Input(app), Input(plan_file))
-    run_files = RunFiles(*map(Input, of_run[:3])) if of_run else None
-    if not files.plan.data and not files.plan.unread:
-        told = answer("allocate", files.chip, files.app)
-        units = read_refused(told.errors)
-        if units:
-            return report_of_refusals(title, files, units, progress)
-        if told.status:
-            raise Passed(told.status, told.errors)
-    text_of("check", *files.words)
-    if run_files is None:
-        design, shown = design_of(files), None
-    else:
-        design, shown = run_of(files, run_files, cycles, progress)
-    hardware = hardware_verdict(files, run_files, cycles, progress) if run_files and with_hardware else None
-    page = draw_report(title, design, shown, progress, hardware)
-    progress.end()
-    return page
-
-
-def hardware_verdict(files: DesignFiles, run_files: RunFiles, cycles: int, progress: Progress) -> Verdict:
-    """What `design cosim` says of the run as hardware. Where it can't say anything the script ends so, with its lines."""
-    progress.say("the hardware is made and simulated")
-    inputs = *files.words, run_files.words, run_files.receivers, run_files.switches
-    words = [str(HOME / "design"), "cosim", *(file.path for file in inputs), str(cycles)]
-    copies = [file.copy for file in inputs if file.copy is not None]
-    ran = subprocess.run(words, capture_output=True, pass_fds=copies, check=False)
-    if ran.returncode not in (0, 3):
-        raise Passed(ran.returncode, ran.stderr.decode("utf-8", "replace"))
-    line = ran.stdout.decode("ascii", "replace").partition("\n")[0]
-    return Verdict(f"Hardware: {line}.", "bad" if ran.returncode else "good")
 
 
 def title_of(path: str) -> str:
@@ -152,13 +113,16 @@ def title_of(path: str) -> str:
 class Refusals:
     """The refusals of a chip and an application, with what was granted before each turn."""
 
-    def __init__(self, files: tuple[Input, Input], wanted: range, progress: Progress) -> None:
+    def __init__(
+        self, files: tuple[Input, Input], wanted: range, progress: Progress, physical: PhysicalUnits | None
+    ) -> None:
         needs = read_needs(text_of("app", *files))
         progress.say("aeth explains the refusals")
         found = read_trials(lines_of("explain", *files), wanted)
         self.chip: Chip = read_chip(files[0].data)
         self.app: Application = read_application(files[1].data)
         self.units, self.trials = found.units, found.trials
+        self.physical = physical
         self.needs: dict[str, Need] = {need.connection: need for need in needs}
         progress.say("aeth allocates what isn't refused")
         self.allocation = Allocation(files[0], self.app, needs, self.units) if self.trials else None
@@ -169,24 +133,17 @@ class Refusals:
         unit, need = trial.unit, self.needs[trial.unit.connection]
         slots = need.fwd if unit.side == "fwd" else need.back
         state = state_of(self.app, self.allocation, unit)
-        return Refusal(self.chip, self.app, trial, len(self.units), slots, state, self.allocation.plan is not None)
+        return Refusal(
+            self.chip, self.app, trial, len(self.units), slots, state, self.allocation.plan is not None, self.physical
+        )
 
 
-def report_of_refusals(title: str, files: DesignFiles, units: Sequence[RefusedUnit], progress: Progress) -> str:
-    """The page of a design of which units are refused."""
-    found = Refusals((files.chip, files.app), range(1, MOST_REFUSALS + 1), progress)
-    shown = [found.refusal(trial) for trial in found.trials]
-    page = refused_report(title, found.chip, found.app, units, shown, progress)
-    progress.end()
-    return page
-
-
-def refusal(chip: str, app: str, number: str = "1") -> str:
+def refusal(chip: str, app: str, number: str = "1", units: PhysicalUnits | None = None) -> str:
     """The picture of a refusal."""
     if not re.fullmatch("[1-9][0-9]{0,4}", number):
         raise Stop(NO_WORDS, f"N is `{printable(shortened(number))}`, and must be 1 or more, in up to 5 digits alone")
     progress = Progress("draw")
-    found = Refusals((Input(chip), Input(app)), range(int(number), int(number) + 1), progress)
+    found = Refusals((Input(chip), Input(app)), range(int(number), int(number) + 1), progress, units)
     if not found.trials:
         raise Stop(NO_WORDS, f"`allocate` has no refusal {number} of these")
     picture = draw_refusal(found.refusal(found.trials[0]))

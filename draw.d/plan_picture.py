@@ -1,19 +1,22 @@
 """Owns the picture of a plan in one use case: the chip, the channels in its tables of slots, and a legend of channels."""
-from collections.abc import Iterable, Sequence
+from collections.abc import Callable, Iterable, Sequence
 from dataclasses import dataclass
 
 from cells import cells_of, way_of
 from chip_map import ChipMap, Strip
 import chip_parts
-from design import Channel, Design, passages, used_slots
+from design import Channel, Design, Promise, passages, used_slots
 from design_files import Link
+from physical_units import PhysicalUnits, in_rate, in_time
 import svg
 from svg import MARGIN, Part, Picture, Sentence
 
 LEAST_WIDTH = 480
+UNITS_WIDTH = 124  # of the columns of rates and latencies in physical units
 ARROW = f" {svg.ARROW} "
 ROW = 16  # the height of a line of the legend
 LEAST_ROWS = 8  # of the legend, before a further column is begun
+WORDS_A_FLIT = 2
 SWATCH = 44  # the room of a channel's colour and its number
 
 RULES = """
@@ -33,10 +36,11 @@ def rate_of(rate: int, slots: int) -> str:
 
 def tells_of(design: Design, channel: Channel) -> str:
     """What a channel is, in words."""
-    promise, slots = channel.promise, design.chip.slots
+    promise, slots, units = channel.promise, design.chip.slots, design.units
     return (
         f"{channel.name}, {channel.sender} to {channel.receiver}: {rate_of(promise.rate, slots)} words in 1,000 cycles "
-        f"({promise.rate} in {slots}), latency {svg.count(promise.latency, 'cycle')}, "
+        f"({promise.rate} in {slots}){', ' + units.rate(promise.rate, slots) if units else ''}, "
+        f"latency {svg.count(promise.latency, 'cycle')}{in_time(promise.latency, units)}, "
         f"buffer {svg.count(promise.buffer, 'word')}; by {ARROW.join(channel.nodes(design.chip.links))}, "
         f"starts in {' '.join(map(str, channel.grant.starts))}"
     )
@@ -44,22 +48,36 @@ def tells_of(design: Design, channel: Channel) -> str:
 
 @dataclass(frozen=True)
 class Column:
-    """What the legend tells of a channel in a column: its head of two lines, and the room for it."""
+    """What the legend tells of a channel in a column: its head of two lines, the room for it, and what it tells of a promise."""
 
     head: str
     unit: str
     room: int
+    tells: Callable[[Promise], str]
+
+
+def columns_of(slots: int, units: PhysicalUnits | None) -> list[Column]:
+    """The columns of the legend; with units the rate and the latency stand in these too."""
+    plain = [
+        Column("words in", "1,000 cycles", 86, lambda promise: rate_of(promise.rate, slots)),
+        Column("words in", svg.count(slots, "cycle"), 72, lambda promise: str(promise.rate)),
+        Column("latency", "cycles", 58, lambda promise: str(promise.latency)),
+        Column("buffer", "words", 52, lambda promise: str(promise.buffer)),
+    ]
+    if units is None:
+        return plain
+    megabytes, nanoseconds = units.megabytes, units.nanoseconds
+    rate = Column("rate", "MB/s", 66, lambda promise: megabytes(promise.rate, slots))
+    latency = Column("latency", "ns", 58, lambda promise: nanoseconds(promise.latency))
+    return [*plain[:2], rate, plain[2], latency, plain[3]]
 
 
 class Legend:
     """A list of channels in as many columns as there is room for."""
 
     def __init__(self, design: Design, channels: Sequence[Channel], width: float, top: float) -> None:
-        self.slots, self.numbers = design.chip.slots, design.numbers
-        self.kinds = [
-            Column("words in", "1,000 cycles", 86), Column("words in", svg.count(self.slots, "cycle"), 72),
-            Column("latency", "cycles", 58), Column("buffer", "words", 52),
-        ]
+        self.numbers = design.numbers
+        self.kinds = columns_of(design.chip.slots, design.units)
         longest = max([len("channel")] + [len(channel.name) for channel in channels])
         self.name_width = 8 + svg.text_width("n" * min(longest, 26), 11)
         self.column = SWATCH + self.name_width + sum(kind.room for kind in self.kinds) + MARGIN
@@ -84,17 +102,15 @@ class Legend:
         """The line of a channel at a place of the list, with its colour as a cell and the number of its connection."""
         column, row = divmod(place, self.rows)
         left, y = column * self.column, self.top + (row + 1) * ROW + 9
-        promise = channel.promise
         parts = [
             svg.tag("path", d=f"M{svg.number(left)} {y - 4}h14", stroke_width=12 if channel.side == "fwd" else 6),
             svg.label(str(self.numbers[channel.connection.name]), left + SWATCH - 5, y, "less end"),
             svg.label(channel.name, left + SWATCH, y, "name", self.name_width),
         ]
         x = left + SWATCH + self.name_width
-        values = (rate_of(promise.rate, self.slots), str(promise.rate), str(promise.latency), str(promise.buffer))
-        for kind, value in zip(self.kinds, values):
+        for kind in self.kinds:
             x += kind.room
-            parts.append(svg.label(value, x, y, "end"))
+            parts.append(svg.label(kind.tells(channel.promise), x, y, "end"))
         return "".join(parts)
 
 
@@ -144,18 +160,20 @@ def summary(design: Design, use: str) -> list[str]:
     used, slots = used_slots(chip, (channel.grant for channel in channels)), chip.slots
     share = round(100 * sum(used) / (slots * len(used))) if used else 0
     fullest = sorted(chip.links, key=lambda link: (-used[link.number], link.number))[:4]
-    named = [named_load(link, used[link.number]) for link in fullest if used[link.number]]
+    named = [named_load(link, used[link.number], slots, design.units) for link in fullest if used[link.number]]
     parts = [
         f"{svg.count(len(design.app.members[use]), 'connection')}, {svg.count(len(channels), 'channel')}. "
         f"{share} % of the {svg.count(slots, 'slot')} of {svg.count(len(used), 'link')} are in use."
     ]
     if named:
         parts.append(f"The fullest links, of {svg.count(slots, 'slot')}: {', '.join(named)}.")
+    if design.units:
+        parts.append(design.units.told)
     return parts
 
 
-def named_load(link: Link, used: int) -> str:
-    return f"link {link.number} ({link.source} to {link.target}) {used}"
+def named_load(link: Link, used: int, slots: int, units: PhysicalUnits | None) -> str:
+    return f"link {link.number} ({link.source} to {link.target}) {used}{in_rate(WORDS_A_FLIT * used, slots, units)}"
 
 
 def reading(chip_map: ChipMap, chosen: bool) -> str:
@@ -187,7 +205,7 @@ def draw_plan(
     """The whole picture: of all channels, or of the chosen ones, by name, with all others in grey. A bare one has neither
     its name nor sentences above it."""
     chip_map = chip_map or map_of(design)
-    width = max(chip_map.width, LEAST_WIDTH)
+    width = max(chip_map.width, LEAST_WIDTH + (UNITS_WIDTH if design.units else 0))
     channels = design.channels(use)
     shown = [channel for channel in channels if not chosen or channel.name in chosen]
     told = summary(design, use)

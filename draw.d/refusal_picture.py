@@ -10,6 +10,7 @@ from chip_map import ChipMap, Strip, sign_of
 import chip_parts
 from design import colours_of, numbers_of, passages
 from design_files import Application, Chip, Link
+from physical_units import PhysicalUnits, in_time
 from plan_picture import ARROW, LEAST_WIDTH, ROW
 from plan_texts import Grant
 from refusals import Ended, Trial
@@ -41,6 +42,7 @@ class Refusal:
     need: int  # slots
     state: State
     is_told: bool  # whether the grants before its turn are known
+    units: PhysicalUnits | None = None  # in which the latency is told too
 
     @property
     def name(self) -> str:
@@ -220,7 +222,7 @@ def summary(refusal: Refusal) -> list[str]:
     asked = (
         f"Channel {refusal.name}, from {seat_told(refusal, refusal.sender)} to {seat_told(refusal, refusal.receiver)}, in "
         f"{', '.join(refusal.uses)}. In turn {trial.unit.turn} it needed {refusal.need} of the {svg.count(slots, 'slot')} of each "
-        f"link on a path, for a latency of {svg.count(refusal.latency, 'cycle')} at most."
+        f"link on a path, for a latency of {svg.count(refusal.latency, 'cycle')}{in_time(refusal.latency, refusal.units)} at most."
     )
     if not trial.cuts:
         return [asked, "No path was left for it at all."]
@@ -233,13 +235,14 @@ def summary(refusal: Refusal) -> list[str]:
 
 def fullest(refusal: Refusal) -> str:
     """Which links end most cuts and what fills them, in a sentence; an empty text where there is no cut."""
-    loads = loads_of(refusal) if refusal.is_told else {}
+    loads, slots = loads_of(refusal), refusal.chip.slots
     told = []
     for number in refusal.trial.by_cuts[:3]:
-        link = refusal.chip.links[number]
-        load = f", in use are {filled(loads.get(number), refusal.chip.slots, MOST_NAMED)}" if refusal.is_told else ""
+        link, load, more = refusal.chip.links[number], loads.get(number), ""
+        if refusal.is_told:
+            more = f", in use are {filled(load, slots, MOST_NAMED)}" if load else f", though none of its {svg.count(slots, 'slot')} is in use"
         cuts = svg.count(refusal.trial.ended[number].cuts, "cut")
-        told.append(f"link {number} ({link.source} to {link.target}) ends {cuts}{load}")
+        told.append(f"link {number} ({link.source} to {link.target}) ends {cuts}{more}")
     return "; ".join(told)
 
 

@@ -1,13 +1,20 @@
 
-"use strict";
 const CHUNK = 60;  // rows that are shown at first, and that are added where a reader comes to the end
 const table = document.querySelector("table"), body = table.tBodies[0], heads = [...table.tHead.rows[0].cells];
 const kinds = heads.map(head => head.className), names = heads.map(head => head.querySelector("button").firstChild.data);
 const search = document.querySelector("#search"), only = document.querySelector("#only"), count = document.querySelector("#count");
-const rows = JSON.parse(document.querySelector("#rows").textContent);  // of each its mark, and its cells
+const unpacked = async text => {
+  const bytes = Uint8Array.from(atob(text), letter => letter.charCodeAt(0));
+  const stream = new Blob([bytes]).stream().pipeThrough(new DecompressionStream("deflate"));
+  return new Response(stream).text();
+};
+const rows = await unpacked(document.querySelector("#rows").textContent).then(JSON.parse).catch(error => {
+  count.textContent = `This browser can't unpack the table (${error.message}).`;
+  return [];
+});  // of each its mark, and its cells
 const value = cell => Array.isArray(cell) ? cell[0] : cell;
 const texts = rows.map(row => row.slice(1).filter((_, at) => kinds[at] === "text").map(text => (text ?? "").toLowerCase()));
-const format = new Intl.NumberFormat("en", {maximumFractionDigits: 1}).format;
+const format = new Intl.NumberFormat("en", {maximumFractionDigits: 3}).format;
 const collator = new Intl.Collator("en", {numeric: true});
 let order = rows.map((_, at) => at), matching = order, shown = 0;
 
@@ -71,11 +78,6 @@ addEventListener("beforeprint", () => {
 });
 filter();
 
-const unpacked = async text => {
-  const bytes = Uint8Array.from(atob(text), letter => letter.charCodeAt(0));
-  const stream = new Blob([bytes]).stream().pipeThrough(new DecompressionStream("deflate"));
-  return new Response(stream).text();
-};
 const unpack = async details => {
   const figure = details.querySelector("figure");
   if (figure.firstChild) return;
@@ -96,5 +98,12 @@ for (const details of document.querySelectorAll(".picture")) {
   details.addEventListener("toggle", () => { if (details.open) unpack(details); });
   if (details.open) unpack(details);
 }
+const player = document.querySelector("#play");
+player?.addEventListener("toggle", () => {
+  const stage = player.querySelector("#stage");
+  if (!player.open || stage.dataset.isOpened) return;
+  stage.dataset.isOpened = true;
+  openPlayer(stage, false).catch(error => { stage.textContent = `This browser can't show the player: ${error.message}`; });
+});
 const asked = location.hash.length > 1 && document.getElementById(decodeURIComponent(location.hash.slice(1)));
 if (asked && asked.tagName === "DETAILS") asked.open = true;

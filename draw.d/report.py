@@ -3,8 +3,10 @@ from collections.abc import Sequence
 
 from design import Design
 from design_files import Application, Chip
+from physical_units import PhysicalUnits, in_time
 from plan_picture import draw_plan, map_of, summary
 from plan_texts import RefusedUnit
+from player_page import Player
 from progress import Progress
 from refusal_picture import Refusal, draw_refusal, fullest
 from refusal_picture import summary as told_of
@@ -54,7 +56,7 @@ def verdict_of(lines: Sequence[Line], run: Run | None) -> Verdict:
     if run is None:
         return Verdict(tells, "good")
     landed, dropped, late = sum(line.landed for line in lines), sum(line.dropped for line in lines), late_of(lines)
-    tells += f" In {count(run.cycles, 'cycle')} {count(landed, 'word')} landed, {late.text}"
+    tells += f" In {count(run.cycles, 'cycle')}{in_time(run.cycles, run.units)} {count(landed, 'word')} landed, {late.text}"
     tells += f"; {count(dropped, 'word')} dropped in switches" if dropped else ""
     return Verdict(f"{tells}{outside_of(run)}.", late.kind)
 
@@ -70,41 +72,57 @@ def refused_sentence(app: Application, unit: RefusedUnit, refusal: Refusal | Non
 
 
 def refused_report(
-    title: str, chip: Chip, app: Application, units: Sequence[RefusedUnit], refusals: Sequence[Refusal], progress: Progress
+    title: str, chip: Chip, app: Application, refused: Sequence[RefusedUnit], refusals: Sequence[Refusal], progress: Progress,
+    units: PhysicalUnits | None,
 ) -> str:
     """The report of a design of which units are refused: which, why, and what is wished. The first refusals have pictures."""
-    lines = lines_of(app, chip.slots)
-    add_refusals(lines, units)
+    rows = rows_of_refusals(app, chip.slots, refused)
     by_number = {refusal.trial.number: refusal for refusal in refusals}
-    sentences = [refused_sentence(app, unit, by_number.get(number)) for number, unit in enumerate(units, 1)]
+    sentences = [refused_sentence(app, unit, by_number.get(number)) for number, unit in enumerate(refused, 1)]
     pictures = []
     for refusal in refusals:
         number = refusal.trial.number
-        progress.say(f"picture of refusal {number} of {len(units)}")
+        progress.say(f"picture of refusal {number} of {len(refused)}")
         name = f"Refusal {number} of {refusal.among}: {refusal.name}"
         pictures.append(Shown(name, f"refusal-{number}", told_of(refusal), draw_refusal(refusal, bare=True)))
-    total = len({(line.key.connection, line.key.group) for line in lines.values()})
-    tells = f"Not everything is granted: {count(len(units), 'unit')} of {total:,} {'is' if len(units) == 1 else 'are'} refused."
-    return page(Report(title, Verdict(tells, "bad"), sentences, list(lines.values()), pictures, False))
+    return page(Report(title, refused_verdict(rows, refused), sentences, rows, pictures, False, units=units))
+
+
+def rows_of_refusals(app: Application, slots: int, refused: Sequence[RefusedUnit]) -> list[Line]:
+    """The rows of a design of which units are refused."""
+    lines = lines_of(app, slots)
+    add_refusals(lines, refused)
+    return list(lines.values())
+
+
+def refused_verdict(rows: Sequence[Line], refused: Sequence[RefusedUnit]) -> Verdict:
+    total = len({(row.key.connection, row.key.group) for row in rows})
+    are = "is" if len(refused) == 1 else "are"
+    return Verdict(f"Not everything is granted: {count(len(refused), 'unit')} of {total:,} {are} refused.", "bad")
+
+
+def rows_of(design: Design, run: Run | None) -> list[Line]:
+    """The rows of a plan, with what a run shows."""
+    lines = lines_of(design.app, design.chip.slots)
+    add_promises(lines, design)
+    if run:
+        add_run(lines, run)
+    return list(lines.values())
 
 
 def draw_report(
-    title: str, design: Design, run: Run | None, progress: Progress, hardware: Verdict | None = None
+    title: str, design: Design, run: Run | None, progress: Progress, hardware: Verdict | None, player: Player
 ) -> str:
     """The page of a plan, of a run, and of the run as hardware."""
-    lines = lines_of(design.app, design.chip.slots)
-    add_promises(lines, design)
-    pictures = []
+    rows, pictures = rows_of(design, run), list[Shown]()
     if run:
         progress.say("picture of the run")
-        add_run(lines, run)
-        told = [run_summary(run, run.channels), *broken_promises(run.channels)]
+        told = [run_summary(run, run.channels), *broken_promises(run.channels, design.units)]
         pictures.append(Shown("The run", "run", told, draw_run(run, bare=True)))
     chip_map = map_of(design)
     for place, use in enumerate(design.app.uses, 1):
         progress.say(f"picture of use case {place} of {len(design.app.uses)}")
         picture = draw_plan(design, use, chip_map=chip_map, bare=True)
         pictures.append(Shown(f"Use case {use}", f"use-{use}", summary(design, use), picture))
-    rows = list(lines.values())
     progress.say("the page")
-    return page(Report(title, verdict_of(rows, run), [], rows, pictures, run is not None, hardware))
+    return page(Report(title, verdict_of(rows, run), [], rows, pictures, run is not None, hardware, design.units, player))

@@ -1,16 +1,19 @@
 """Owns the page of a report: one HTML text that needs nothing else.
 
-The table of channels stands in it as data, of which the page's script shows as many rows as are looked at. Pictures stand in
-it compressed, and each is unpacked when it is opened.
+The table of channels stands in it as data, of which the page's script shows as many rows as are looked at. Data and pictures
+stand in it compressed, and a picture is unpacked when it is opened.
 """
 from base64 import b64encode
 from dataclasses import dataclass
+from fractions import Fraction
 from html import escape
 import json
 import pathlib
 from typing import TypeAlias
 import zlib
 
+from physical_units import PhysicalUnits
+from player_page import Player, player_parts
 from report_data import Line
 from svg import Picture
 
@@ -59,6 +62,8 @@ class Report:
     pictures: list[Shown]
     has_run: bool
     hardware: Verdict | None = None
+    units: PhysicalUnits | None = None  # in which rates and times are told too
+    player: Player | None = None
 
 
 RATE = "words in 1,000\u00a0cycles"
@@ -88,12 +93,29 @@ RUN = (
     Column("worst", "cycles", "number", "from offer to landing, of the slowest word"),
     Column("nearest", "%\u00a0of\u00a0due", "share", "the greatest share of the time up to its due cycle that a word took"),
 )
+# With physical units these stand behind the columns of the same names.
+IN_UNITS = {
+    "wished": Column("wished", "MB/s", "number", "the same in MB/s"),
+    "within": Column("within", "ns", "number", "the same in ns"),
+    "rate": Column("rate", "MB/s", "number", "the same in MB/s"),
+    "latency": Column("latency", "ns", "number", "the same in ns"),
+    "median": Column("median", "ns", "number", "the same in ns"),
+    "worst": Column("worst", "ns", "number", "the same in ns"),
+}
 BROKEN = Column("promise ended", "cycle", "number", "where the receiver hadn't taken a word within its delay")
 REFUSED = Column("refused", "side, turn", "text", "the side without a path, and the turn; both sides of a refused unit are told")
 
 
 def columns_of(report: Report) -> list[Column]:
-    """The columns of a report: those that have something in them."""
+    """The columns of a report, with those in physical units where there are some."""
+    columns = plain_columns(report)
+    if report.units is None:
+        return columns
+    return [each for column in columns for each in (column, IN_UNITS.get(column.name)) if each]
+
+
+def plain_columns(report: Report) -> list[Column]:
+    """The columns of a report in words and cycles: those that have something in them."""
     columns = [*PLACES, *WISHES]
     if report.refused:
         return [*PLACES[:1], REFUSED, *PLACES[1:], *WISHES]
@@ -124,6 +146,17 @@ def cells_of(line: Line) -> dict[Column, Cell]:
     return dict(zip((*PLACES, *WISHES, *PROMISES, *RUN, BROKEN, REFUSED), values))
 
 
+def units_of(line: Line, units: PhysicalUnits) -> dict[Column, Cell]:
+    """What stands in the columns of a line that are in physical units: what is wished and guaranteed, rounded to its safe side."""
+    def time(cycles: float | None, up: bool = True) -> Cell:
+        return None if cycles is None else float(units.nanoseconds(Fraction(cycles), up))
+
+    wished = float(units.megabytes(line.wish.words, line.wish.per, up=True))
+    rate = None if line.rate is None else float(units.megabytes(line.rate, line.slots))
+    cells = [wished, time(line.wish.latency, up=False), rate, time(line.latency), time(line.middle), time(line.worst)]
+    return dict(zip(IN_UNITS.values(), cells))
+
+
 def mark_of(line: Line) -> str:
     """Whether a line is bad, is to be noted, or is neither."""
     if line.refused or line.failed:
@@ -136,9 +169,9 @@ def data_of(report: Report) -> str:
     columns = columns_of(report)
     rows = []
     for line in report.lines:
-        cells = cells_of(line)
+        cells = cells_of(line) | (units_of(line, report.units) if report.units else {})
         rows.append([mark_of(line), *(cells[column] for column in columns)])
-    return json.dumps(rows, separators=(",", ":")).replace("<", "\\u003c")
+    return packed(json.dumps(rows, separators=(",", ":")))
 
 
 def heads_of(columns: list[Column]) -> str:
@@ -169,8 +202,9 @@ def tools(report: Report) -> str:
     )
 
 
-def packed(picture: Picture) -> str:
-    return b64encode(zlib.compress(picture.text.encode(), 9)).decode("ascii")
+def packed(text: str) -> str:
+    """A text as the page's script unpacks it."""
+    return b64encode(zlib.compress(text.encode(), 9)).decode("ascii")
 
 
 def figure(shown: Shown, is_open: bool) -> str:
@@ -179,7 +213,18 @@ def figure(shown: Shown, is_open: bool) -> str:
     size = f'data-width="{shown.picture.width}" data-height="{shown.picture.height}"'
     return (
         f'<details class="picture" id="{escape(shown.anchor)}"{" open" if is_open else ""}><summary>{escape(shown.name)}</summary>'
-        f'{told}<figure {size}></figure><script type="text/plain">{packed(shown.picture)}</script></details>'
+        f'{told}<figure {size}></figure><script type="text/plain">{packed(shown.picture.text)}</script></details>'
+    )
+
+
+def player_section(player: Player) -> str:
+    """The player, which is made when it is opened."""
+    told = f"<p class=less>{escape(player.told)}</p>" if player.told else ""
+    if not player.packed:
+        return f"<h2>Flits</h2>{told}"
+    return (
+        f'<h2>Flits</h2>{told}<details class="player" id="play"><summary>Play: which flit is on which link</summary>'
+        f'<div id="stage"></div></details>{player_parts(player.packed, player.width)}'
     )
 
 
@@ -195,6 +240,8 @@ def page(report: Report) -> str:
         f"<h1>{title}</h1>",
         f'<p class="verdict {report.verdict.kind}">{escape(report.verdict.text)}</p>',
     ]
+    if report.units:
+        parts.append(f"<p class=less>{escape(report.units.told)}</p>")
     if report.hardware:
         parts.append(f'<p class="verdict {report.hardware.kind}">{escape(report.hardware.text)}</p>')
     if report.refused:
@@ -207,8 +254,10 @@ def page(report: Report) -> str:
     if report.pictures:
         parts.append(f"<h2>Pictures</h2><p class=less>{READING}</p>")
         parts += [figure(shown, len(report.pictures) <= MOST_OPEN and not at) for at, shown in enumerate(report.pictures)]
-    parts.append(f'<script type="application/json" id="rows">{data_of(report)}</script>')
-    parts.append(f"<script>{script}</script></body></html>\n")
+    if report.player:
+        parts.append(player_section(report.player))
+    parts.append(f'<script type="text/plain" id="rows">{data_of(report)}</script>')
+    parts.append(f'<script type="module">{script}</script></body></html>\n')
     return "\n".join(parts)
 
 

@@ -2,7 +2,8 @@
 from collections.abc import Sequence
 from typing import NamedTuple
 
-from lanes import AMOUNTS, broken_promise, draw_lane
+from lanes import amounts_of, broken_promise, draw_lane
+from physical_units import PhysicalUnits, in_time
 from runs import Run
 from sessions import ChannelLog
 import svg
@@ -14,6 +15,7 @@ LANES = ((8, 44), (MOST_LANES, 24))  # the height of a lane, where there are so 
 BETWEEN = 6  # from lane to lane
 MOST_LINKS = 160
 MOST_BROKEN = 4  # channels whose receivers are told by their names
+TIMES_ROOM = 12  # of the times below the cycles of the axis
 SWITCH_ROOM = 24  # for each switch, where its band goes through all lanes
 LOAD_COLUMN = 344
 
@@ -65,15 +67,17 @@ def draw_switches(run: Run, scale: Timescale, top: float, bottom: float) -> list
     return parts
 
 
-def draw_axis(scale: Timescale, top: float, bottom: float) -> list[str]:
-    """The cycles, and the heads of the numbers at the right."""
-    parts = []
+def draw_axis(scale: Timescale, top: float, bottom: float, units: PhysicalUnits | None) -> list[str]:
+    """The cycles, with units their times below them, and the heads of the numbers at the right."""
+    parts = [svg.label("time", MARGIN, top + 26 + TIMES_ROOM, "less")] if units else []
     for cycle in scale.ticks():
         x = scale.at(cycle)
         parts.append(svg.tag("path", class_="grid", d=f"M{x} {top + 16}V{bottom}"))
         parts.append(svg.label(f"{cycle:,}", x, top + 26, "less mid"))
+        if units:
+            parts.append(svg.label(units.time(cycle), x, top + 26 + TIMES_ROOM, "less mid"))
     x = scale.right
-    for amount in AMOUNTS:
+    for amount in amounts_of(units):
         x += amount.room
         parts.append(svg.label(amount.head, x, top + 14, "less end"))
         parts.append(svg.label(amount.unit, x, top + 26, "less end"))
@@ -111,21 +115,22 @@ def draw_load(run: Run, top: float, width: float) -> Part:
 
 
 def summary(run: Run, channels: Sequence[ChannelLog]) -> str:
-    """What the picture shows, in a sentence or two."""
+    """What the picture shows, in some sentences."""
     offered, outside = sum(c.offered for c in channels), sum(c.outside for c in channels)
     landed, late = sum(c.landed for c in channels), sum(c.late for c in channels)
     overdue, dropped = sum(c.overdue for c in channels), sum(c.dropped for c in channels)
     return (
-        f"{svg.count(run.cycles, 'cycle')} with {svg.count(len(run.switches) - 1, 'change')} of the use case. "
+        f"{svg.count(run.cycles, 'cycle')}{in_time(run.cycles, run.units)} with {svg.count(len(run.switches) - 1, 'change')} of the use case. "
         f"{svg.count(offered, 'word')} offered in sessions, {landed:,} landed, {late:,} of them late; {overdue:,} overdue, not "
         f"landed when they were due; {dropped:,} dropped; {outside:,} offered outside of all sessions."
+        + (f" {run.units.told}" if run.units else "")
     )
 
 
-def broken_promises(channels: Sequence[ChannelLog]) -> list[str]:
+def broken_promises(channels: Sequence[ChannelLog], units: PhysicalUnits | None = None) -> list[str]:
     """A sentence for each of the first channels whose receiver hasn't kept its delay."""
     broken = [channel for channel in channels if channel.broken is not None]
-    told = [f"{channel.name}: {broken_promise(channel)}." for channel in broken[:MOST_BROKEN]]
+    told = [f"{channel.name}: {broken_promise(channel, units)}." for channel in broken[:MOST_BROKEN]]
     if len(broken) > MOST_BROKEN:
         told.append(f"So it is with {svg.count(len(broken) - MOST_BROKEN, 'further channel')}.")
     return told
@@ -147,23 +152,24 @@ def draw_rest(others: Sequence[ChannelLog], y: float) -> str:
 
 def draw_run(run: Run, chosen: Sequence[ChannelLog] = (), bare: bool = False) -> Picture:
     """The whole picture: of all channels, or of the chosen ones. A bare one has neither its name nor sentences above it."""
-    channels = chosen or run.channels
+    channels, units = chosen or run.channels, run.units
     lanes = lanes_of(channels)
     names = max([len(channel.name) for channel in lanes.shown] + [10])
     name_width = min(190, svg.text_width("n" * names, 11) + 8)
     scale = Timescale(run.cycles, MARGIN + name_width)
-    width = scale.right + sum(amount.room for amount in AMOUNTS) + MARGIN
+    width = scale.right + sum(amount.room for amount in amounts_of(units)) + MARGIN
     name = f"Run of {svg.count(run.cycles, 'cycle')}"
-    told = [summary(run, channels), *broken_promises(channels)]
+    told = [summary(run, channels), *broken_promises(channels, units)]
     head = Part([], MARGIN - 8) if bare else svg.head(
         name, [*map(Sentence, told), Sentence(READING, "less")], width - 2 * MARGIN
     )
     top = head.bottom
     step = next(step for many, step in LANES if len(lanes.shown) <= many)
-    bottom = top + 32 + step * len(lanes.shown)
-    parts = [*head.elements, *draw_switches(run, scale, top, bottom), *draw_axis(scale, top, bottom)]
+    axis = 32 + (TIMES_ROOM if units else 0)
+    bottom = top + axis + step * len(lanes.shown)
+    parts = [*head.elements, *draw_switches(run, scale, top, bottom), *draw_axis(scale, top, bottom, units)]
     for place, channel in enumerate(lanes.shown):
-        parts.append(draw_lane(channel, scale, top + 34 + place * step, step - BETWEEN, name_width))
+        parts.append(draw_lane(channel, scale, top + axis + 2 + place * step, step - BETWEEN, name_width, units))
     if lanes.others:
         bottom += step
         parts.append(draw_rest(lanes.others, bottom - 6))

@@ -12,6 +12,7 @@ from typing import NamedTuple, TypeAlias
 
 from design import SIDES, Design, Key, Promise
 from design_files import Link
+from physical_units import PhysicalUnits
 from program import Input
 from run_texts import SessionLog, Switch, Switching, read_log, read_receivers, read_switches, rows_behind_header
 from sessions import ChannelLog, Receiver, Session, Word
@@ -37,6 +38,7 @@ class Run:
     flits: list[int]  # by link
     channels: list[ChannelLog]  # in the order of the log
     switches: list[Switch]
+    units: PhysicalUnits | None = None  # in which times are told too
 
 
 class Offers:
@@ -176,4 +178,4 @@ def read_run(design: Design, files: RunFiles, cycles: int, text: str) -> Run:
         channels[session.connection, session.side].sessions.append(reading.session(session))
     channels = {ends: channel for ends, channel in channels.items() if channel.sessions or channel.outside}
     reading.add_waiting(channels, files.words.data)
-    return Run(cycles, design.chip.links, log.flits, list(channels.values()), switches)
+    return Run(cycles, design.chip.links, log.flits, list(channels.values()), switches, design.units)

@@ -158,7 +158,7 @@ def style(more: str) -> str:
     """The style sheet: colours for both grounds, and what a kind of picture adds. On paper the ground is light, and the whole
     picture stands on its page."""
     dark = f"@media screen and (prefers-color-scheme:dark){{{colour_rules(GROUNDS['dark'], DARK)}}}"
-    exact = "@media print{svg:root{min-width:0!important;print-color-adjust:exact}}"
+    exact = "@media print{@page{margin:1cm}svg:root{min-width:0!important;max-height:96vh;print-color-adjust:exact}}"
     return tag("style", escape(PLAIN + colour_rules(GROUNDS["light"], LIGHT) + more + "\n" + dark + "\n" + exact + "\n"))
 
 

@@ -1,7 +1,9 @@
 """Tests of what documents say: short sentences, words and files that are there, numbers that are one wherever they stand, and
 the pages CALLING.md, whose callers and contracts are those of the sources."""
+import fnmatch
 import pathlib
 import re
+import subprocess
 import unittest
 
 import contracts
@@ -28,7 +30,7 @@ LIMITS = {
     r"the use cases aren't 1 to (\d[\d,]*)": ("aeth_app", "max_uses"), r"past (\d[\d,]*) cycles": ("aeth_base", "max_cycles"),
     r"number of cycles, 1 to (\d[\d,]*)": ("aeth_base", "max_cycles"), r"up to (\d[\d,]*) credits": ("aeth_base", "credits_per_flit"),
     r"in switches more than (\d[\d,]*)": ("aeth_trace", "max_switch_rows"),
-    r"(\d[\d,]{3,}\d) bytes": ("aeth_io", "max_file_bytes"),
+    r"(?:more than|and) (\d[\d,]+) bytes": ("aeth_io", "max_file_bytes"),
 }
 
 
@@ -74,9 +76,10 @@ class Words(unittest.TestCase):
                 if file.is_file() and file.suffix not in (".png", ".pyc"):
                     known.update(re.findall(r"\w+", file.read_text(errors="replace")))
         for page in PAGES + CALLING + sorted(TOP.glob("crates/*/README.md")):
+            made = set(re.findall(r"> (\w+)", page.read_text()))  # by a command of the page
             for code in re.findall(r"`([^`]+)`", prose(page)):
                 for word in re.findall(r"[^\W\d]\w{2,}", code):
-                    self.assertTrue(word in known, f"{page}: {word} of {code}")
+                    self.assertTrue(word in known | made, f"{page}: {word} of {code}")
 
     def test_definitions_of_the_rules(self):
         """`crate/File`, and behind a comma a further file of it, is there and has the words that stand in brackets behind it."""
@@ -103,6 +106,32 @@ class Words(unittest.TestCase):
             for code in re.findall(r"`([^`/]+)`", clauses):
                 for word in re.findall(r"\w+", code.replace("impl ", "")):
                     self.assertTrue(word in known, f"{crate}: {word} of {code}")
+
+    def test_commands_in_lines(self):
+        """A command within a line is one that there is, and one that looks something up finds it. README has each command."""
+        verbs = {"./aeth": {page.name for page in (TOP / "aeth.d/help").iterdir()} | {"help"}}
+        for name in ("design", "draw"):
+            verbs[f"./{name}"] = set(re.findall(rf"^{name} ([a-z]+) ", sentences.docstring(TOP / name), re.M)) | {"help"}
+        told = (TOP / "README.md").read_text()
+        for script, known in verbs.items():
+            for verb in known - {"help", "aeth"}:
+                self.assertTrue(re.search(rf"(?:`|{script} ){verb}[` ]", told), f"{script} {verb}")
+        for page in PAGES:
+            for code in re.findall(r"`([^`]+)`", re.sub(r"\s+", " ", prose(page))):
+                script, _, rest = code.partition(" ")
+                if script in verbs and re.match("[a-z]", rest):
+                    self.assertTrue(rest.split()[0] in verbs[script], f"{page}: {code}")
+                if code.startswith("head -qn") or (code.startswith("git grep") and (TOP / ".git").exists()):
+                    ran = subprocess.run(["sh", "-c", code], cwd=TOP, capture_output=True, check=False)
+                    self.assertTrue(ran.stdout, f"{page}: {code}")
+
+    def test_every_script(self):
+        """The map has each file of the scripts and of the hardware, by its name or by how names begin, and no others."""
+        table = re.search(r"^\| Of \| What \| Files \|.*?\n\n", (TOP / "docs/ARCHITECTURE.md").read_text(), re.M | re.S)[0]
+        told = re.findall(r"`([\w.]+\.\w+|\w+_\*)`", table)
+        files = {file.name for place in ("draw.d", "design.d", "common.d", "rtl") for file in (TOP / place).iterdir() if file.is_file()}
+        self.assertEqual([name for name in told if not any(fnmatch.fnmatch(file, name) for file in files) and not name.endswith((".d", ".md"))], [])
+        self.assertEqual([file for file in sorted(files) if not any(fnmatch.fnmatch(file, name) for name in told)], [])
 
     def test_every_crate(self):
         """README's table has each library and program, and the map has each crate."""
@@ -180,14 +209,17 @@ class Calling(unittest.TestCase):
     """The pages for who uses a crate alone."""
 
     def test_callers(self):
-        """The caller of a page is a file of the crate of callers, word for word, and each of its files stands in a page."""
-        shown = {}
+        """The caller of a page is proved: it is in the sources, word for word. Each file of the crate of callers stands in a page."""
+        shown = set()
         for page in CALLING:
-            file, text = re.search(r"`src/(\w+\.rt)` of \[aeth_callers\].*?^```rust\n(.*?)^```", page.read_text(), re.M | re.S).groups()
-            self.assertEqual(text, (TOP / "crates/aeth_callers/src" / file).read_text(), page)
-            shown[file] = page
-        files = {file.name for file in (TOP / "crates/aeth_callers/src").glob("*.rt")} - {"lib.rt"}
-        self.assertEqual(set(shown), files)
+            form = r"`src/(\w+\.rt)` of \[(aeth_\w+)\].*?^```rust\n(.*?)^```"
+            file, crate, text = re.search(form, page.read_text(), re.M | re.S).groups()
+            source = (TOP / "crates" / crate / "src" / file).read_text()
+            self.assertIn(text, source, page)
+            if crate == "aeth_callers":
+                self.assertEqual(text, source, page)
+                shown.add(file)
+        self.assertEqual(shown, {file.name for file in (TOP / "crates/aeth_callers/src").glob("*.rt")} - {"lib.rt"})
 
     def test_contracts(self):
         """A page has each public call of its crates, each clause of it, each law, and no others."""

@@ -31,7 +31,7 @@ class Page(HTMLParser):
         self.open += [] if tag in self.EMPTY else [tag]
         told = dict(attrs)
         self.asked += [value for key, value in attrs if key in ("src", "href", "data")]
-        self.kind = told.get("type", "script") if tag == "script" else None
+        self.kind = told.get("id") or told.get("type", "script") if tag == "script" else None
         if "picture" in (told.get("class") or ""):
             self.anchors.append(told["id"])
 
@@ -46,7 +46,7 @@ class Page(HTMLParser):
     @property
     def rows(self):
         """The rows of the table, each with its mark first."""
-        return json.loads(self.scripts["application/json"][0])
+        return json.loads(zlib.decompress(b64decode(self.scripts["rows"][0])))
 
     @property
     def pictures(self):
@@ -179,7 +179,7 @@ class Refused(WithProgram):
 
     def test_a_row_is_searched_cell_by_cell(self):
         """The script keeps the texts of a row apart, so that no word is found across two of them."""
-        script = self.page.scripts["script"][-1]
+        script = self.page.scripts["module"][-1]
         self.assertIn("texts[at].some(text => text.includes(word))", script)
         self.assertNotIn("row.textContent", script)
 

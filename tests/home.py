@@ -11,10 +11,21 @@ TOP = pathlib.Path(__file__).resolve().parent.parent
 PLACES = (TOP / "crates/aeth/out/aeth", TOP / "out/aeth")
 PROGRAM = next((place for place in PLACES if os.access(place, os.X_OK)), None)
 
-# It tells what `rt ci` tells, and its program is that of $PROGRAM, or one that tells its sources and words. It fails where
+# As `rt try` it tells its words, the files that it is handed, and the end of a run. As `rt ci` it tells what that tells, and its program is that of $PROGRAM, or one that tells its sources and words. It fails where
 # a source is broken or where the library has none, and changes a source meanwhile where $CHANGES names one.
 RT = """#!/bin/sh
 [ "$1" = version ] && echo "a stand-in for the kit" && exit 0
+if [ "$1" = try ]; then
+    shift
+    echo "$PWD: $*"
+    while [ "$1" != -- ]; do [ "$1" != --data ] || cat "${2#*=}"; shift 2; done
+    cat >&2 <<END
+${TOLD-refused unit c0 0 back 1}
+checked: ended status=${STATUS:-3}
+run=ended status=${STATUS:-3} runners=1 proved=no
+END
+    exit "${STATUS:-3}"
+fi
 echo built >> "$BUILDS"
 for crate in aeth_base aeth_middle aeth; do
     echo "== $crate"
@@ -84,14 +95,14 @@ class Home:
     def design(self, *words, **how):
         return self.run(*words, script="design", **how)
 
-    def on_terminal(self, *words, **settings):
-        """The status of `aeth`, and what it says where its messages go to a terminal."""
+    def on_terminal(self, *words, script="aeth", **settings):
+        """The status of a script, and what it says where its messages go to a terminal."""
         try:
             ours, theirs = pty.openpty()
         except OSError as error:
             raise unittest.SkipTest(f"there is no terminal to try: {error}") from error
         how = {"cwd": self.top, "env": {**self.settings, **settings}, "stdin": subprocess.DEVNULL}
-        ran = subprocess.Popen([self.top / "aeth", *words], stdout=subprocess.DEVNULL, stderr=theirs, **how)
+        ran = subprocess.Popen([self.top / script, *words], stdout=subprocess.DEVNULL, stderr=theirs, **how)
         os.close(theirs)
         said = b""
         while True:

@@ -8,8 +8,9 @@ import unittest
 from home import Home, PROGRAM, TOP
 
 README = (TOP / "README.md").read_text()
-# Pages whose commands are run, each from its first to its last one in a folder of its own.
-FOLLOWED = {name: (TOP / name).read_text() for name in ("README.md", "docs/GUIDE.md", "docs/TOOLS.md")}
+# Pages whose commands are run, each from its first to its last one in a folder of its own; and how many blocks some have at least.
+FOLLOWED = {str(page.relative_to(TOP)): page.read_text() for page in (TOP / "README.md", *sorted((TOP / "docs").glob("*.md")), TOP / "bench/README.md")}
+LEAST = {"docs/GUIDE.md": 8, "docs/TOOLS.md": 1}
 DOCUMENTS = {path: path.read_text() for place in ("*.md", "docs/*.md", "bench/*.md", "crates/*/README.md")
              for path in sorted(TOP.glob(place))}
 
@@ -81,9 +82,9 @@ class Readme(unittest.TestCase):
         return all((self.home.top / word).exists() for word in read if re.search(r"\.(toml|plan|csv|log)$", word))
 
     def test_sessions(self):
-        for name, least in (("docs/GUIDE.md", 8), ("docs/TOOLS.md", 1)):
-            found = list(sessions(FOLLOWED[name]))
-            self.assertGreaterEqual(len(found), least, name)
+        for name, page in FOLLOWED.items():
+            found = list(sessions(page))
+            self.assertGreaterEqual(len(found), LEAST.get(name, 0), name)
             for session in found:
                 for command, text in session:
                     if self.has_files(command):
@@ -104,7 +105,8 @@ class Readme(unittest.TestCase):
         for block in blocks:
             for command in re.split(r"\n(?=\S)", re.sub(r" *#.*", "", block.replace("\\\n", ""))):
                 if command.startswith(("./aeth ", "./draw ", "./design ")) and self.has_files(command):
-                    self.assertEqual(self.shell(f"({command.strip()}) >/dev/null || echo $?"), "", command)
+                    told = self.shell(f"({command.strip()}) >/dev/null || echo ended with $?")  # it may tell its progress
+                    self.assertNotIn("ended with", told, command)
 
     def test_commands_of_the_pages(self):
         shutil.copy(self.home.top / "examples/one.plan", self.home.top / "one.plan")

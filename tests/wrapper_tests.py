@@ -100,6 +100,26 @@ class Builds(WithHome):
         self.assertEqual((status, out), (126, ""))
         self.assertIn("error[proof]: it is broken", said)
 
+    def test_unproved(self):
+        """It is said before and behind, nothing is built or kept, and files are handed over, but for words that are none."""
+        chip, app = self.home.put("a b/it's.toml", "the chip\n"), self.home.put("u", "the application\n")
+        words = ("--unproved", "tables", "a b/it's.toml", app, "missing.plan", "u")
+        status, out, said = self.home.run(*words)
+        told = f"{self.home.top}/crates/aeth: --seconds 600 --data word2={app} --data word1={chip} -- tables word1 word2 missing.plan u"
+        self.assertEqual((status, out), (3, f"{told}\nthe application\nthe chip\n"))
+        first, *lines = said.splitlines()
+        self.assertRegex(first, "^aeth: UNPROVED: ")
+        self.assertRegex(lines.pop(), "^aeth: UNPROVED: ")
+        self.assertEqual(lines, ["refused unit c0 0 back 1"])
+        self.assertEqual((self.home.built(), (self.home.top / "out").exists()), (0, False))
+
+    def test_unproved_and_not_compiled(self):
+        status, _, said = self.home.run("--unproved", "demo", "7", STATUS="x")
+        self.assertEqual(status, 126)
+        self.assertRegex(said, "there is no answer\n$")
+        self.assertEqual(self.home.run("--unproved")[0], 1)
+        self.assertEqual(self.home.run("--unproved", "demo", "7", PATH="/usr/bin:/bin")[0], 127)
+
     def test_nothing_is_left_beside_the_program(self):
         before = set(os.listdir(tempfile.gettempdir()))
         self.home.run("a")

@@ -3,10 +3,12 @@
 
 mod clocked;
 mod paths;
+mod plans;
 mod server;
 mod slots;
 
 pub use clocked::step;
 pub use paths::shortest;
+pub use plans::accepted_plan;
 pub use server::safe_buffer;
 pub use slots::slots_beside;

@@ -25,5 +25,14 @@ pub fn shortest(
         (IsCandidate book.now ask.now (from ∷ []) (to ∷ []) [])) }
 {
     let far = Distances::of(alloc, chip)?;
-    find(chip, &far, book, ask, &[from], &[to], &[], &Cost::new(|_delay, _used| 1))
+    find(
+        chip,
+        &far,
+        book,
+        ask,
+        &[from],
+        &[to],
+        &[],
+        &Cost::new(|_delay, _used| 1),
+    )
 }

@@ -1,5 +1,6 @@
 // Printing certificates.
-ghost use Rattle.std.specs.Prelude.{◌≡◌, ◌++◌, ◌∷◌, [], IfOk, OnErr, OnOk, codes, decimal, length, map};
+ghost use Rattle.std.specs.Prelude.{◌≡◌, ◌++◌, ◌∷◌, [], IfOk, OnErr, OnOk, codes, decimal};
+ghost use Rattle.std.specs.Prelude.{length, map, take};
 ghost use Rattle.aeth_explain.specs.CutsText.{block_lines, cut_line, cuts_text, line_of, try_line};
 ghost use Rattle.aeth_app.specs.Connections.{connection_names};
 ghost use Rattle.aeth_plan.specs.Plan.{name_at};
@@ -16,9 +17,10 @@ use std::alloc::Global;
 
 /// Appends the fields of a try's line behind its connection, and its line feed.
 fn push_try_end(out: &mut Vec<u8>, line: &TryLine) -> Result<(), NoMemory>
-    ensures { OnOk result (out.new.items ≡ out.old.items ++ space ∷ (decimal line.now.unit.group.0
+    ensures ok { OnOk result (out.new.items ≡ out.old.items ++ space ∷ (decimal line.now.unit.group.0
         ++ space ∷ (side_word line.now.side ++ space ∷ (decimal line.now.turn
         ++ line_feed ∷ [])))) }
+    ensures err { OnErr result (take (length out.old.items) out.new.items ≡ out.old.items) }
 {
     out.push(b' ')?;
     push_number(out, line.unit.group.0 as u64)?;
@@ -32,8 +34,9 @@ fn push_try_end(out: &mut Vec<u8>, line: &TryLine) -> Result<(), NoMemory>
 
 /// Appends the name of a connection; no bytes where there is none of that number.
 fn push_name(out: &mut Vec<u8>, app: &App, conn: ConnId) -> Result<(), NoMemory>
-    ensures { OnOk result (out.new.items
+    ensures ok { OnOk result (out.new.items
         ≡ out.old.items ++ name_at (connection_names app.now) conn.0) }
+    ensures err { OnErr result (out.new.items ≡ out.old.items) }
 {
     if conn.0 < app.connections() {
         let connection = app.connection(conn);
@@ -45,8 +48,9 @@ fn push_name(out: &mut Vec<u8>, app: &App, conn: ConnId) -> Result<(), NoMemory>
 /// Appends the line of a try.
 #[tactic(auto, unfolding(crate::specs::CutsText::try_line))]
 fn push_try(out: &mut Vec<u8>, app: &App, line: &TryLine) -> Result<(), NoMemory>
-    ensures { OnOk result (out.new.items
+    ensures ok { OnOk result (out.new.items
         ≡ out.old.items ++ ended_line (try_line app.now line.now)) }
+    ensures err { OnErr result (take (length out.old.items) out.new.items ≡ out.old.items) }
 {
     out.extend_from_slice(b"try ")?;
     push_name(out, app, line.unit.conn)?;
@@ -56,7 +60,8 @@ fn push_try(out: &mut Vec<u8>, app: &App, line: &TryLine) -> Result<(), NoMemory
 /// Appends the line of a cut.
 #[tactic(auto, unfolding(crate::specs::CutsText::cut_line))]
 fn push_cut(out: &mut Vec<u8>, path: &Path) -> Result<(), NoMemory>
-    ensures { OnOk result (out.new.items ≡ out.old.items ++ ended_line (cut_line path.now)) }
+    ensures ok { OnOk result (out.new.items ≡ out.old.items ++ ended_line (cut_line path.now)) }
+    ensures err { OnErr result (take (length out.old.items) out.new.items ≡ out.old.items) }
 {
     out.extend_from_slice(b"cut ")?;
     push_links(out, path)?;
@@ -66,8 +71,9 @@ fn push_cut(out: &mut Vec<u8>, path: &Path) -> Result<(), NoMemory>
 
 /// Appends the lines of cuts.
 fn push_cuts(out: &mut Vec<u8>, cuts: &[Path]) -> Result<(), NoMemory>
-    ensures { OnOk result (out.new.items
+    ensures ok { OnOk result (out.new.items
         ≡ out.old.items ++ text_of_lines (map cut_line cuts.now)) }
+    ensures err { OnErr result (take (length out.old.items) out.new.items ≡ out.old.items) }
 {
     for cut in cuts {
         push_cut(out, cut)?;
@@ -84,10 +90,12 @@ pub fn push_head(out: &mut Vec<u8>) -> Result<(), NoMemory>
     Ok(())
 }
 
-/// Appends the line of a try and those of its cuts. Where memory is wanting, a part of them may stay.
+/// Appends the line of a try and those of its cuts. Where memory is wanting, all that stood there still does, at
+/// the front.
 pub fn push_block(out: &mut Vec<u8>, app: &App, line: &TryLine, cuts: &Cuts) -> Result<(), NoMemory>
-    ensures { OnOk result (out.new.items
+    ensures ok { OnOk result (out.new.items
         ≡ out.old.items ++ text_of_lines (block_lines app.now line.now cuts.now)) }
+    ensures err { OnErr result (take (length out.old.items) out.new.items ≡ out.old.items) }
 {
     push_try(out, app, line)?;
     push_cuts(out, cuts.list())

@@ -7,7 +7,7 @@ ghost use Rattle.aeth_files.specs.Plans.{missing_text, side_text};
 ghost use Rattle.aeth_group.specs.Members.{groups_of};
 ghost use Rattle.aeth_plan.specs.Plan.{IsPlanOf};
 ghost use Rattle.aeth_tables.specs.Reserved.{IsDesign};
-ghost use Rattle.std.specs.Prelude.{◌≡◌, ◌++◌, IfOk, OnOk};
+ghost use Rattle.std.specs.Prelude.{◌≡◌, ◌++◌, IfOk, OnErr, OnOk, length, take};
 
 use crate::files::read_plan_file;
 use aeth_answers::{Answer, FileName, Stop, push_count};
@@ -90,10 +90,11 @@ fn missing(alloc: Global, app: &App, unit: &Unit, side: Side) -> Result<Answer, 
     Ok(Answer::not_granted(text))
 }
 
-/// Appends a side of a unit. Where memory is wanting, a part of it may stay.
+/// Appends a side of a unit. Where memory is wanting, all that stood there still does, at the front.
 pub fn push_side_of(text: &mut Vec<u8>, app: &App, unit: &Unit, side: Side) -> Result<(), NoMemory>
-    ensures { OnOk result (text.new.items
+    ensures ok { OnOk result (text.new.items
         ≡ text.old.items ++ side_text app.now unit.now side) }
+    ensures err { OnErr result (take (length text.old.items) text.new.items ≡ text.old.items) }
 {
     push_connection(text, app, unit.conn)?;
     push_count(text, " ", unit.group.0)?;
@@ -103,7 +104,8 @@ pub fn push_side_of(text: &mut Vec<u8>, app: &App, unit: &Unit, side: Side) -> R
 
 /// Appends the name of a connection; no bytes where there is none of that number.
 fn push_connection(text: &mut Vec<u8>, app: &App, conn: ConnId) -> Result<(), NoMemory>
-    ensures { OnOk result (text.new.items ≡ text.old.items ++ connection_name app.now conn) }
+    ensures ok { OnOk result (text.new.items ≡ text.old.items ++ connection_name app.now conn) }
+    ensures err { OnErr result (text.new.items ≡ text.old.items) }
 {
     if conn.0 < app.connections() {
         let connection = app.connection(conn);

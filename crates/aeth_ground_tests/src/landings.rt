@@ -1,4 +1,4 @@
-// Runs of channels by themselves: the cycles in which words land and are due, worked by hand.
+// Runs of channels by themselves: the cycles in which words are sent, land and are due, worked by hand.
 ghost use Rattle.std.specs.Prelude.{◌≤◌, length};
 ghost use Rattle.aeth_server.specs.ChannelShape.{IsShapeInRange};
 
@@ -7,7 +7,7 @@ use aeth_server::{Alone, ChannelShape, Due};
 
 // A run of a channel: its buffer, the cycles in which words are offered, how many words the receiver
 // takes at most in a cycle, the cycle from which on nothing is sent, how many cycles there are, the
-// cycles in which words land, and those in which they are due.
+// cycles in which words are sent, those in which they land, and those in which they are due.
 #[derive(Clone, Copy)]
 struct Run {
     name: &'static str,
@@ -17,6 +17,7 @@ struct Run {
     pull: u32,
     stop: u64,
     cycles: u64,
+    sends: &'static [u64],
     landings: &'static [u64],
     due: &'static [u64],
 }
@@ -30,6 +31,7 @@ static RUNS: [Run; 8] = [
         pull: 2,
         stop: 20,
         cycles: 20,
+        sends: &[4, 4, 8, 8, 12],
         landings: &[7, 7, 11, 11, 15],
         due: &[7, 9, 11, 13, 15],
     },
@@ -41,6 +43,7 @@ static RUNS: [Run; 8] = [
         pull: 2,
         stop: 20,
         cycles: 20,
+        sends: &[2, 2, 5, 5, 8],
         landings: &[6, 6, 9, 9, 12],
         due: &[7, 9, 11, 13, 15],
     },
@@ -52,6 +55,7 @@ static RUNS: [Run; 8] = [
         pull: 0,
         stop: 30,
         cycles: 30,
+        sends: &[4, 4, 8, 8, 12, 12, 16, 16, 20],
         landings: &[7, 7, 11, 11, 15, 15, 19, 19, 23],
         due: &[7, 9, 11, 13, 15, 17, 19, 21, 23, 25, 27, 29],
     },
@@ -63,6 +67,7 @@ static RUNS: [Run; 8] = [
         pull: 2,
         stop: 30,
         cycles: 30,
+        sends: &[4, 4, 8, 8, 12, 12, 16, 16, 20, 20, 24, 24],
         landings: &[7, 7, 11, 11, 15, 15, 19, 19, 23, 23, 27, 27],
         due: &[7, 9, 11, 13, 15, 17, 19, 21, 23, 25, 27, 29],
     },
@@ -74,6 +79,7 @@ static RUNS: [Run; 8] = [
         pull: 0,
         stop: 3,
         cycles: 12,
+        sends: &[1],
         landings: &[4],
         due: &[10, 14],
     },
@@ -85,6 +91,7 @@ static RUNS: [Run; 8] = [
         pull: 2,
         stop: 20,
         cycles: 20,
+        sends: &[0, 0, 5, 5, 10],
         landings: &[2, 2, 7, 7, 12],
         due: &[3, 3, 4, 4, 5],
     },
@@ -96,6 +103,7 @@ static RUNS: [Run; 8] = [
         pull: 2,
         stop: 200,
         cycles: 200,
+        sends: &[0, 0, 65, 65, 130],
         landings: &[32, 32, 97, 97, 162],
         due: &[33, 33, 34, 34, 35],
     },
@@ -107,6 +115,7 @@ static RUNS: [Run; 8] = [
         pull: 2,
         stop: 260,
         cycles: 260,
+        sends: &[127, 127, 255],
         landings: &[129, 129, 257],
         due: &[129, 193, 257],
     },
@@ -125,23 +134,25 @@ fn times(cycles: &[u64], t: u64) -> usize
     count
 }
 
-// Whether words land in the cycles of a run, and in no others.
-fn lands(run: &Run, shape: &ChannelShape) -> bool
+// Whether words are sent and land in the cycles of a run, and in no others.
+fn goes(run: &Run, shape: &ChannelShape) -> bool
     requires { IsShapeInRange shape.now }
 {
     if run.buffer > 65535 || run.cycles > 1000 {
         return false;
     }
-    if run.offers.len() > 100 || run.landings.len() > 100 {
+    if run.offers.len() > 100 || run.sends.len() > 100 || run.landings.len() > 100 {
         return false;
     }
     let mut alone = Alone::new(shape, run.buffer);
+    let mut sent = 0;
     let mut landed = 0;
     for t in 0..run.cycles {
         let words = times(run.offers, t) as u32;
         let step = alone.cycle(t, words, run.pull, t < run.stop);
+        sent += times(run.sends, t);
         landed += times(run.landings, t);
-        if step.landed as usize != landed {
+        if step.sent as usize != sent || step.landed as usize != landed {
             return false;
         }
     }
@@ -167,7 +178,7 @@ fn is_due(run: &Run, shape: &ChannelShape) -> bool
 // Whether a run is as its channel by itself.
 fn holds(run: &Run) -> bool {
     match shape_of(&run.channel) {
-        Some(shape) => lands(run, &shape) && is_due(run, &shape),
+        Some(shape) => goes(run, &shape) && is_due(run, &shape),
         None => false,
     }
 }
@@ -183,6 +194,6 @@ fn first_other_run() -> Option<&'static str> {
 }
 
 #[test]
-fn words_land_and_are_due(rt: HostRuntime) {
+fn words_are_sent_land_and_are_due(rt: HostRuntime) {
     assert_eq!(rt; first_other_run(), None);
 }

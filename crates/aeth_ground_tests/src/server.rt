@@ -1,9 +1,10 @@
-// Channels by themselves: their buffers and finish times, worked by hand.
-ghost use Rattle.std.specs.Prelude.{IfSome};
-ghost use Rattle.aeth_server.specs.ChannelShape.{IsShapeInRange};
+// Channels by themselves: their round trips, buffers and finish times, worked by hand.
+ghost use Rattle.std.specs.Prelude.{◌≡◌, IfSome};
+ghost use Rattle.aeth_server.specs.ChannelShape.{IsShapeInRange, shape_of};
+ghost use Rattle.aeth_server.specs.Shape.{round_trip};
 
 use crate::slot_set::set_of;
-use aeth_server::{ChannelShape, buffer, deadline};
+use aeth_server::{ChannelShape, buffer, deadline, latency};
 
 // A channel: its table, its need, its slots and the delay of its path, the slots and the delay of the
 // opposite channel, and the delay of its receiver.
@@ -114,30 +115,39 @@ pub(crate) fn shape_of(channel: &Channel) -> Option<ChannelShape>
     })
 }
 
-// A channel, its latency with the path, and its buffer in words.
-static BUFFERS: [(Channel, u32, u32); 7] = [
-    (SPREAD, 4, 9),
-    (SINGLE, 6, 6),
-    (DELAYED, 4, 9),
-    (ANSWERING, 6, 5),
-    (NEAREST, 2, 12),
-    (FARTHEST, 32, 8324),
-    (RAREST, 65, 5),
+// A channel, its latency with the path, its round trip, and its buffer in words.
+static BUFFERS: [(Channel, u32, u32, u32); 7] = [
+    (SPREAD, 4, 13, 9),
+    (SINGLE, 6, 13, 6),
+    (DELAYED, 4, 13, 9),
+    (ANSWERING, 6, 11, 5),
+    (NEAREST, 2, 5, 12),
+    (FARTHEST, 32, 4161, 8324),
+    (RAREST, 65, 161, 5),
 ];
 
-// The latency of a channel with the path, and its buffer.
-fn latency_and_buffer(channel: &Channel) -> Option<(u32, u32)> {
+// The round trip of a word and its credit, in cycles.
+fn round_trip(shape: &ChannelShape) -> u32
+    requires { IsShapeInRange shape.now }
+    ensures { result ≡ round_trip (shape_of shape.now) }
+{
+    let credits = latency(&shape.back, 15, shape.rate());
+    shape.latency() + shape.delay + 1 + credits + shape.back_links
+}
+
+// The latency, the round trip and the buffer of a channel.
+fn numbers_of(channel: &Channel) -> Option<(u32, u32, u32)> {
     match shape_of(channel) {
-        Some(shape) => Some((shape.latency(), buffer(&shape))),
+        Some(shape) => Some((shape.latency(), round_trip(&shape), buffer(&shape))),
         None => None,
     }
 }
 
-// The latency and the buffer of the first channel that has others.
-fn first_other_buffer() -> Option<(u32, u32)> {
-    for &(channel, latency, words) in &BUFFERS {
-        if latency_and_buffer(&channel) != Some((latency, words)) {
-            return Some((latency, words));
+// The latency, the round trip and the buffer of the first channel that has others.
+fn first_other_buffer() -> Option<(u32, u32, u32)> {
+    for &(channel, latency, trip, words) in &BUFFERS {
+        if numbers_of(&channel) != Some((latency, trip, words)) {
+            return Some((latency, trip, words));
         }
     }
     None

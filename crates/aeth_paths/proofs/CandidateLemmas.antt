@@ -19,7 +19,7 @@ use Rattle.aeth_paths.specs.Candidates.{IsAllowed, IsCandidate, IsFirst, gap_on,
 use Rattle.aeth_paths.specs.Candidates.{path_order, slots_of}
 use Rattle.aeth_paths.specs.Open.{is_crowded}
 use Rattle.aeth_paths.specs.Pairs.{HasEnds, IsOffered, OfferedFrom, Tries}
-use Rattle.aeth_paths.specs.declared.search.Task.{Task}
+use Rattle.aeth_paths.specs.declared.prefix.Task.{Task}
 use Rattle.aeth_paths.specs.Trials.{IsSized}
 use Rattle.aeth_paths.specs.Walk.{IsTask, costs_of}
 use Rattle.aeth_chip.specs.declared.node.Link.{Link}

@@ -26,8 +26,8 @@ use Rattle.aeth_paths.specs.Open.{is_near, is_open}
 use Rattle.aeth_paths.specs.Search.{Field, Walks}
 use Rattle.aeth_paths.specs.Task.{field}
 use Rattle.aeth_paths.specs.declared.search.Goal.{Goal}
-use Rattle.aeth_paths.specs.declared.search.Priced.{Priced}
-use Rattle.aeth_paths.specs.declared.search.Task.{Task}
+use Rattle.aeth_paths.specs.declared.priced.Priced.{Priced}
+use Rattle.aeth_paths.specs.declared.prefix.Task.{Task}
 use Rattle.aeth_paths.specs.Walk.{GainsNothing, IsLeastFrom, IsTask, Stands, costs_of, field_of}
 use Rattle.aeth_paths.specs.Walk.{is_before, path_in, priced}
 use Rattle.aeth_paths.proofs.GiveUpLemmas.{AllCost, fewest-cost, outdone-none}

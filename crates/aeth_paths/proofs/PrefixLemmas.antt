@@ -24,8 +24,8 @@ use Rattle.aeth_slots.specs.SlotSet.{Slots}
 use Rattle.aeth_book.specs.Book.{BookData}
 use Rattle.aeth_book.specs.Free.{free_starts, narrowed, used_slots}
 use Rattle.aeth_book.proofs.FreeLemmas.{free-push}
-use Rattle.aeth_paths.specs.declared.search.Prefix.{Prefix}
-use Rattle.aeth_paths.specs.declared.search.Task.{Task}
+use Rattle.aeth_paths.specs.declared.prefix.Prefix.{Prefix}
+use Rattle.aeth_paths.specs.declared.prefix.Task.{Task}
 use Rattle.aeth_paths.specs.Candidates.{link_cost, path_cost}
 use Rattle.aeth_paths.specs.Costs.{price}
 use Rattle.aeth_paths.specs.Limits.{max_cost}

@@ -22,13 +22,13 @@ use Rattle.aeth_chip.specs.Nodes.{begins_at, is_router, same_node, sends_on}
 use Rattle.aeth_chip.proofs.NodeLemmas.{length-numbers_from, same_node-refl}
 use Rattle.aeth_chip.proofs.WireLemmas.{sum_by-take_more}
 use Rattle.aeth_group.proofs.ListLemmas.{take-at}
-use Rattle.aeth_paths.specs.declared.search.Priced.{Priced}
+use Rattle.aeth_paths.specs.declared.priced.Priced.{Priced}
 use Rattle.aeth_paths.specs.declared.search.Turn.TheVariants.{Goes}
 use Rattle.aeth_paths.specs.Open.{is_open, open_steps}
 use Rattle.aeth_paths.specs.Search.{Field, along, by_turn, completions, first_from, is_new}
 use Rattle.aeth_paths.specs.Search.{passes, turn_of}
 use Rattle.aeth_paths.specs.Task.{links_from}
-use Rattle.aeth_paths.specs.declared.search.Task.{Task}
+use Rattle.aeth_paths.specs.declared.prefix.Task.{Task}
 use Rattle.aeth_paths.specs.Walk.{IsTask, Stands, path_in, priced}
 use Rattle.aeth_paths.proofs.JoinLemmas.{leaving-begins, passes-push}
 use Rattle.aeth_paths.proofs.FirstLemmas.{first_from-append}

@@ -12,8 +12,8 @@ use Rattle.aeth_paths.specs.Search.{turn_of}
 use Rattle.aeth_paths.specs.Task.{links_from}
 use Rattle.aeth_paths.specs.Walk.{IsPrefix, IsTask, Stands, costs_of, field_of}
 use Rattle.aeth_paths.specs.declared.search.Goal.{Goal}
-use Rattle.aeth_paths.specs.declared.search.Prefix.{Prefix}
-use Rattle.aeth_paths.specs.declared.search.Task.{Task}
+use Rattle.aeth_paths.specs.declared.prefix.Prefix.{Prefix}
+use Rattle.aeth_paths.specs.declared.prefix.Task.{Task}
 use Rattle.aeth_paths.specs.declared.search.Turn.TheVariants.{Goes}
 use Rattle.aeth_paths.proofs.HopelessLemmas.{task-cost}
 use Rattle.aeth_paths.proofs.JoinLemmas.{leaving-begins}

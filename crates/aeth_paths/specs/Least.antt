@@ -14,7 +14,7 @@ use Rattle.aeth_chip.specs.declared.node.Node.TheVariants.{Router}
 use Rattle.aeth_paths.specs.Search.{Field, Walks}
 use Rattle.aeth_paths.specs.Walk.{costs_of, field_of}
 use Rattle.aeth_paths.specs.declared.search.Goal.{Goal}
-use Rattle.aeth_paths.specs.declared.search.Task.{Task}
+use Rattle.aeth_paths.specs.declared.prefix.Task.{Task}
 
 -- Links that walk on from a node to the goal, where they're at most so many, cost at least so much.
 abbrev pub CostsAtLeast : Field → Node → List LinkId → ℕ → ℕ → Type 0

@@ -4,9 +4,9 @@ use Rattle.aeth_base.specs.declared.ids.LinkId.{LinkId}
 use Rattle.aeth_paths.specs.Search.{along, completions, first_from, turn_of}
 use Rattle.aeth_paths.specs.Walk.{costs_of, field_of, path_in, priced}
 use Rattle.aeth_paths.specs.declared.search.Goal.{Goal}
-use Rattle.aeth_paths.specs.declared.search.Prefix.{Prefix}
-use Rattle.aeth_paths.specs.declared.search.Priced.{Priced}
-use Rattle.aeth_paths.specs.declared.search.Task.{Task}
+use Rattle.aeth_paths.specs.declared.prefix.Prefix.{Prefix}
+use Rattle.aeth_paths.specs.declared.priced.Priced.{Priced}
+use Rattle.aeth_paths.specs.declared.prefix.Task.{Task}
 use Rattle.aeth_paths.specs.declared.search.Turn.{Turn}
 use Rattle.aeth_paths.specs.declared.search.Turn.TheVariants.{Away, Ends, Goes}
 

@@ -29,9 +29,9 @@ use Rattle.aeth_paths.specs.Limits.{max_cost}
 use Rattle.aeth_paths.specs.Search.{Field, completions, first_from, passes}
 use Rattle.aeth_paths.specs.Task.{field}
 use Rattle.aeth_paths.specs.declared.search.Goal.{Goal}
-use Rattle.aeth_paths.specs.declared.search.Prefix.{Prefix}
-use Rattle.aeth_paths.specs.declared.search.Priced.{Priced}
-use Rattle.aeth_paths.specs.declared.search.Task.{Task}
+use Rattle.aeth_paths.specs.declared.prefix.Prefix.{Prefix}
+use Rattle.aeth_paths.specs.declared.priced.Priced.{Priced}
+use Rattle.aeth_paths.specs.declared.prefix.Task.{Task}
 
 -- The book and the least distances are those of the chip's links, and all are what they must be.
 pub record IsTask (task : Task) : Type 0 where

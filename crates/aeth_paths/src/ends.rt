@@ -7,8 +7,8 @@ ghost use Rattle.aeth_paths.specs.Candidates.{is_live, slots_of};
 ghost use Rattle.aeth_paths.specs.Pairs.{HasEnds};
 ghost use Rattle.aeth_paths.specs.Walk.{IsTask};
 
+use crate::prefix::Task;
 use crate::request::Found;
-use crate::search::Task;
 use aeth_base::{NiId, Path};
 use aeth_chip::Node;
 use aeth_slots::{SlotSet, choose};

@@ -13,7 +13,7 @@ ghost use Rattle.aeth_paths.specs.Search.{Walks};
 ghost use Rattle.aeth_paths.specs.Task.{field};
 ghost use Rattle.aeth_paths.specs.Walk.{IsTask, costs_of};
 
-use crate::search::Task;
+use crate::prefix::Task;
 use aeth_base::{LinkId, MAX_PATH_LINKS, MAX_SLOTS, NiId, RouterId};
 use aeth_chip::{MAX_LINKS, MAX_PORTS, MAX_ROUTERS, Node};
 

@@ -6,6 +6,8 @@ mod ends;
 pub mod laws;
 mod least;
 mod pairs;
+mod prefix;
+mod priced;
 mod request;
 mod search;
 mod trial;

@@ -21,8 +21,10 @@ ghost use Rattle.aeth_paths.specs.Walk.{IsPrefix, IsTask, Stands, costs_of, path
 use crate::cost::Cost;
 use crate::ends::found;
 use crate::least::{is_weighed, least_costs, link_costs};
+use crate::prefix::{Prefix, Task};
+use crate::priced::Priced;
 use crate::request::{Found, Request};
-use crate::search::{Goal, Prefix, Priced, Task, extend, is_hopeless};
+use crate::search::{Goal, extend, is_hopeless};
 use aeth_base::{LinkId, MAX_PATH_LINKS, NiId, NoMemory, Path, Steps};
 use aeth_book::Book;
 use aeth_chip::{Chip, Distances, Node};

@@ -1,44 +1,24 @@
 // The search: a list of links is extended link by link, and given up where no better path goes on.
-ghost use Rattle.std.specs.Prelude.{◌≡◌, ◌+◌, ◌<◌, ◌≤◌, ◌++◌, ◌∷◌, ◌↔◌, ◌⊎◌, [], ℕ, List};
-ghost use Rattle.std.specs.Prelude.{true, false, Contains, IsTrue, length, map, slice_get};
-ghost use Rattle.std.specs.Cmp.Lexicographic.{slice_cmp};
-ghost use Rattle.std.specs.Ordering.{is_lt, nat_cmp};
-ghost use Rattle.std.specs.Int.{bit_at};
+ghost use Rattle.std.specs.Prelude.{◌≡◌, ◌+◌, ◌≤◌, ◌<◌, ◌++◌, ◌∷◌, [], true, false};
+ghost use Rattle.std.specs.Prelude.{Contains, IsTrue, length, slice_get};
 ghost use Rattle.aeth_base.specs.Limits.{max_path_links};
-ghost use Rattle.aeth_base.specs.declared.ids.LinkId.{LinkId};
-ghost use Rattle.aeth_base.specs.declared.ids.RouterId.{RouterId};
-ghost use Rattle.aeth_chip.specs.Limits.{max_routers};
-ghost use Rattle.aeth_chip.specs.declared.node.Node.TheVariants.{Router};
 ghost use Rattle.aeth_chip.specs.Chip.{IsNode};
-ghost use Rattle.aeth_chip.specs.Paths.{to_of};
-ghost use Rattle.aeth_paths.specs.Candidates.{is_live};
 ghost use Rattle.aeth_chip.specs.LeastOnward.{least_from};
+ghost use Rattle.aeth_chip.specs.Paths.{to_of};
 ghost use Rattle.aeth_paths.specs.Least.{IsGoal, PathsCost};
 ghost use Rattle.aeth_paths.specs.Open.{is_open, open_steps};
 ghost use Rattle.aeth_paths.specs.Over.{IsTurnFor};
 ghost use Rattle.aeth_paths.specs.Search.{completions, first_from, keep, turn_of};
 ghost use Rattle.aeth_paths.specs.Task.{links_from};
 ghost use Rattle.aeth_paths.specs.Walk.{GainsNothing, IsLeastFrom, IsPrefix, IsTask, Stands};
-ghost use Rattle.aeth_paths.specs.Walk.{costs_of, field_of, is_before, path_in, priced};
+ghost use Rattle.aeth_paths.specs.Walk.{costs_of, field_of, path_in, priced};
 
-use crate::cost::Prices;
 use crate::least::{entry, least_onward};
-use crate::request::Request;
-use aeth_base::{LinkId, NiId, Path, Steps};
-use aeth_book::Book;
-use aeth_chip::{Chip, Distances, Link, MAX_PORTS, Node};
-use aeth_slots::SlotSet;
+use crate::prefix::{Prefix, Task, grown, is_live};
+use crate::priced::{Priced, comes_before, may_precede, with_cost};
+use aeth_base::{LinkId, NiId, Steps};
+use aeth_chip::{Chip, MAX_PORTS, Node};
 use std::sync::ledger::Ledger;
-
-/// What a search reads.
-#[derive(Clone, Copy)]
-pub(crate) struct Task<'a> {
-    pub chip: &'a Chip,
-    pub far: &'a Distances,
-    pub book: &'a Book,
-    pub prices: &'a Prices,
-    pub ask: Request,
-}
 
 /// The interface that a path must lead to, and the most links that it may have; and what links cost
 /// at least, each one and those that lead on from a router.
@@ -48,25 +28,6 @@ pub(crate) struct Goal<'a> {
     pub most: u32,
     pub costs: &'a [u32],
     pub least: &'a [u32],
-}
-
-/// A list of links from a sender, the node that it leads to, and what the search knows of it: the
-/// routers that it passes, a bit for each, its delay, its cost and its free starts.
-#[derive(Clone, Copy)]
-pub(crate) struct Prefix {
-    pub path: Path,
-    pub end: Node,
-    pub passed: u64,
-    pub delay: u32,
-    pub cost: u32,
-    pub free: SlotSet,
-}
-
-/// A path with its cost.
-#[derive(Clone, Copy)]
-pub(crate) struct Priced {
-    pub path: Path,
-    pub cost: u32,
 }
 
 /// What a link is for a search: one to no new router, the last of a path, or one to a new router.
@@ -117,81 +78,6 @@ fn turn_at(task: &Task, goal: &Goal, prefix: &Prefix, link: LinkId) -> Turn
     }
 }
 
-/// A list with one more link. Counts one step.
-fn grown<L: Ledger>(task: &Task, prefix: &Prefix, link: LinkId, steps: &mut Steps<L>) -> Prefix
-    requires task { IsTask task.now }
-    requires prefix { IsPrefix task.now prefix.now }
-    requires short { length prefix.now.path < max_path_links }
-    requires link { link.0 < length task.now.chip.now.links }
-    ensures prefix { IsPrefix task.now result }
-    ensures path { result.path ≡ prefix.now.path ++ link ∷ [] }
-    ensures end { result.end ≡ to_of task.now.book.now.links link }
-    ensures node { IsNode task.now.chip.now.routers task.now.chip.now.nis result.end }
-    ensures steps { steps.new ≡ steps.old + 1 }
-{
-    let Link { to, delay, .. } = task.chip.link(link);
-    let unit = task.ask.unit;
-    let free = task
-        .book
-        .narrow(unit, link, prefix.delay, &prefix.free, steps);
-    let mut path = prefix.path;
-    path.push(link);
-    Prefix {
-        path,
-        end: to,
-        passed: with_node(task.chip, prefix.passed, to),
-        delay: prefix.delay + delay,
-        cost: prefix.cost + task.prices.of(delay, task.book.used(unit, link)),
-        free,
-    }
-}
-
-/// The routers that are passed, with that of a further node.
-fn with_node(chip: &Chip, passed: u64, node: Node) -> u64
-    requires { IsNode chip.now.routers chip.now.nis node }
-    ensures { (r : RouterId) → r.0 < max_routers
-        → (bit_at result r.0 ≡ 1) ↔ ((bit_at passed r.0 ≡ 1) ⊎ (node ≡ Router r)) }
-{
-    let _routers = chip.routers();
-    match node {
-        Node::Router(router) => passed | 1 << router.0,
-        Node::Ni(_) => passed,
-    }
-}
-
-/// Whether a list's free starts have suitable slots.
-fn is_live(task: &Task, prefix: &Prefix) -> bool
-    requires task { IsTask task.now }
-    requires prefix { IsPrefix task.now prefix.now }
-    ensures { result ≡ is_live task.now.book.now task.now.ask prefix.now.path }
-{
-    let gap = (task.ask.latency as u64 + 1).saturating_sub(prefix.delay as u64);
-    // No gap is greater than the table.
-    if gap >= prefix.free.size() as u64 {
-        return prefix.free.count() >= task.ask.need.max(1);
-    }
-    prefix.free.suitable(task.ask.need, gap as u32)
-}
-
-/// Whether a path comes before another: by cost, then by number of links, then by link numbers.
-fn comes_before(path: &Path, cost: u32, other: &Priced) -> bool
-    ensures { result ≡ is_before cost path.now other.now.cost other.now.path }
-{
-    if cost != other.cost {
-        return cost < other.cost;
-    }
-    if path.len() != other.path.len() {
-        return path.len() < other.path.len();
-    }
-    for i in 0..path.len() {
-        let (link, its) = (path.link(i), other.path.link(i));
-        if link.0 != its.0 {
-            return link.0 < its.0;
-        }
-    }
-    false
-}
-
 /// The first of what was best and a path, if it is a candidate.
 fn consider(task: &Task, goal: &Goal, prefix: &Prefix, best: Option<Priced>) -> Option<Priced>
     requires task { IsTask task.now }
@@ -215,16 +101,6 @@ fn consider(task: &Task, goal: &Goal, prefix: &Prefix, best: Option<Priced>) -> 
     }
 }
 
-/// A list as a path with its cost.
-fn with_cost(prefix: &Prefix) -> Priced
-    ensures { result ≡ record { path = prefix.now.path; cost = prefix.now.cost } }
-{
-    Priced {
-        path: prefix.path,
-        cost: prefix.cost,
-    }
-}
-
 /// The least number of links from a node to the goal.
 fn onward(task: &Task, goal: &Goal, node: Node) -> Option<u32>
     ensures { IsLeastFrom task.now.far.now goal.now.ni node result }
@@ -233,36 +109,6 @@ fn onward(task: &Task, goal: &Goal, node: Node) -> Option<u32>
         Node::Router(router) => task.far.onward(router, goal.ni),
         Node::Ni(ni) => task.far.between(ni, goal.ni),
     }
-}
-
-/// Whether each path that begins with a list of links comes behind a path by link numbers.
-fn is_behind(path: &Path, other: &Path) -> bool
-    ensures { IsTrue result → (rest : List LinkId)
-        → is_lt (slice_cmp nat_cmp (map (λ (link : LinkId). link.0) (path.now ++ rest))
-        (map (λ (link : LinkId). link.0) other.now)) ≡ false }
-{
-    for i in 0..path.len().min(other.len()) {
-        let (link, its) = (path.link(i), other.link(i));
-        if link.0 != its.0 {
-            return link.0 > its.0;
-        }
-    }
-    false
-}
-
-/// Whether a path with this beginning, of at least this cost and length, may come before a path.
-fn may_precede(path: &Path, cost: u64, links: u64, best: &Priced) -> bool
-    ensures { result ≡ false → (its : ℕ) (rest : List LinkId) → cost ≤ its
-        → links ≤ length (path.now ++ rest)
-        → is_before its (path.now ++ rest) best.now.cost best.now.path ≡ false }
-{
-    if cost != best.cost as u64 {
-        return cost < best.cost as u64;
-    }
-    if links != best.path.len() as u64 {
-        return links < best.path.len() as u64;
-    }
-    !is_behind(path, &best.path)
 }
 
 /// What the paths cost at least that go on from a list over a link to a new router.

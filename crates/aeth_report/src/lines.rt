@@ -6,7 +6,7 @@ ghost use Rattle.aeth_report.specs.LogText.{state_word};
 ghost use Rattle.aeth_report.specs.Regular.{IsOrdered};
 ghost use Rattle.aeth_text.specs.Limits.{line_feed, space};
 ghost use Rattle.aeth_text.specs.Spelling.{ended_line, side_word, text_of_lines};
-ghost use Rattle.std.specs.Prelude.{◌≡◌, ◌≤◌, ◌++◌, ◌∷◌, [], OnOk, decimal, drop, length};
+ghost use Rattle.std.specs.Prelude.{◌≡◌, ◌≤◌, ◌++◌, ◌∷◌, [], OnErr, OnOk, decimal, drop, length};
 
 use crate::log::{Landing, SessionLog};
 use aeth_base::{NoMemory, Side, push_number};
@@ -114,8 +114,9 @@ fn write_landing(line: &mut [u8], index: u64, row: &Landing) -> usize
 
 // Appends the line of a landing with its number.
 pub(crate) fn push_landing(out: &mut Vec<u8>, index: u64, row: &Landing) -> Result<(), NoMemory>
-    ensures { OnOk result (out.new.items
+    ensures ok { OnOk result (out.new.items
         ≡ out.old.items ++ ended_line (landing_line (index, row.now))) }
+    ensures err { OnErr result (out.new.items ≡ out.old.items) }
 {
     let mut line = [0; LANDING_ROOM];
     let start = write_landing(&mut line, index, row);

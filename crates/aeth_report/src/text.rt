@@ -3,7 +3,7 @@ ghost use Rattle.aeth_report.specs.LogText.{channel_lines, landing_line, lines_n
 ghost use Rattle.aeth_report.specs.LogText.{session_lines, text_of};
 ghost use Rattle.aeth_report.specs.Regular.{IsOrdered, IsRegular};
 ghost use Rattle.aeth_text.specs.Spelling.{text_of_lines};
-ghost use Rattle.std.specs.Prelude.{◌≡◌, ◌<◌, ◌++◌, All, IfOk, OnOk, flat_map, length, map};
+ghost use Rattle.std.specs.Prelude.{◌≡◌, ◌<◌, ◌++◌, All, IfOk, OnErr, OnOk, flat_map, length, map, take};
 ghost use Rattle.std.specs.List.{enumerate_from};
 
 use crate::lines::{
@@ -14,10 +14,12 @@ use aeth_app::App;
 use aeth_base::{NoMemory, Side};
 use std::alloc::Global;
 
-/// Appends the lines of landings, numbered from 1. Where memory is wanting, the first of them may stay.
+/// Appends the lines of landings, numbered from 1. Where memory is wanting, all that stood there still does, at
+/// the front.
 pub fn push_landings(out: &mut Vec<u8>, rows: &[Landing]) -> Result<(), NoMemory>
-    ensures { OnOk result (out.new.items
+    ensures ok { OnOk result (out.new.items
         ≡ out.old.items ++ text_of_lines (map landing_line (enumerate_from 1 rows.now))) }
+    ensures err { OnErr result (take (length out.old.items) out.new.items ≡ out.old.items) }
 {
     let mut index = 0_u64;
     for row in rows {

@@ -6,7 +6,7 @@ pub returns : goal.returns
 returns c =
     rw (
       c.in_ok-push.ensures.items,
-      c.in_ok-push_count.ensures,
-      c.in_ok-push_side_of.ensures,
+      c.in_ok-push_count.ensures.ok,
+      c.in_ok-push_side_of.ensures.ok,
       c.in_ok-extend_from_slice.ensures.items,
     ) (simp append_assoc)

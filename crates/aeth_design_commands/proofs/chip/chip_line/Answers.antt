@@ -23,12 +23,12 @@ returns c =
       sym c.nis.ensures.nis,
       sym c.links.ensures.links,
       c.in_ok-push.ensures.items,
-      c.in_ok-push_count-6.ensures,
-      c.in_ok-push_count-5.ensures,
-      c.in_ok-push_count-4.ensures,
-      c.in_ok-push_count-3.ensures,
-      c.in_ok-push_count-2.ensures,
-      c.in_ok-push_count.ensures,
+      c.in_ok-push_count-6.ensures.ok,
+      c.in_ok-push_count-5.ensures.ok,
+      c.in_ok-push_count-4.ensures.ok,
+      c.in_ok-push_count-3.ensures.ok,
+      c.in_ok-push_count-2.ensures.ok,
+      c.in_ok-push_count.ensures.ok,
       c.new-text.ensures.items,
     )
     (simp append_assoc (line_joined c.slots.result c.routers.result c.nis.result c.links.result

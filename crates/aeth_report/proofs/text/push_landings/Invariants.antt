@@ -1,4 +1,4 @@
-use Rattle.std.proofs.Common.{◌≡◌, ◌++◌, ◌+◌, drop, map}
+use Rattle.std.proofs.Common.{◌≡◌, ◌++◌, ◌+◌, drop, length, map, take}
 use Rattle.std.specs.List.{enumerate_from}
 use Rattle.aeth_text.specs.Spelling.{text_of_lines}
 use Rattle.aeth_report.specs.LogText.{landing_line}
@@ -11,4 +11,5 @@ invariant-loop-row l = record {
   printed : l.out.items ++ text_of_lines
       (map landing_line (enumerate_from (l.row-index + 1) (drop l.row-index l.rows)))
       ≡ l.fn.out.items ++ text_of_lines (map landing_line (enumerate_from 1 l.rows));
+  front : take (length l.fn.out.items) l.out.items ≡ l.fn.out.items;
 }
