@@ -30,11 +30,11 @@ def jobs() -> str:
     return str(len(os.sched_getaffinity(0)))
 
 
-# Verilator's code is compiled once and run once, so compiling it fast counts for more. Its signals stay apart, so queues of a
-# kind share their code. Large files read the long declarations less often, and short functions are compiled in less time.
+# What Verilator makes is compiled once and run once, so compiling it fast counts for more. With its signals kept apart, queues
+# of a kind have one code. One file reads the long declarations once, and short functions are compiled in less time.
 FAST = (
-    "-fno-gate", "--output-split", "400000", "--output-split-cfuncs", "2000",
-    "-MAKEFLAGS", "OPT_FAST=-O0", "-MAKEFLAGS", "OPT_SLOW=-O0", "-MAKEFLAGS", "OPT_GLOBAL=-O0",
+    "-fno-gate", "--output-split-cfuncs", "2000",
+    *(word for flag in ("VM_PARALLEL_BUILDS=0", "OPT_FAST=-O0", "OPT_SLOW=-O0", "OPT_GLOBAL=-O0") for word in ("-MAKEFLAGS", flag)),
 )
 
 SIMULATORS = {

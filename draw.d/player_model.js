@@ -148,8 +148,8 @@ class RunScene {
       while (flit < flits.length && flits[flit][0] < cycle) flit++;
       this.since[cycle] = flit;
     }
-    this.longest = Math.max(0, ...channels.flatMap(channel => channel.sessions.map(session => session.way.delay)));
     const sessions = channels.flatMap(channel => channel.sessions);
+    this.longest = sessions.reduce((longest, {way}) => Math.max(longest, way.delay), 0);
     this.eras = Int32Array.from(new Set(sessions.flatMap(({go, end}) => [go, end]))).sort();
   }
 

@@ -58,6 +58,7 @@ def play(chip: str, app: str, plan: str, *rest: str, units: PhysicalUnits | None
         design = design_of(files, units)
     progress.say("the page")
     chip_map = map_of(design)
-    page = player_page(title, player_data(design, chip_map, rest if len(rest) == 1 else list(design.app.uses), played), chip_map.width)
+    uses = rest if len(rest) == 1 else list(design.app.uses)
+    page = player_page(title, player_data(design, chip_map, uses, played), chip_map.width)
     progress.end()
     return page

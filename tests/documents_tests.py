@@ -1,5 +1,6 @@
 """Tests of what documents say: short sentences, words and files that are there, numbers that are one wherever they stand, and
 the pages CALLING.md, whose callers and contracts are those of the sources."""
+import fnmatch
 import pathlib
 import re
 import subprocess
@@ -123,6 +124,14 @@ class Words(unittest.TestCase):
                 if code.startswith("head -qn") or (code.startswith("git grep") and (TOP / ".git").exists()):
                     ran = subprocess.run(["sh", "-c", code], cwd=TOP, capture_output=True, check=False)
                     self.assertTrue(ran.stdout, f"{page}: {code}")
+
+    def test_every_script(self):
+        """The map has each file of the scripts and of the hardware, by its name or by how names begin, and no others."""
+        table = re.search(r"^\| Of \| What \| Files \|.*?\n\n", (TOP / "docs/ARCHITECTURE.md").read_text(), re.M | re.S)[0]
+        told = re.findall(r"`([\w.]+\.\w+|\w+_\*)`", table)
+        files = {file.name for place in ("draw.d", "design.d", "common.d", "rtl") for file in (TOP / place).iterdir() if file.is_file()}
+        self.assertEqual([name for name in told if not any(fnmatch.fnmatch(file, name) for file in files) and not name.endswith((".d", ".md"))], [])
+        self.assertEqual([file for file in sorted(files) if not any(fnmatch.fnmatch(file, name) for name in told)], [])
 
     def test_every_crate(self):
         """README's table has each library and program, and the map has each crate."""

@@ -99,13 +99,7 @@ fn row_on(rows: &[LinkRow], starts: &[u32], cycle: u64, link: LinkId) -> Option<
 }
 
 // Whether a flit was on a link a delay before, from which that of the row goes on.
-fn comes_from(
-    chip: &Chip,
-    rows: &[LinkRow],
-    starts: &[u32],
-    row: &LinkRow,
-    link: LinkId,
-) -> bool
+fn comes_from(chip: &Chip, rows: &[LinkRow], starts: &[u32], row: &LinkRow, link: LinkId) -> bool
     requires link { link.0 < length chip.now.links }
     requires rows { Rises is_later rows.now }
     requires starts { AreStarts rows.now starts.now }
