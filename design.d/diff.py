@@ -45,21 +45,26 @@ def section(head: str, text: str) -> str:
     return f"\n{head}\n{text}"
 
 
-def moves(changes: Changes) -> str:
-    """The channels with another path or other slots."""
-    columns = Column("channel"), Column("in"), Column("path"), Column("starts in slots")
-    rows = [
-        [
-            one.name, ", ".join(one.uses), compared(one, lambda it: path_of(changes, it)) if one.has_other_path else "",
-            compared(one, lambda it: " ".join(map(str, it.grant.starts))) if one.has_other_slots else "",
-        ]
-        for one in changes.channels if one.has_moved
-    ]
-    return section("Paths and slots", table(columns, rows)) if rows else ""
+def paths(changes: Changes) -> str:
+    """The channels on another path."""
+    found = [one for one in changes.channels if one.has_other_path]
+    columns = Column("channel"), Column("in"), Column("before"), Column("after")
+    rows = [[one.name, ", ".join(one.uses), path_of(changes, one.before), path_of(changes, one.after)] for one in found]
+    return section("Paths", table(columns, rows)) if rows else ""
 
 
-def path_of(changes: Changes, channel: Channel) -> str:
+def slots(changes: Changes) -> str:
+    """The channels whose flits start in other slots."""
+    found = [one for one in changes.channels if one.has_other_slots]
+    columns = Column("channel"), Column("in"), Column("slots of its first link")
+    rows = [[one.name, ", ".join(one.uses), compared(one, lambda it: " ".join(map(str, it.grant.starts)))] for one in found]
+    return section("Slots", table(columns, rows)) if rows else ""
+
+
+def path_of(changes: Changes, channel: Channel | None) -> str:
     """The nodes of a path, and its links, since two may lead from a router to another."""
+    if channel is None:
+        return ""
     nodes = " ".join(channel.nodes(changes.after.chip.links))
     return f"{nodes} (links {','.join(map(str, channel.grant.links))})"
 
@@ -137,7 +142,7 @@ def use_told(changes: Changes, use: str) -> str:
     return use if use in changes.after.app.uses else f"{use} (gone)"
 
 
-PARTS = (promises, moves, seats, wishes, others, links)
+PARTS = (promises, paths, slots, seats, wishes, others, links)
 
 
 def diff(chip_path: str, words: Sequence[str]) -> Result:

@@ -68,7 +68,7 @@ class Pictures(WithProgram):
                     self.beside(exact, cell, cell - float(exact) if name == "wished" else float(exact) - cell)
                 if unit == "ns" and cell is not None:
                     exact = units.seconds(Fraction(before)) * 10 ** 9
-                    self.beside(exact, cell, cell - float(exact))
+                    self.beside(exact, cell, float(exact) - cell if name == "within" else cell - float(exact))
         self.assertIn("A cycle is 1.876 ns, and a word has 4 bytes.", told)
 
     def beside(self, exact, cell, safe):
