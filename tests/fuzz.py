@@ -104,7 +104,8 @@ def why_unlike(case: Case, ran: Ran) -> str:
         if told.status > 1:
             if case.command.name == "report" and words[0] == "check" and not case.files["plan"] and ran.status == 0:
                 return ""
-            is_same = (ran.status, ran.errors) == (told.status, told.errors)
+            errors = ran.errors[: len(told.errors)] if case.command.says_more else ran.errors
+            is_same = (ran.status, errors) == (told.status, told.errors)
             return "" if is_same or ran.status == 1 and case.is_odd else f"`aeth {words[0]}` says {told}"
     return ""
 
