@@ -31,9 +31,10 @@ def jobs() -> str:
 
 
 # What Verilator makes is compiled once and run once, so compiling it fast counts for more. With its signals kept apart, queues
-# of a kind have one code. One file reads the long declarations once, and short functions are compiled in less time.
+# of a kind have one code; wide values go by calls; one file reads the long declarations once; and short functions are compiled
+# in less time.
 FAST = (
-    "-fno-gate", "--output-split-cfuncs", "2000",
+    "-fno-gate", "-fno-expand", "--output-split-cfuncs", "2000",
     *(word for flag in ("VM_PARALLEL_BUILDS=0", "OPT_FAST=-O0", "OPT_SLOW=-O0", "OPT_GLOBAL=-O0") for word in ("-MAKEFLAGS", flag)),
 )
 
