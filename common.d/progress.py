@@ -1,5 +1,5 @@
-"""Owns what a script says while it works on something large: on a terminal one line that is rewritten each second, else a
-line now and then. Small work is done without a word.
+"""Owns what a script says on a terminal while it works on something large: one line that is rewritten each second. Small work is
+done without a word, and so is all work whose messages go elsewhere.
 """
 from collections.abc import Iterator
 from contextlib import contextmanager
@@ -9,8 +9,7 @@ import time
 
 from ending import at_end, tell
 
-QUIET = 1.0  # seconds before the first word on a terminal, and from each to the next one
-APART = 30.0  # the same elsewhere
+QUIET = 1.0  # seconds before the first word, and from each to the next one
 
 
 class Progress:
@@ -42,20 +41,18 @@ class Teller:
         self.thread: Thread | None = None
 
     def start(self) -> None:
-        if self.thread is None:
+        if self.thread is None and sys.stderr is not None and sys.stderr.isatty():
             self.began = time.monotonic()
             self.thread = Thread(target=self.run, daemon=True)
             self.thread.start()
             at_end.append(self.end)
 
     def run(self) -> None:
-        is_terminal = sys.stderr is not None and sys.stderr.isatty()
-        while not self.is_over.wait(QUIET if is_terminal else APART):
+        while not self.is_over.wait(QUIET):
             told = [work for work in self.works if work.what]
             if told and not self.is_silent:
-                line = f"{told[-1].script}: {told[-1].what}, {time.monotonic() - self.began:.0f} s"
-                tell(f"\r{line}\033[K" if is_terminal else f"{line}\n")
-                self.is_shown = is_terminal
+                tell(f"\r{told[-1].script}: {told[-1].what}, {time.monotonic() - self.began:.0f} s\033[K")
+                self.is_shown = True
 
     def clear(self) -> None:
         """Takes the line from the terminal."""

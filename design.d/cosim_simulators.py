@@ -30,6 +30,14 @@ def jobs() -> str:
     return str(len(os.sched_getaffinity(0)))
 
 
+# What Verilator makes is compiled once and run once, so compiling it fast counts for more. With its signals kept apart, queues
+# of a kind have one code; wide values go by calls; one file reads the long declarations once; and short functions are compiled
+# in less time.
+FAST = (
+    "-fno-gate", "-fno-expand", "--output-split-cfuncs", "2000",
+    *(word for flag in ("VM_PARALLEL_BUILDS=0", "OPT_FAST=-O0", "OPT_SLOW=-O0", "OPT_GLOBAL=-O0") for word in ("-MAKEFLAGS", flag)),
+)
+
 SIMULATORS = {
     "icarus": Simulator(
         "Icarus Verilog", "iverilog", ("iverilog", "vvp"),
@@ -38,7 +46,7 @@ SIMULATORS = {
     ),
     "verilator": Simulator(
         "Verilator", "verilator", ("verilator", "g++", "make"),
-        ("verilator", "--binary", "--assert", "-Wno-fatal", "-j", jobs(), "-f", "bench.f", "--top-module", "aeth_bench"),
+        ("verilator", "--binary", "--assert", "-Wno-fatal", *FAST, "-j", jobs(), "-f", "bench.f", "--top-module", "aeth_bench"),
         ("--trace", f"-D{FLAG}"),
         ("obj_dir/Vaeth_bench", "+verilator+error+limit+1000000"),
     ),

@@ -81,7 +81,7 @@ class Units:
         if units:
             wish = connection.wish(unit.side)
             asked = f"wishes {units.rate(wish.words, wish.per, up=True)}" if wish.words else "carries credits alone,"
-            lines.append(f"It {asked} within {units.time(wish.latency, up=False)}.")
+            lines.append(f"It {asked} within {units.time(wish.latency)}.")
         why = why_none(self.ways, self.given.app, connection, unit.side, units)
         if why is None and self.tried < MOST_TRIED and self.given.seconds < MOST_SECONDS:
             self.tried += 1

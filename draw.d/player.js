@@ -1,7 +1,9 @@
 // The controls of a player, what it tells beside its map, and its keys.
 
 const STEPS = [0.5, 1, 2, 5, 10, 20, 50, 100, 200];  // speeds, in slots or cycles a second
+const CALM = 2;  // the greatest speed at which what is followed is kept in sight
 const TELL = 120;  // milliseconds between two texts while it plays
+const MOST_ERAS = 40;  // use cases of a run that are named below its cycles
 const WINDOW = 7;  // words of a channel that are told at a time
 const grouped = new Intl.NumberFormat("en").format;
 const many = (number, thing) => `${grouped(number)} ${thing}${number === 1 ? "" : "s"}`;
@@ -57,7 +59,7 @@ class Player {
       const end = switches[at + 1]?.[0] ?? scene.length;
       return element("span", {textContent: use, title: `${use} from cycle ${grouped(begin)}`, style: `flex-grow:${end - begin}`});
     }));
-    eras.hidden = switches.length < 2;
+    eras.hidden = switches.length < 2 || switches.length > MOST_ERAS;
   }
 
   get followable() {
@@ -197,6 +199,7 @@ class Player {
     if (!this.playing || now - this.told > TELL) {
       this.told = now;
       this.tell();
+      if (this.playing && this.followed && this.parts.speed.value <= CALM) this.bringNear();
     }
   }
 

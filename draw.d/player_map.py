@@ -70,8 +70,9 @@ def draw_link(chip_map: ChipMap, link: Link, lane: Lane) -> str:
     """A link's line and its empty table, with its number."""
     delay = f", {delay_of(link)}" if link.delay > 1 else ""
     turn = f"matrix(0 1 1 0 {lane.left} {lane.top})" if lane.upright else f"translate({lane.left} {lane.top})"
+    title = svg.title(f"link {link.number}, {link.source} to {link.target}{delay}")
     return (
-        f'<g>{svg.title(f"link {link.number}, {link.source} to {link.target}{delay}")}<path class="line" d="M{lane.route}"/>'
+        f'<g>{title}<path class="line" marker-end="url(#tip)" d="M{lane.route}"/>'
         f'{chip_parts.draw_sign(chip_map.strip, link, lane, chip_map.room)}<use href="#table" transform="{turn}"/></g>'
     )
 

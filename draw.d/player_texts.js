@@ -16,7 +16,7 @@ const tellPromise = (parts, channel, grant, way, data) => {
     latency: withUnits(many(grant.latency, "cycle"), grant.physical?.[1]),
     buffer: many(grant.buffer, "word"),
     wish: withUnits(`${rateOf(words, per)} words in 1,000 cycles (${grouped(words)} in ${grouped(per)})`, channel.physical?.[0])
-      + `; ${withUnits(many(latency, "cycle"), channel.physical?.[1])}`,
+      + `; latency ${withUnits(many(latency, "cycle"), channel.physical?.[1])}`,
     path: [data.links[way.links[0]][0], ...nodes].join(" \u2192 "),
     slots: grant.starts.join(" "),
   };

@@ -10,8 +10,8 @@ from progress import Progress
 from runs import Run, RunFiles
 
 MOST_CYCLES = 10_000  # of a run that is played, as of a log of links
-MOST_FLITS = 300_000  # on all links, of a run that a report plays
-MOST_PACKED = 400_000  # bytes, of the player of a report
+MOST_FLITS = 150_000  # on all links, of a run that a report plays
+MOST_PACKED = 250_000  # bytes, of the player of a report
 ALONE = "`./draw play`, with the words of this report, makes a page of its own for it"
 
 
@@ -58,6 +58,7 @@ def play(chip: str, app: str, plan: str, *rest: str, units: PhysicalUnits | None
         design = design_of(files, units)
     progress.say("the page")
     chip_map = map_of(design)
-    page = player_page(title, player_data(design, chip_map, rest if len(rest) == 1 else list(design.app.uses), played), chip_map.width)
+    uses = rest if len(rest) == 1 else list(design.app.uses)
+    page = player_page(title, player_data(design, chip_map, uses, played), chip_map.width)
     progress.end()
     return page

@@ -101,7 +101,8 @@ for (const details of document.querySelectorAll(".picture")) {
 const player = document.querySelector("#play");
 player?.addEventListener("toggle", () => {
   const stage = player.querySelector("#stage");
-  if (!player.open || stage.shadowRoot) return;
+  if (!player.open || stage.dataset.isOpened) return;
+  stage.dataset.isOpened = true;
   openPlayer(stage, false).catch(error => { stage.textContent = `This browser can't show the player: ${error.message}`; });
 });
 const asked = location.hash.length > 1 && document.getElementById(decodeURIComponent(location.hash.slice(1)));

@@ -147,13 +147,13 @@ def cells_of(line: Line) -> dict[Column, Cell]:
 
 
 def units_of(line: Line, units: PhysicalUnits) -> dict[Column, Cell]:
-    """What stands in the columns of a line that are in physical units: what is guaranteed is rounded to its safe side."""
-    def time(cycles: float | None) -> Cell:
-        return None if cycles is None else float(units.nanoseconds(Fraction(cycles)))
+    """What stands in the columns of a line that are in physical units: what is wished and guaranteed, rounded to its safe side."""
+    def time(cycles: float | None, up: bool = True) -> Cell:
+        return None if cycles is None else float(units.nanoseconds(Fraction(cycles), up))
 
     wished = float(units.megabytes(line.wish.words, line.wish.per, up=True))
     rate = None if line.rate is None else float(units.megabytes(line.rate, line.slots))
-    cells = [wished, time(line.wish.latency), rate, time(line.latency), time(line.middle), time(line.worst)]
+    cells = [wished, time(line.wish.latency, up=False), rate, time(line.latency), time(line.middle), time(line.worst)]
     return dict(zip(IN_UNITS.values(), cells))
 
 

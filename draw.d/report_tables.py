@@ -23,11 +23,15 @@ def links_table(facts: Facts) -> Table[Link]:
     for use in facts.app.uses:
         columns.append(load_column(facts, use))
     run = facts.run
-    return Table([
-        *columns,
+    columns += [
         Column[Link]("flits", "flits", lambda link: run.flits[link.number] if run else None),
-        Column[Link]("run_load", "% of the cycles", lambda link: short(100 * run.flits[link.number] / run.cycles) if run else None),
-    ], facts.chip.links)
+        Column[Link]("run_load", "% of the cycles", lambda link: share(run.flits[link.number], run.cycles) if run else None),
+    ]
+    return Table(columns, facts.chip.links)
+
+
+def share(flits: int, cycles: int) -> int | float | None:
+    return short(100 * flits / cycles)
 
 
 def load_column(facts: Facts, use: str) -> Column[Link]:
@@ -78,7 +82,8 @@ def switches_table(facts: Facts) -> Table[Change]:
         return app.uses[change.new].connections if change.old is None else left(change.new, change.old)
 
     def kept(change: Change) -> list[str]:
-        return [name for name in app.uses[change.new].connections if name not in opened(change)]
+        gone = frozenset(opened(change))
+        return [name for name in app.uses[change.new].connections if name not in gone]
 
     return Table([
         Column[Change]("cycle", "cycle", lambda change: change.cycle),

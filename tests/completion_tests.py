@@ -62,7 +62,7 @@ class Bash(WithText):
 
     def test_commands(self):
         pages = {page.name for page in (self.folder / "aeth.d/help").iterdir()} - {"aeth"}
-        self.assertEqual(set(self.offered("./aeth", "")), pages | {"help", "--version", "--prove-only"})
+        self.assertEqual(set(self.offered("./aeth", "")), pages | {"help", "--version", "--prove-only", "--unproved"})
         for script in ("design", "draw"):
             self.assertEqual(self.offered(f"./{script}", ""), [*commands_of(script), "help"])
             self.assertGreater(len(commands_of(script)), 4)
@@ -107,12 +107,16 @@ class Bash(WithText):
         self.assertEqual(self.offered("./design", "chip", ""), ["mesh", "torus", "ring", "tree"])
         self.assertEqual(self.offered("./design", "chip", "mesh", "2", "--slots", "8", ""), [])
         self.assertIn("--cosim", self.offered("./draw", "report", *"xxxxxx", "9", ""))
+        self.assertEqual(self.offered("./draw", "report", *"xxx", "--csv", ""), ["channels", "links", "switches"])
+        self.assertEqual(self.offered("./draw", "report", *"xxx", "--j"), ["--json"])
+        self.assertEqual(self.offered("./draw", "report", "--csv", ""), ["channels", "links", "switches"])
 
     def test_words_of_a_refusal(self):
         found = self.offered("./design", "where", "")
         self.assertIn("allocate", found)
         self.assertNotIn("completion", found)
-        self.assertEqual(self.offered("./design", "where", "tables", "x", "examples/two.toml", "x", ""), ["u0", "u1"])
+        for before in (("./design", "where"), ("./aeth", "--unproved")):
+            self.assertEqual(self.offered(*before, "tables", "x", "examples/two.toml", "x", ""), ["u0", "u1"])
 
     def test_loaded_as_the_page_tells(self):
         told = 'source <(./aeth completion bash); complete -p aeth design draw'

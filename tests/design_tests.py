@@ -290,14 +290,18 @@ class Help(Designs):
     """The page of help."""
 
     WORDS = {"chip": ("ring", "3"), "words": (*Traces.FILES, "menu", "99"), "switches": (*Traces.FILES, "99", "menu"),
-             "fit": (EXAMPLES / "pair.toml", EXAMPLES / "one.toml")}
+             "fit": (EXAMPLES / "pair.toml", EXAMPLES / "one.toml"), "app": (EXAMPLES / "camera.flows.csv", "--clock", "1GHz")}
+
+    # Words without which nothing stands in their place.
+    WITHOUT = {"--at", "--plan", "--stall", "--wave", "--seats", "--chip", "--smooth", "--free", "--words", "--receivers"}
 
     def test_defaults(self):
         """Each command makes the same without and with the words that its page says it has then."""
         page = self.run_script("design", "help")[1]
         for command, text in re.findall(r"^design (\w+) (.*?)^$", page, re.M | re.S):
             defaults = re.findall(r"--\w+ [\w,]*\w", "".join(re.findall(r"Without th\w+ words?: (.*)", text)))
-            optional = set(re.findall(r"\[(--\w+) ", text)) - {"--at", "--plan", "--stall", "--wave"}
+            text = text.replace("[--clock CLOCK [--word SIZE]]", "")
+            optional = set(re.findall(r"\[(--\w+) ", text)) - self.WITHOUT
             self.assertEqual({default.split(" ")[0] for default in defaults}, optional, command)
             if command in self.WORDS:
                 made = [self.run_script("design", command, *self.WORDS[command], *more)[1]

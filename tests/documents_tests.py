@@ -1,5 +1,6 @@
 """Tests of what documents say: short sentences, words and files that are there, numbers that are one wherever they stand, and
 the pages CALLING.md, whose callers and contracts are those of the sources."""
+import fnmatch
 import pathlib
 import re
 import subprocess
@@ -15,7 +16,7 @@ CALLING = sorted(TOP.glob("crates/*/CALLING.md"))
 SOURCES = ("crates/*/src/**/*.rt", "crates/*/specs/**/*.antt", "crates/*/proofs/**/*.antt", "crates/*/must-fail/*", "crates/*/data/*",
            "*.d/**/*", "rtl/*", "tests/*", "bench/*.*", "examples/*", "aeth", "design", "draw", "crates.txt", ".ci/*")
 # Words of the machine, of other tools, and letters of formulas.
-ELSEWHERE = {"mypy", "pyflakes3", "twinwave", "HashMap", "RT_JOBS", "expand", "tau", "theta_b", "e309", "rtl_", "cosim_", "read_"}
+ELSEWHERE = {"mypy", "pyflakes3", "twinwave", "HashMap", "RT_JOBS", "expand", "tau", "theta_b", "e309"}
 NUMBERS = {"one": 1, "two": 2, "three": 3, "four": 4, "five": 5, "six": 6, "seven": 7, "eight": 8, "nine": 9, "ten": 10}
 # What documents call a limit, and the definition that has it.
 LIMITS = {
@@ -75,9 +76,11 @@ class Words(unittest.TestCase):
                 if file.is_file() and file.suffix not in (".png", ".pyc"):
                     known.update(re.findall(r"\w+", file.read_text(errors="replace")))
         for page in PAGES + CALLING + sorted(TOP.glob("crates/*/README.md")):
+            made = set(re.findall(r"> (\w+)", page.read_text()))  # by a command of the page
             for code in re.findall(r"`([^`]+)`", prose(page)):
                 for word in re.findall(r"[^\W\d]\w{2,}", code):
-                    self.assertTrue(word in known, f"{page}: {word} of {code}")
+                    begins = word.endswith("_") and any(other.startswith(word) for other in known)
+                    self.assertTrue(begins or word in known or word in made, f"{page}: {word} of {code}")
 
     def test_definitions_of_the_rules(self):
         """`crate/File`, and behind a comma a further file of it, is there and has the words that stand in brackets behind it."""
@@ -106,10 +109,14 @@ class Words(unittest.TestCase):
                     self.assertTrue(word in known, f"{crate}: {word} of {code}")
 
     def test_commands_in_lines(self):
-        """A command within a line is one that there is, and one that looks something up finds it."""
+        """A command within a line is one that there is, and one that looks something up finds it. README has each command."""
         verbs = {"./aeth": {page.name for page in (TOP / "aeth.d/help").iterdir()} | {"help"}}
         for name in ("design", "draw"):
             verbs[f"./{name}"] = set(re.findall(rf"^{name} ([a-z]+) ", sentences.docstring(TOP / name), re.M)) | {"help"}
+        told = (TOP / "README.md").read_text()
+        for script, known in verbs.items():
+            for verb in known - {"help", "aeth"}:
+                self.assertTrue(re.search(rf"(?:`|{script} ){verb}[` ]", told), f"{script} {verb}")
         for page in PAGES:
             for code in re.findall(r"`([^`]+)`", re.sub(r"\s+", " ", prose(page))):
                 script, _, rest = code.partition(" ")
@@ -118,6 +125,14 @@ class Words(unittest.TestCase):
                 if code.startswith("head -qn") or (code.startswith("git grep") and (TOP / ".git").exists()):
                     ran = subprocess.run(["sh", "-c", code], cwd=TOP, capture_output=True, check=False)
                     self.assertTrue(ran.stdout, f"{page}: {code}")
+
+    def test_every_script(self):
+        """The map has each file of the scripts and of the hardware, by its name or by how names begin, and no others."""
+        table = re.search(r"^\| Of \| What \| Files \|.*?\n\n", (TOP / "docs/ARCHITECTURE.md").read_text(), re.M | re.S)[0]
+        told = re.findall(r"`([\w.]+\.\w+|\w+_\*)`", table)
+        files = {file.name for place in ("draw.d", "design.d", "common.d", "rtl") for file in (TOP / place).iterdir() if file.is_file()}
+        self.assertEqual([name for name in told if not any(fnmatch.fnmatch(file, name) for file in files) and not name.endswith((".d", ".md"))], [])
+        self.assertEqual([file for file in sorted(files) if not any(fnmatch.fnmatch(file, name) for name in told)], [])
 
     def test_every_crate(self):
         """README's table has each library and program, and the map has each crate."""

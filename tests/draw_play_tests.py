@@ -109,7 +109,7 @@ class Played(WithProgram):
     def test_the_page(self):
         text = self.play(*PAIR_RUN, "24")
         page = Page(text)
-        self.assertEqual(len(page.scripts["application/zlib"]), 1)
+        self.assertEqual(len(page.scripts["player-data"]), 1)
         for words in ("<title>two: a run of 24 cycles</title>", 'lang="en"', "<noscript>", 'openPlayer(document.getElementById("stage"), true)'):
             self.assertIn(words, text)
 

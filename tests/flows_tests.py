@@ -83,6 +83,11 @@ class Examples(Flows):
             words = re.search(r"# Made by: \./design (.*)", text)[1].split(" ")
             self.assertEqual(self.home.design(*words), (0, text, ""), path.name)
 
+    def test_the_page_shows_what_is_made(self):
+        flows = (EXAMPLES / "camera.flows.csv").read_text()
+        line = re.search(r"(?m)^fwd = .*  # asked .*$", (TOP / "docs/TOOLS.md").read_text())[0]
+        self.assertIn(line + "\n", self.app(flows, clock="533MHz")[1])
+
     def test_all_are_the_same_both_ways(self):
         """Each is told as a table of flows, of which the application is made again."""
         for path in APPLICATIONS:

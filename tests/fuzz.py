@@ -4,7 +4,7 @@
 tests/fuzz.py [--count N] [--first N] [--seed N] [--jobs N] [--only SCRIPT:COMMAND]... [--case N] [--keep FOLDER]
 
 N cases of each command (1,000), from a first one on (0), of a seed (1), on all processors. A case fails where a script ends with a status that its page
-hasn't, with more than a line of its own, with a trace of Python's, with a letter that a terminal obeys, after a minute, or
+hasn't, with more than a line of its own, with a trace of Python's, with a letter that a terminal obeys, after a minute of work, or
 without `aeth`'s status and lines where `aeth` refused its files; and where what it makes isn't accepted. A case that fails
 is told with its number, by which --only and --case do it again, and its files and texts are kept in a folder.
 
@@ -35,10 +35,11 @@ from fuzz_answers import Calls, Ran, program, take  # noqa: E402: its folder is 
 from fuzz_cases import COMMANDS, Case, Command, bases, made  # noqa: E402
 from home import PROGRAM  # noqa: E402
 
-SECONDS = 60  # of a case
+SECONDS = 60  # of a processor, of a case
+MOST_SECONDS = 600  # in which it ends, on a machine that has much else to do
 MOST_MEMORY = 4 << 20  # KB, of a case
 MOST_SHOWN = 400
-TOO_MUCH = 1_000  # as a status: it took more memory
+TOO_MUCH = 1_000  # as a status: it took more memory or time
 STATUSES = {0, 1, 2, 3, 4}
 UNWRITTEN = 5  # where a folder may be one that can't be made
 BOUNDED = "keys and values other than strings"  # a file of more is accepted by nobody, or can't be read here
@@ -72,7 +73,7 @@ def play(code: CodeType, case: Case) -> Ran:
             for stream, path in enumerate((Path(os.devnull), out, errors)):
                 os.dup2(os.open(path, os.O_RDONLY if not stream else os.O_WRONLY | os.O_CREAT | os.O_TRUNC), stream)
             signal.signal(signal.SIGALRM, signal.SIG_DFL)
-            signal.alarm(SECONDS)
+            signal.alarm(MOST_SECONDS)
             os.chdir(case.folder)
             setattr(sys.modules["program"], "subprocess", Calls(notes))
             sys.argv = [str(TOP / case.command.script), case.command.name, *case.words]
@@ -85,7 +86,8 @@ def play(code: CodeType, case: Case) -> Ran:
             os._exit(1)
     _, ended, used = os.wait4(child, 0)
     take(notes)
-    status = os.waitstatus_to_exitcode(ended) if used.ru_maxrss < MOST_MEMORY else TOO_MUCH
+    is_much = used.ru_maxrss > MOST_MEMORY or used.ru_utime + used.ru_stime > SECONDS
+    status = TOO_MUCH if is_much else os.waitstatus_to_exitcode(ended)
     return Ran(status, out.read_bytes(), errors.read_bytes().decode("utf-8", "replace"))
 
 

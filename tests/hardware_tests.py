@@ -1,8 +1,8 @@
 """Tests of the modules in rtl/ and of `./design rtl` and `./design cosim`: the hardware of each example does what `aeth`
 says, each fault of a module is told, and the modules are as simulators and a synthesizer wish them.
 
-They need the Debian packages iverilog, verilator and yosys. As root they are installed where they are missing; where they
-can't be had the tests fail.
+They need the Debian packages iverilog, verilator, g++, make and yosys. As root they are installed where they are missing;
+where they can't be had the tests fail.
 """
 import os
 import re
@@ -19,7 +19,7 @@ from home import Home, PROGRAM, TOP
 sys.path.append(str(TOP / "bench"))
 import hardware  # noqa: E402: its folder is told above
 
-PROGRAMS = {"iverilog": "iverilog", "vvp": "iverilog", "verilator": "verilator", "yosys": "yosys"}
+PROGRAMS = {"iverilog": "iverilog", "vvp": "iverilog", "verilator": "verilator", "g++": "g++", "make": "make", "yosys": "yosys"}
 KINDS = ("headers", "tables")
 RANDOM_DESIGNS = 4
 
@@ -156,6 +156,16 @@ class Faults(WithHardware):
                 run = "chip", "app", "plan", "words", "receivers", "switches", CYCLES, "--routers", fault.routers
                 self.assertIn(fault.tells, self.cosim(*run, status=3))
             path.write_text(text, encoding="utf-8")
+
+    def test_verilator_tells_a_promise(self):
+        fault = FAULTS["a credit is added twice"]
+        path = self.home.top / f"rtl/aeth_{fault.module}.sv"
+        text = path.read_text(encoding="utf-8")
+        path.write_text(text.replace(fault.old, fault.new), encoding="utf-8")
+        run = "chip", "app", "plan", "words", "receivers", "switches", CYCLES, "--with", "verilator"
+        told = self.cosim(*run, status=3)
+        path.write_text(text, encoding="utf-8")
+        self.assertIn(fault.tells, told)
 
     def test_a_second_flit_for_a_port(self):
         """No accepted plan has one, so a bench of its own tells whether both are lost."""

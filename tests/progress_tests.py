@@ -40,7 +40,7 @@ class Slow(unittest.TestCase):
             self.assertRegex(told, rf"\A(\r{script}: [^\r\n]+, \d s\x1b\[K)+\Z", words)
             self.assertTrue(refused.startswith(REFUSED), words)
 
-    def test_nothing_elsewhere_before_half_a_minute(self):
+    def test_nothing_elsewhere(self):
         for script, *words in CALLS[:2]:
             self.assertEqual(self.home.run(*words, script=script), (2, "", REFUSED.replace("\r", "")))
 

@@ -105,7 +105,8 @@ class Readme(unittest.TestCase):
         for block in blocks:
             for command in re.split(r"\n(?=\S)", re.sub(r" *#.*", "", block.replace("\\\n", ""))):
                 if command.startswith(("./aeth ", "./draw ", "./design ")) and self.has_files(command):
-                    self.assertEqual(self.shell(f"({command.strip()}) >/dev/null || echo $?"), "", command)
+                    told = self.shell(f"({command.strip()}) >/dev/null || echo ended with $?")  # it may tell its progress
+                    self.assertNotIn("ended with", told, command)
 
     def test_commands_of_the_pages(self):
         shutil.copy(self.home.top / "examples/one.plan", self.home.top / "one.plan")

@@ -80,11 +80,11 @@ BEGIN {
     current = ARGV[1]; script = ARGV[2]; at = 3; last = ARGC - 1
     sub(/.*\//, "", script)
     is_own = 1
-    if (script == "design" && ARGV[at] == "where" && last >= at) { script = "aeth"; at++; is_own = 0 }
+    if (last >= at && (script ARGV[at] == "designwhere" || script ARGV[at] == "aeth--unproved")) { script = "aeth"; at++; is_own = 0 }
     if (last < at) {
         offer_commands()
         if (is_own) print "word help"
-        if (is_own && script == "aeth") { print "word --version"; print "word --prove-only" }
+        if (is_own && script == "aeth") { print "word --version"; print "word --prove-only"; print "word --unproved" }
         exit
     }
     command = ARGV[at]

@@ -10,7 +10,7 @@ function add(kind) {
     if (place > places) places = place
 }
 
-function finish(    count, words, i, depth, begins, options, line) {
+function finish(    count, words, i, depth, begins, option, value, values, names, many, line) {
     gsub(/\[/, " [ ", usage)
     gsub(/\]/, " ] ", usage)
     count = split(usage, words, " ")
@@ -21,12 +21,16 @@ function finish(    count, words, i, depth, begins, options, line) {
         else if (words[i] == "]") depth--
         else if (words[i] == "|") place = begins[depth]
         else if (words[i] ~ /^--/) {
-            options = options (options == "" ? "" : " ") words[i]
-            if (i < count && words[i + 1] !~ /^([]|[]$|--)/) options = options "=" words[++i]
+            option = words[i]
+            value = i < count && words[i + 1] !~ /^([]|[]$|--)/ ? words[++i] : ""
+            if (!(option in values)) names[++many] = option
+            values[option] = values[option] (values[option] == "" ? "" : "|") value
         } else if (words[i] != "..") add(words[i])
     }
     for (i = 0; i < places; i++) line = line (i ? " " : "") kinds[i]
-    print words[1] " " words[2] "\t" line "\t" options
+    line = words[1] " " words[2] "\t" line "\t"
+    for (i = 1; i <= many; i++) line = line (i > 1 ? " " : "") names[i] (values[names[i]] == "" ? "" : "=") values[names[i]]
+    print line
     usage = ""
 }
 

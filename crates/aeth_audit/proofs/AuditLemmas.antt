@@ -28,6 +28,7 @@ use Rattle.aeth_audit.specs.Judging.{IsJudge}
 use Rattle.aeth_audit.specs.Limits.{max_link_rows}
 use Rattle.aeth_audit.specs.LinkLog.{is_later}
 use Rattle.aeth_audit.specs.OpenSessions.{IsLastAlone}
+use Rattle.aeth_audit.specs.Starts.{AreStarts}
 use Rattle.aeth_audit.specs.Tables.{IsTable, address_of}
 use Rattle.aeth_audit.specs.declared.judge.Judge.{Judge}
 use Rattle.aeth_audit.proofs.TableLemmas.{placed}
@@ -115,8 +116,9 @@ module _ (app : AppData) (switches : List SwitchRow) (judge : Judge)
 
   -- They are what rows may be judged with, where these rise, are few, and on links of the chip.
   pub is_judge : Rises is_later judge.rows.now → length judge.rows.now ≤ max_link_rows
-      → All (λ row. row.link.0 < length judge.chip.now.links) judge.rows.now → IsJudge judge
-  is_judge rises few known = record {
+      → All (λ row. row.link.0 < length judge.chip.now.links) judge.rows.now
+      → AreStarts judge.rows.now judge.starts.now → IsJudge judge
+  is_judge rises few known starts = record {
     some = design.chip_is.some_slots;
     slots = table.slots;
     size = table.size;
@@ -129,6 +131,7 @@ module _ (app : AppData) (switches : List SwitchRow) (judge : Judge)
     rows = rises;
     few = few;
     known = known;
+    starts = starts;
   }
 
   -- And they are those of the plan through the switches.

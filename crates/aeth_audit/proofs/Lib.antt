@@ -3,6 +3,7 @@ pub mod ReservationLemmas
 pub mod OneReservation
 pub mod FaultLemmas
 mod SearchLemmas
+mod StartLemmas
 mod SessionLemmas
 mod CellLemmas
 mod PlaceLemmas

@@ -12,11 +12,13 @@ use Rattle.aeth_audit.specs.Limits.{max_link_rows}
 use Rattle.aeth_audit.specs.LinkLog.{is_later}
 use Rattle.aeth_audit.specs.OpenSessions.{HasOpen, IsLastAlone}
 use Rattle.aeth_audit.specs.Places.{ArePlaces, IsPlaced}
+use Rattle.aeth_audit.specs.Starts.{AreStarts}
 use Rattle.aeth_audit.specs.declared.judge.Judge.{Judge}
 use Rattle.aeth_audit.specs.declared.places.Place.{Place}
 
 -- What holds of what rows are judged with: the places are those of the plan's grants, the sessions
--- of a connection go in their order and are open one after the other, and the rows rise.
+-- of a connection go in their order and are open one after the other, the rows rise, and each cycle
+-- has the number of those before it.
 pub record IsJudge (judge : Judge) : Type 0 where
   pub some : 1 ≤ judge.chip.now.slots
   pub slots : judge.table.now.places.slots ≡ judge.chip.now.slots
@@ -30,6 +32,7 @@ pub record IsJudge (judge : Judge) : Type 0 where
   pub rows : Rises is_later judge.rows.now
   pub few : length judge.rows.now ≤ max_link_rows
   pub known : All (λ row. row.link.0 < length judge.chip.now.links) judge.rows.now
+  pub starts : AreStarts judge.rows.now judge.starts.now
 
 -- A session of the connection of a place's grant, by the grants of its group, may inject a flit in
 -- the cycle from which it would enter the link there in this one.

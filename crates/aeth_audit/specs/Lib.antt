@@ -9,5 +9,6 @@ pub mod Breaks
 pub mod Places
 pub mod OpenSessions
 pub mod Tables
+pub mod Starts
 pub mod Judging
 pub mod Judged

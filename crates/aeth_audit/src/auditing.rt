@@ -14,6 +14,7 @@ ghost use Rattle.aeth_text.specs.Order.{Rises};
 use crate::judge::Judge;
 use crate::log::LinkLog;
 use crate::row::LinkRow;
+use crate::starts::starts_of;
 use crate::table::Table;
 use crate::verdict::Audit;
 use aeth_app::App;
@@ -64,13 +65,16 @@ pub fn audit(
     // The laws tell that the run of these switches is sound, and which sessions it has.
     aeth_accepted::laws::runs_are_sound();
     aeth_reconf::laws::timelines_have_sessions();
+    let rows = rows_until(log, cycles);
+    let starts = starts_of(alloc, rows)?;
     let table = Table::of(alloc, chip, app, plan)?;
     let judge = Judge {
         chip,
         plan,
         table: &table,
         timeline,
-        rows: rows_until(log, cycles),
+        rows,
+        starts: &starts,
         cycles,
     };
     Ok(judge.first_fault())

@@ -53,6 +53,7 @@ pub(crate) struct Judge<'a> {
     pub table: &'a Table,
     pub timeline: &'a Timeline,
     pub rows: &'a [LinkRow],
+    pub starts: &'a [u32],
     pub cycles: u32,
 }
 
@@ -129,6 +130,7 @@ impl<'a> Judge<'a> {
         is_joined(
             self.chip,
             self.rows,
+            self.starts,
             self.cycles,
             &grant.path,
             place.place,

@@ -39,8 +39,8 @@ pub(crate) fn judge_known(rows: &[LinkRow], links: u32) -> Result<(), LogFault>
     Ok(())
 }
 
-/// Whether a row comes before those of a link in a cycle.
-pub(crate) fn is_before(cycle: u64, link: LinkId, row: &LinkRow) -> bool
+// Whether a row comes before those of a link in a cycle.
+fn is_before(cycle: u64, link: LinkId, row: &LinkRow) -> bool
     ensures { result ≡ is_before cycle link.0 row.now }
 {
     let at = row.cycle as u64;

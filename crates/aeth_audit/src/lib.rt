@@ -14,6 +14,7 @@ mod reading;
 mod row;
 mod rules;
 mod sessions;
+mod starts;
 mod table;
 mod verdict;
 

@@ -1,12 +1,23 @@
-use Rattle.std.proofs.Common.{rules}
-use Rattle.std.proofs.lemmas.List.Sorted.{IsPartitionPoint-from_clause}
-use Rattle.aeth_audit.specs.LinkLog.{is_before}
-use Rattle.aeth_audit.proofs.SearchLemmas.{before-first}
+use Rattle.std.proofs.Common.{◌+◌, ◌-◌, ◌/◌, arith}
+use Rattle.aeth_audit.proofs.StartLemmas.{halves-before, halves-behind}
 use Rattle.aeth_audit.proofs.rules.rows_before.Goals as goal
 
--- Those that come before are the first ones.
-pub returns : goal.returns
-returns c =
-    IsPartitionPoint-from_clause (is_before c.args.cycle c.args.link.0) _ _
-    c.partition_point.ensures.partitioned
-    (before-first c.args.rows.now c.requires c.args.cycle c.args.link.0) (λ a r f k. search rules)
+-- The row in the middle comes before the link.
+pub halves-preserved-then-rows-middle : goal.halves-preserved-then-rows-middle
+halves-preserved-then-rows-middle c =
+    let low = c.halves.low in
+    let high = c.halves.high in
+    let left = c.halves-test.true in
+    halves-before c.args.rows.now c.requires.rows c.args.cycle c.args.link.0 low high
+    (low + (high - low) / 2) _ c.halves.invariant (omega (arith, left)) (omega (arith, left))
+    c.if-rows-middle.true
+
+-- Or it doesn't.
+pub halves-preserved : goal.halves-preserved
+halves-preserved c =
+    let low = c.halves.low in
+    let high = c.halves.high in
+    let left = c.halves-test.true in
+    halves-behind c.args.rows.now c.requires.rows c.args.cycle c.args.link.0 low high
+    (low + (high - low) / 2) _ c.halves.invariant (omega (arith, left)) (omega (arith, left))
+    c.if-rows-middle.false

@@ -1,4 +1,4 @@
-use Rattle.std.proofs.Common.{◌∙◌, ◌<◌, arith, length, slice_index_or, subst, sym}
+use Rattle.std.proofs.Common.{◌∙◌, ◌<◌, length, slice_index_or, subst, sym}
 use Rattle.std.specs.Prelude.{All}
 use Rattle.std.proofs.lemmas.List.Elements.{All-map}
 use Rattle.aeth_clocked.specs.Wires.{AreLinks}

@@ -1,8 +1,7 @@
-use Rattle.std.proofs.Common.{ℕ, ◌+◌, ◌≡◌, ap, arith, subst, sym}
-use Rattle.std.specs.Prelude.{◌≤◌}
+use Rattle.std.proofs.Common.{ap, arith, subst, sym}
 use Rattle.aeth_slots.specs.SlotSet.{Ascends, IsSlotSet}
 use Rattle.aeth_server.specs.ChannelShape.{IsShapeInRange, shape_of}
-use Rattle.aeth_server.specs.Shape.{IsGranted, Shape, buffer_of}
+use Rattle.aeth_server.specs.Shape.{IsGranted, buffer_of}
 use Rattle.aeth_server.specs.declared.shape.ChannelShape.{ChannelShape}
 use Rattle.aeth_callers.proofs.server.safe_buffer.Goals as goal
 

@@ -5,9 +5,11 @@ use Rattle.aeth_explain.proofs.text_printing.push_name.Goals as goal
 
 -- There is no such connection.
 pub returns-else-conn-connections : goal.returns-else-conn-connections
-returns-else-conn-connections c =
-    rw (
-      slice_get-map (λ (one : Connection). one.name) c.args.app.now.connections c.args.conn.0,
-      slice_get_past c.args.app.now.connections c.args.conn.0 (omega arith),
-    )
-    (sym (append-nil c.args.out.now.items))
+returns-else-conn-connections c = record {
+  ok = rw (
+    slice_get-map (λ (one : Connection). one.name) c.args.app.now.connections c.args.conn.0,
+    slice_get_past c.args.app.now.connections c.args.conn.0 (omega arith),
+  )
+      (sym (append-nil c.args.out.now.items));
+  err = tt;
+}

@@ -3,8 +3,8 @@ use Rattle.std.proofs.lemmas.Option.{slice_get_past}
 use Rattle.aeth_files.proofs.plans.push_connection.Goals as goal
 
 -- The connection has a name.
-pub returns-in_ok-extend_from_slice : goal.returns-in_ok-extend_from_slice
-returns-in_ok-extend_from_slice c =
+pub returns-in_ok-extend_from_slice-clause-ok : goal.returns-in_ok-extend_from_slice-clause-ok
+returns-in_ok-extend_from_slice-clause-ok c =
     rw (
       c.in_ok-extend_from_slice.ensures.items,
       c.as_bytes.ensures.bytes,
@@ -12,7 +12,7 @@ returns-in_ok-extend_from_slice c =
     ) refl
 
 -- There is no such connection.
-pub returns-else-conn-connections : goal.returns-else-conn-connections
-returns-else-conn-connections c =
+pub returns-else-conn-connections-clause-ok : goal.returns-else-conn-connections-clause-ok
+returns-else-conn-connections-clause-ok c =
     rw (slice_get_past c.args.app.now.connections c.args.conn.0 (omega arith))
     (sym (append-nil c.args.text.now.items))

@@ -1,0 +1,16 @@
+use Rattle.std.proofs.Common.{ℕ, get_or, subst, arith}
+use Rattle.aeth_audit.specs.Starts.{PutsUntil}
+use Rattle.aeth_audit.specs.declared.row.LinkRow.{LinkRow}
+use Rattle.aeth_audit.proofs.StartLemmas.{starts-more}
+use Rattle.aeth_audit.proofs.starts.starts_of.Goals as goal
+
+-- One more row.
+pub loop-row-preserved : goal.loop-row-preserved
+loop-row-preserved c =
+    let number = c.loop-row.invariant.number in
+    record {
+      number = omega (arith, number);
+      starts = starts-more c.args.rows.now c.loop-row.row-index _ c.loop-row.starts.items
+          c.put_until.new.starts.items c.requires.rises c.loop-row-test.true
+          c.loop-row.invariant.starts (rw number at c.in_ok-put_until.ensures);
+    }
