@@ -53,6 +53,7 @@ SIMULATORS = {
 }
 PACKAGES = {"g++": "g++", "make": "make"}
 BROKEN = re.compile(r"aeth: (\w+) of (\S+) doesn't hold at (\d+)")
+TOP = "TOP."  # what Verilator has about the bench
 SCOPE = "aeth_bench.harness.network."
 
 
@@ -111,7 +112,7 @@ def played(simulator: Simulator, folder: Path, first_cycle: int, progress: Progr
                 elif told:
                     done = True
                 elif promise:
-                    place = re.sub(r"\.gen_queues\[(\d+)\]\.i_queue", r" at place \1", promise[2].removeprefix(SCOPE))
+                    place = re.sub(r"\.gen_queues\[(\d+)\]\.i_queue", r" at place \1", promise[2].removeprefix(TOP).removeprefix(SCOPE))
                     broken.append(Broken(promise[1], place, int(promise[3]) + first_cycle - 3))
                 else:
                     text.append(line)
