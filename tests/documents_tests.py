@@ -76,7 +76,7 @@ class Words(unittest.TestCase):
                 if file.is_file() and file.suffix not in (".png", ".pyc"):
                     known.update(re.findall(r"\w+", file.read_text(errors="replace")))
         for page in PAGES + CALLING + sorted(TOP.glob("crates/*/README.md")):
-            made = set(re.findall(r"> (\w+)", page.read_text()))  # by a command of the page
+            made = set(re.findall(r"(?:> |\becho |,)(\w+)", page.read_text()))  # by a command of the page
             for code in re.findall(r"`([^`]+)`", prose(page)):
                 for word in re.findall(r"[^\W\d]\w{2,}", code):
                     begins = word.endswith("_") and any(other.startswith(word) for other in known)
