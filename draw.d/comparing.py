@@ -4,7 +4,7 @@ import re
 from changes import Changes
 from design import Design
 from diff_picture import draw_diff
-from ending import Passed, printable, shortened
+from ending import NO_WORDS, Passed, printable, shortened
 from making import DesignFiles, design_of
 from physical_units import PhysicalUnits
 from program import Input, text_of
@@ -18,7 +18,7 @@ def judged_design(chip: Input, app: str, plan: str, script: str, units: Physical
     try:
         text_of("check", *files.words)
     except Passed as passed:
-        if OF_CHIP.match(passed.lines):
+        if passed.status == NO_WORDS or OF_CHIP.match(passed.lines):
             raise
         which = f"{script}: this is said of {printable(shortened(app))} and {printable(shortened(plan))}\n"
         raise Passed(passed.status, passed.lines + which) from passed

@@ -293,7 +293,8 @@ class Help(Designs):
              "fit": (EXAMPLES / "pair.toml", EXAMPLES / "one.toml"), "app": (EXAMPLES / "camera.flows.csv", "--clock", "1GHz")}
 
     # Words without which nothing stands in their place.
-    WITHOUT = {"--at", "--plan", "--stall", "--wave", "--seats", "--chip", "--smooth", "--free", "--words", "--receivers"}
+    WITHOUT = {"--at", "--plan", "--stall", "--wave", "--seats", "--chip", "--smooth", "--free", "--words", "--receivers",
+               "--evenly"}
 
     def test_defaults(self):
         """Each command makes the same without and with the words that its page says it has then."""

@@ -101,6 +101,8 @@ def why_unlike(case: Case, ran: Ran) -> str:
         return ""
     for words in case.judging():
         told = program(words, case.folder)
+        if told.status == ran.status == 1:  # words that are none of `aeth`'s
+            return ""
         if told.status > 1:
             if case.command.name == "report" and words[0] == "check" and not case.files["plan"] and ran.status == 0:
                 return ""
