@@ -423,7 +423,8 @@ class Run:
         for step in range(worst.step + 1):
             more = pattern.words(step) - (pattern.words(step - 1) if step else 0)
             words += [(*ends, worst.first + pattern.at(step), 7)] * more
-        for _ in words:
+        for *_, offered, _ in words:
+            session.credits[0] = max(session.credits[0], offered)
             takes.append(session.send() + channel.delay + channel.wish.delay)
         pulls = {0: 0}
         for cycle in sorted(set(takes)):
@@ -434,19 +435,19 @@ class Run:
 
 
 class Drains(Changes):
+    MOST_TRIED = 3  # channels of a switch
+
     def tried(self, design, use, other, evenly):
-        """Tries the worst words of each channel: with the least drain nothing of it is dropped, and with a cycle less something."""
+        """Tries the worst words of channels: with the least drain nothing of them is dropped, and with a cycle less something."""
         with tempfile.TemporaryDirectory() as folder:
             run, tried = Run(Path(folder), design, use, other), 0
             for channel in run.left.channels:
                 need = channel.need(evenly)
-                if need is None or channel.wish.words > 20:
+                if need is None or channel.wish.words > 20 or tried == self.MOST_TRIED:
                     continue
                 self.assertEqual(need.most, need.worst.drain, channel)
                 drain = need.most + run.left.more(channel)
                 words, pulls, at = run.worst(channel, need, evenly)
-                if channel.wish.delay and run.left.more(channel) == 0 and need.worst.step:
-                    continue  # whose receiver as it is made here holds for words without a wait alone
                 tried += 1
                 self.assertEqual(run.dropped(words, pulls, at, drain), 0, (channel, need))
                 if drain:
@@ -461,12 +462,12 @@ class Drains(Changes):
         ):
             for evenly in (False, True):
                 tried += self.tried(design, use, other, evenly)
-        self.assertGreater(tried, 30)
+        self.assertGreater(tried, 15)
 
     def test_of_any_design(self):
         """Designs of chance: the worst words, and words of chance that keep their rates, of which none is dropped."""
         tried, number = 0, 0
-        while tried < 25:
+        while tried < 12:
             chance = Random(f"drain {number}")
             number += 1
             chip, app = (self.folder / name for name in ("any.chip", "any.app"))

@@ -101,9 +101,9 @@ COMMANDS = (
     ),
     Command("draw", "run", (RUN, RUN, f"{RUN} CONNECTION", f"{RUN} CONNECTION SIDE"), UNITS, (f"simulate {RUN}",), "picture"),
     Command("draw", "report", ("chip app plan", RUN), (*UNITS, "--csv TABLE", "--json"), (*PLANNED, f"simulate {RUN}")),
+    Command("draw", "play", ("chip app plan",), (), PLANNED),  # (where another word would be one of the next row)
     Command(
-        "draw", "play", ("chip app plan", "chip app plan USE", RUN), UNITS,
-        ("app chip app", "tables chip app plan USE", "check chip app plan", f"simulate {RUN}"),
+        "draw", "play", ("chip app plan USE", RUN), UNITS, ("app chip app", "tables chip app plan USE", f"simulate {RUN}"),
     ),
     Command("draw", "refusal", ("chip app", "chip app PLACE"), UNITS, ("explain chip app",), "picture"),
     Command(
