@@ -20,6 +20,7 @@ import gc
 import importlib
 import json
 import os
+import re
 import shutil
 import signal
 import sys
@@ -42,6 +43,7 @@ MOST_SHOWN = 400
 TOO_MUCH = 1_000  # as a status: it took more memory or time
 STATUSES = {0, 1, 2, 3, 4}
 UNWRITTEN = 5  # where a folder may be one that can't be made
+WHICH = re.compile(r"^(design|draw): this is said of [^\n]*\n\Z", re.M)  # where two designs are given
 BOUNDED = "keys and values other than strings"  # a file of more is accepted by nobody, or can't be read here
 
 
@@ -104,7 +106,7 @@ def why_unlike(case: Case, ran: Ran) -> str:
         if told.status > 1:
             if case.command.name == "report" and words[0] == "check" and not case.files["plan"] and ran.status == 0:
                 return ""
-            is_same = (ran.status, ran.errors) == (told.status, told.errors)
+            is_same = (ran.status, WHICH.sub("", ran.errors)) == (told.status, told.errors)
             return "" if is_same or ran.status == 1 and case.is_odd else f"`aeth {words[0]}` says {told}"
     return ""
 
@@ -119,7 +121,7 @@ def why_not_made(case: Case, ran: Ran) -> str:
         except ElementTree.ParseError as error:
             return f"no picture: {error}"
     if case.command.makes == "app" and "chip" in case.given:
-        told = program(("app", case.given["chip"], str(case.folder / "out")), case.folder)
+        told = program(["app", case.given["chip"], str(case.folder / "out")], case.folder)
         return "" if told.status == 0 else f"no application: {told.errors}"
     if case.command.makes == "chip":
         told = program(["chip", str(case.folder / "out")], case.folder)
