@@ -24,8 +24,9 @@ sys.path[:0] = [str(HOME / "design.d"), str(HOME / "draw.d"), str(HOME / "common
 
 from cosim import verdict_of  # noqa: E402: its folder is told above
 from cosim_compare import MOST_CYCLES_OF_LINKS, Comparison  # noqa: E402
-from cosim_simulators import Progress, compiled, found, played  # noqa: E402
+from cosim_simulators import compiled, found, played  # noqa: E402
 from program import Input, text_of  # noqa: E402
+from progress import Progress  # noqa: E402
 from rtl import make_folder  # noqa: E402
 from rtl_bench import Run, Stimuli  # noqa: E402
 from rtl_tables import read_network  # noqa: E402
@@ -59,9 +60,9 @@ def main(cycles="20000", simulator="verilator", kind="headers"):
             folder = room / "hardware"
             made = make_folder(folder, network, run)
         with step("compiled"):
-            compiled(found(simulator), folder, False, Progress())
+            compiled(found(simulator), folder, False, Progress("hardware_large.py"))
         with step("run"):
-            broken = played(found(simulator), folder, made.sizes["FirstCycle"], Progress())
+            broken = played(found(simulator), folder, made.sizes["FirstCycle"], Progress("hardware_large.py"))
         with step("compared"):
             files = [network.files.chip_file, network.files.app_file, network.plan_file, *inputs]
             links, log = text_of("links", *files, min(cycles, MOST_CYCLES_OF_LINKS)), text_of("simulate", *files, cycles)

@@ -2,63 +2,65 @@
 without what it was made for, and an application without its chip. They have as much of all else as any may have, so that
 `aeth` refuses only what it would refuse with every chip.
 """
-from collections.abc import Iterable
+from collections.abc import Iterable, Sequence
+from itertools import count, islice
 import re
 
+from ending import Passed
 from plan_texts import lines_of
 from program import Input, answer, made
-from ending import Passed
 from toml_lines import TomlError, Tree, read
 
 NAME = re.compile("[a-z0-9_]{1,32}")
-ROUTERS = INTERFACES = 64
+INTERFACES, SEATS = 64, 4
 PORTS = 8  # of a router, each way
-CORES, CONNECTIONS, USES = 256, 512, 16
+CORES, CONNECTIONS, GROUPS = 256, 512, 16
+ENDS = 8  # connections of a core
 MOST_SLOTS = 128
+MOST_LINKS = INTERFACES * (PORTS + 1)
 UNKNOWN_NAME = "refused app 5 "
 TWO_ON_ONE_SEAT = "broken 1 "
 
 
-def names_of(wanted: Iterable[str], most: int, other: str, avoid: Iterable[str] = ()) -> list[str]:
-    """The first wanted names, each once, and others behind them, up to so many."""
+def names_of(wanted: Iterable[str], least: int, most: int, other: str, avoid: Iterable[str] = ()) -> list[str]:
+    """The wanted names, each once, as far as there may be so many, and others behind them where they are too few."""
     names = {name: None for name in wanted if NAME.fullmatch(name)}
     found, taken = list(names)[:most], {*names, *avoid}
-    number = 0
-    while len(found) < most:
-        name = f"{other}{number}"
-        number += 1
-        if name not in taken:
-            found.append(name)
-    return found
+    numbered = (f"{other}{number}" for number in count())
+    return found + list(islice((name for name in numbered if name not in taken), max(0, least - len(found))))
 
 
 def quoted(names: Iterable[str]) -> str:
     return ", ".join(f'"{name}"' for name in names)
 
 
-def chip_with(interfaces: Iterable[str], slots: int = MOST_SLOTS) -> Input:
-    """A chip with interfaces of these names, and with as many links as a chip has at the most."""
-    ends = names_of(interfaces, INTERFACES, "n")
-    routers = names_of((), ROUTERS, "router", ends)
+def chip_with(wanted: Iterable[str], slots: int, interfaces: int, links: int = 0) -> Input:
+    """A chip with interfaces of these names, so many at the least, and with so many links."""
+    ends = names_of(wanted, min(INTERFACES, max(interfaces, -(-links // (PORTS + 1)))), INTERFACES, "n")
+    routers = names_of((), len(ends), len(ends), "router", ends)
     pairs = [pair for router, end in zip(routers, ends) for pair in ((end, router), (router, end))]
-    for step in range(1, PORTS):
-        pairs += [(router, routers[(place + step) % ROUTERS]) for place, router in enumerate(routers)]
-    links = "".join(f'  {{from = "{source}", to = "{target}"}},\n' for source, target in pairs)
-    text = f"version = 2\nslots = {slots}\nrouters = [{quoted(routers)}]\nnis = [{quoted(ends)}]\nlink = [\n{links}]\n"
+    further = [(router, routers[(place + step) % len(routers)]) for step in range(1, PORTS) for place, router in enumerate(routers)]
+    pairs += further[: max(0, links - len(pairs))]
+    spelled = "".join(f'  {{from = "{source}", to = "{target}"}},\n' for source, target in pairs)
+    text = f"version = 2\nslots = {slots}\nrouters = [{quoted(routers)}]\nnis = [{quoted(ends)}]\nlink = [\n{spelled}]\n"
     return made("chip", text)
 
 
-def application_with(cores: Iterable[str], connections: Iterable[str]) -> Input:
-    """An application with cores and connections of these names, in their order, and with as many groups as there may be."""
-    ends, half = names_of(cores, CORES, "core"), CORES // 2
+def application_with(cores: Sequence[str], connections: Sequence[str], groups: int) -> Input:
+    """An application with such cores and connections, in their order, and with so many groups."""
     wish = "{words = 0, per = 1, latency = 4096, delay = 0}"
     lines = ["version = 1", "detour = 4", "core = ["]
-    lines += [f'  {{name = "{name}"}},' for name in ends] + ["]", "connection = ["]
-    for place, name in enumerate(names_of(connections, CONNECTIONS, "connection")):
-        source, target = ends[place % half], ends[half + place % half]
+    lines += [f'  {{name = "{name}"}},' for name in cores] + ["]", "connection = ["]
+    for place, name in enumerate(connections):
+        source, target = (cores[(2 * place + end) % len(cores)] for end in (0, 1))
         lines.append(f'  {{name = "{name}", from = "{source}", to = "{target}", fwd = {wish}, back = {wish}}},')
-    lines += ["]", "use = ["] + [f'  {{name = "use{number}", connections = []}},' for number in range(USES)] + ["]"]
+    lines += ["]", "use = ["] + [f'  {{name = "use{number}", connections = []}},' for number in range(groups)] + ["]"]
     return made("app", "\n".join(lines) + "\n")
+
+
+def number_of(text: str, most: int) -> int:
+    """The number of a field, or the most that there may be where it is no number or greater."""
+    return min(int(text), most) if re.fullmatch("[0-9]{1,9}", text) else most
 
 
 def judge_plan(plan: Input) -> None:
@@ -66,13 +68,14 @@ def judge_plan(plan: Input) -> None:
     lines = [line.split(" ") for line in lines_of(plan.data.decode("ascii", "replace"))]
     seats = [line for line in lines if line[0] == "seat" and len(line) == 4]
     grants = [line for line in lines if line[0] == "grant" and len(line) == 6]
-    first = lines[0] if lines else []
-    is_size = len(first) == 3 and re.fullmatch("[1-9][0-9]{0,2}", first[2]) is not None
-    slots = min(int(first[2]), MOST_SLOTS) if is_size else MOST_SLOTS
-    chip, app = chip_with((line[2] for line in seats), slots), application_with(
-        (line[1] for line in seats), (line[1] for line in grants)
-    )
-    told = answer("check", chip, app, plan)
+    slots = max(1, number_of(lines[0][2], MOST_SLOTS) if lines and len(lines[0]) == 3 else MOST_SLOTS)
+    connections = names_of((line[1] for line in grants), 0, CONNECTIONS, "")
+    least = max(2, -(-2 * len(connections) // ENDS))
+    cores = names_of((line[1] for line in seats), least, CORES, "core")
+    links = 1 + max((number_of(link, MOST_LINKS) for line in grants for link in line[4].split(",")), default=0)
+    groups = 1 + max((number_of(line[2], GROUPS) for line in grants), default=0)
+    chip = chip_with((line[2] for line in seats), slots, -(-len(cores) // SEATS), min(links, MOST_LINKS))
+    told = answer("check", chip, application_with(cores, connections, min(groups, GROUPS)), plan)
     if told.status not in (0, 3) or told.errors.startswith(TWO_ON_ONE_SEAT):
         raise Passed(told.status, told.errors)
 
@@ -89,8 +92,8 @@ def fixed_interfaces(data: bytes) -> list[str]:
 
 def judge_application(app: Input) -> None:
     """Ends the script as `aeth` does where an application is refused with every chip."""
-    told = answer("app", chip_with(()), app)
+    told = answer("app", chip_with((), MOST_SLOTS, INTERFACES), app)
     if told.errors.startswith(UNKNOWN_NAME):
-        told = answer("app", chip_with(fixed_interfaces(app.data)), app)
+        told = answer("app", chip_with(fixed_interfaces(app.data), MOST_SLOTS, INTERFACES), app)
     if told.status:
         raise Passed(told.status, told.errors)

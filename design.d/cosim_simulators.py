@@ -31,9 +31,10 @@ def jobs() -> str:
 
 
 # What Verilator makes is compiled once and run once, so compiling it fast counts for more. With its signals kept apart, queues
-# of a kind have one code. One file reads the long declarations once, and short functions are compiled in less time.
+# of a kind have one code; wide values go by calls; one file reads the long declarations once; and short functions are compiled
+# in less time.
 FAST = (
-    "-fno-gate", "--output-split-cfuncs", "2000",
+    "-fno-gate", "-fno-expand", "--output-split-cfuncs", "2000",
     *(word for flag in ("VM_PARALLEL_BUILDS=0", "OPT_FAST=-O0", "OPT_SLOW=-O0", "OPT_GLOBAL=-O0") for word in ("-MAKEFLAGS", flag)),
 )
 
@@ -52,6 +53,7 @@ SIMULATORS = {
 }
 PACKAGES = {"g++": "g++", "make": "make"}
 BROKEN = re.compile(r"aeth: (\w+) of (\S+) doesn't hold at (\d+)")
+TOP = "TOP."  # what Verilator has about the bench
 SCOPE = "aeth_bench.harness.network."
 
 
@@ -110,7 +112,7 @@ def played(simulator: Simulator, folder: Path, first_cycle: int, progress: Progr
                 elif told:
                     done = True
                 elif promise:
-                    place = re.sub(r"\.gen_queues\[(\d+)\]\.i_queue", r" at place \1", promise[2].removeprefix(SCOPE))
+                    place = re.sub(r"\.gen_queues\[(\d+)\]\.i_queue", r" at place \1", promise[2].removeprefix(TOP).removeprefix(SCOPE))
                     broken.append(Broken(promise[1], place, int(promise[3]) + first_cycle - 3))
                 else:
                     text.append(line)

@@ -7,10 +7,9 @@ from ending import NO_WORDS, UNTOLD, Result, Stop, printable, shortened
 from plan_texts import Plan, read_plan
 from program import Input, answer, made
 from seat_edits import SeatText
-from stand_in import INTERFACES, chip_with, judge_application, judge_plan
+from stand_in import INTERFACES, MOST_SLOTS, SEATS, chip_with, judge_application, judge_plan
 from toml_lines import TomlError, Tree, read
 
-SEATS = 4  # of an interface
 NOT_PINNED = 3  # the status
 MOST_NAMED = 12
 
@@ -125,5 +124,5 @@ def judge_result(text: str, wanted: Tree) -> None:
     except TomlError:
         is_so = False
     interfaces = [core["ni"] for core in wanted["core"] if "ni" in core]
-    if not is_so or answer("app", chip_with(interfaces), made("app", text)).status:
+    if not is_so or answer("app", chip_with(interfaces, MOST_SLOTS, INTERFACES), made("app", text)).status:
         raise Stop(UNTOLD, "the application can't be changed in its own text")

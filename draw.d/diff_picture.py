@@ -239,9 +239,8 @@ def draw_diff(changes: Changes, uses: Iterable[str], title: str) -> Picture:
     inner += [chip_parts.draw_router(chip_map, router, f"router {router}") for router in chip.routers]
     inner += [chip_parts.draw_interface(chip_map, interface) for interface in chip.interfaces]
     body = svg.tag("g", "\n" + "\n".join(inner + marks.draw(chip_map)) + "\n", transform=f"translate(0 {svg.number(key.bottom + 8)})")
-    whole = svg.tag(
-        "g", "\n" + "\n".join([*key.elements, body, *listed.draw()]) + "\n", transform=f"translate({MARGIN} {svg.number(head.bottom + 8)})"
-    )
+    lines = "\n".join([*key.elements, body, *listed.draw()])
+    whole = svg.tag("g", f"\n{lines}\n", transform=f"translate({MARGIN} {svg.number(head.bottom + 8)})")
     parts = [chip_parts.definitions(chip_map.strip), *head.elements, whole]
     height = head.bottom + 8 + listed.bottom + MARGIN
     return svg.picture(width + 2 * MARGIN, height, title, summary, RULES, parts)

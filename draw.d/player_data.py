@@ -85,7 +85,7 @@ def session_of(session: Session, sent: Sent) -> dict[str, Json]:
     """A session, with the flits that the channel sent in it."""
     log = session.log
     return {
-        "go": log.go, "end": session.end, "ended": log.ended, "group": session.group, "promised": session.promised,
+        "go": log.go, "end": session.end, "ended": log.ended, "group": session.group, "last": session.last,
         "broken": session.broken, **words_of(session), "sent": steps_of(sent.cycles), "counts": "".join(map(str, sent.counts)),
     }
 

@@ -67,7 +67,7 @@ class Way {
 const NEVER = 0x7fffffff;
 class Session {
   constructor(told, way, grant) {
-    Object.assign(this, {go: told.go, end: told.end, ended: told.ended, promised: told.promised, broken: told.broken, way, grant});
+    Object.assign(this, {go: told.go, end: told.end, ended: told.ended, last: told.last, broken: told.broken, way, grant});
     this.offers = summed(told.offered);
     this.dues = this.offers.map((offer, at) => offer + told.dues[at]);
     this.landings = this.offers.map((offer, at) => at < told.waits.length ? offer + told.waits[at] : NEVER);
@@ -96,7 +96,7 @@ class Session {
       return landing > due ? {text: `landed, late by ${landing - due}`, mark: "late"} : {text: "landed", mark: "landed"};
     }
     if (this.ended && cycle >= this.end) return {text: "dropped", mark: "late"};
-    const late = cycle > due && due < this.promised ? ", overdue" : "", mark = late ? "late" : "";
+    const late = cycle > due && due < this.last ? ", overdue" : "", mark = late ? "late" : "";
     if (cycle < this.sent[word]) return {text: "waits at its core" + late, mark};
     const place = this.way.linkAt(cycle - this.sent[word]);
     return {text: place === null ? "lands" : `on link ${this.way.links[place]}${late}`, mark};

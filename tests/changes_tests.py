@@ -1,6 +1,7 @@
 """Tests of a plan that changes: `./design pin`, `diff`, `drain` and `load`, and `./draw diff`."""
 from pathlib import Path
 from random import Random
+from unittest import mock
 import re
 import subprocess
 import sys
@@ -9,14 +10,17 @@ import tomllib
 import unittest
 import xml.etree.ElementTree as xml
 
-from home import Home, PROGRAM, TOP
+from home import PROGRAM, TOP
 from turned import random_design
 
 sys.path[1:1] = [str(TOP / folder) for folder in ("design.d", "common.d", "draw.d")]
 import design_files  # noqa: E402: its folder is told above
+import ending  # noqa: E402
 import least_drain  # noqa: E402
 import leaving  # noqa: E402
 import plan_texts  # noqa: E402
+import program as calls  # noqa: E402
+import progress  # noqa: E402
 import seat_edits  # noqa: E402
 import toml_lines  # noqa: E402
 
@@ -32,23 +36,52 @@ def program(*words):
     return ran.returncode, ran.stdout, ran.stderr
 
 
+def script(name):
+    """What a script does with its words, in this process: its status, its text and its lines."""
+    found = {"__name__": name, "__file__": str(TOP / name)}
+    with mock.patch.object(ending, "end"):
+        exec(compile((TOP / name).read_bytes(), str(TOP / name), "exec"), found)
+    work = found["run" if name == "design" else "work"]
+
+    def answer(*words):
+        try:
+            result = work([str(word) for word in words])
+        except ending.Passed as passed:
+            return passed.status, "", passed.lines
+        except ending.Stop as stop:
+            return stop.status, "", f"{name}: {stop.why}\n"
+        return result.status, result.text, result.errors
+
+    return answer
+
+
+DESIGN, DRAW = script("design"), script("draw")
+
+
 @unittest.skipUnless(PROGRAM, "there is no built program")
 class Changes(unittest.TestCase):
-    """Tests that share a folder with the scripts, the program, and plans of two designs."""
+    """Tests that share a folder, the scripts, which call the program itself, and plans of two designs."""
 
     @classmethod
     def setUpClass(cls):
-        cls.home = Home(PROGRAM)
-        cls.addClassCleanup(cls.home.end)
-        cls.home.run("slots", "1", "1", "1", "0")  # it is built, and says so, in the first call
-        cls.two = cls.home.put("two.plan", program("allocate", PAIR, TWO)[1])
-        cls.video = cls.home.put("video.plan", program("allocate", MESH, VIDEO)[1])
+        cls.folder = Path(cls.enterClassContext(tempfile.TemporaryDirectory()))
+        cls.enterClassContext(mock.patch.object(calls, "AETH", PROGRAM))
+        cls.enterClassContext(mock.patch.object(calls, "build"))
+        cls.enterClassContext(mock.patch.object(progress.teller, "start"))
+        cls.two = cls.made("two.plan", program("allocate", PAIR, TWO)[1])
+        cls.video = cls.made("video.plan", program("allocate", MESH, VIDEO)[1])
 
     def design(self, *words):
-        return self.home.design(*words)
+        return DESIGN(*words)
 
-    def made(self, name, text):
-        return self.home.put(name, text)
+    def draw(self, *words):
+        return DRAW(*words)
+
+    @classmethod
+    def made(cls, name, text):
+        path = cls.folder / name
+        path.write_bytes(text.encode())
+        return path
 
     def changed(self, name, app, *edits):
         """An application and a plan for it that `aeth` accepts, by changes of the first plan's lines."""
@@ -289,14 +322,14 @@ class Differences(Changes):
 class Pictures(Changes):
     """The picture tells what the text does."""
 
-    def draw(self, *words):
-        status, text, errors = self.home.draw("diff", *words)
+    def picture(self, *words):
+        status, text, errors = self.draw("diff", *words)
         self.assertEqual((status, errors), (0, ""))
         return xml.fromstring(text), text
 
     def test_changed_links_and_channels(self):
         near = self.changed("near", TWO.read_text().replace("latency = 6", "latency = 12"), (" 0,4,3 0,4", " 0,4,3 0,2"))
-        root, text = self.draw(PAIR, TWO, self.two, *near)
+        root, text = self.picture(PAIR, TWO, self.two, *near)
         titles = ["".join(one.itertext()) for one in root.iter() if one.tag.endswith("title")]
         changed = [title for title in titles if title.startswith("link") and "no slot is another" not in title]
         self.assertEqual([title.split(",")[0] for title in changed], ["link 0", "link 3", "link 4"])
@@ -304,29 +337,29 @@ class Pictures(Changes):
         self.assertTrue(any(title.startswith("c0 fwd: worse; n0 \u2192 r0 \u2192 r1 \u2192 n1 in slots 0 4, now ") for title in titles))
         self.assertIn(">worse</text>", text)
         self.assertIn("prefers-color-scheme:dark", text)
-        of_one = self.draw(PAIR, TWO, self.two, *near, "u0")[1]
+        of_one = self.picture(PAIR, TWO, self.two, *near, "u0")[1]
         self.assertIn("What changed in use case u0", of_one)
 
     def test_nothing(self):
-        text = self.draw(PAIR, TWO, self.two, TWO, self.two)[1]
+        text = self.picture(PAIR, TWO, self.two, TWO, self.two)[1]
         self.assertIn("Nothing changed: 3 cores and 4 channels are as they were.", text)
         self.assertNotIn('class="line emptier"', text)
 
     def test_cores_that_moved(self):
         app = self.made("moved.toml", VIDEO.read_text().replace('{name = "cpu"}', '{name = "cpu", ni = "n9"}'))
         plan = self.allocated("moved.plan", MESH, app)
-        text = self.draw(MESH, VIDEO, self.video, app, plan)[1]
+        text = self.picture(MESH, VIDEO, self.video, app, plan)[1]
         self.assertIn("core cpu: from n5 to n9", text)
         self.assertEqual((text.count('class="come"'), text.count('class="left"')), (1, 1))
         self.assertIn("+ cpu", text)
         self.assertIn("\u2212 cpu", text)
 
     def test_faults(self):
-        self.assertEqual(self.home.draw("diff", PAIR, TWO, self.two, TWO, self.two, "u9"), (2, "", "refused use 1 UnknownUse 0 u9\n"))
-        status, _, errors = self.home.draw("diff", PAIR, TWO, self.two)
+        self.assertEqual(self.draw("diff", PAIR, TWO, self.two, TWO, self.two, "u9"), (2, "", "refused use 1 UnknownUse 0 u9\n"))
+        status, _, errors = self.draw("diff", PAIR, TWO, self.two)
         self.assertEqual((status, errors.count("\n")), (1, 1))
         bad = self.made("bad.plan", "plan\n")
-        errors = self.home.draw("diff", PAIR, TWO, bad, TWO, self.two)[2]
+        errors = self.draw("diff", PAIR, TWO, bad, TWO, self.two)[2]
         self.assertEqual(errors, f"refused plan 1 BadLine 1 -\ndraw: this is said of {TWO} and {bad}\n")
 
 
@@ -390,7 +423,8 @@ class Run:
         for step in range(worst.step + 1):
             more = pattern.words(step) - (pattern.words(step - 1) if step else 0)
             words += [(*ends, worst.first + pattern.at(step), 7)] * more
-        for _ in words:
+        for *_, offered, _ in words:
+            session.credits[0] = max(session.credits[0], offered)
             takes.append(session.send() + channel.delay + channel.wish.delay)
         pulls = {0: 0}
         for cycle in sorted(set(takes)):
@@ -401,19 +435,19 @@ class Run:
 
 
 class Drains(Changes):
+    MOST_TRIED = 3  # channels of a switch
+
     def tried(self, design, use, other, evenly):
-        """Tries the worst words of each channel: with the least drain nothing of it is dropped, and with a cycle less something."""
+        """Tries the worst words of channels: with the least drain nothing of them is dropped, and with a cycle less something."""
         with tempfile.TemporaryDirectory() as folder:
             run, tried = Run(Path(folder), design, use, other), 0
             for channel in run.left.channels:
                 need = channel.need(evenly)
-                if need is None or channel.wish.words > 20:
+                if need is None or channel.wish.words > 20 or tried == self.MOST_TRIED:
                     continue
                 self.assertEqual(need.most, need.worst.drain, channel)
                 drain = need.most + run.left.more(channel)
                 words, pulls, at = run.worst(channel, need, evenly)
-                if channel.wish.delay and run.left.more(channel) == 0 and need.worst.step:
-                    continue  # whose receiver as it is made here holds for words without a wait alone
                 tried += 1
                 self.assertEqual(run.dropped(words, pulls, at, drain), 0, (channel, need))
                 if drain:
@@ -428,15 +462,15 @@ class Drains(Changes):
         ):
             for evenly in (False, True):
                 tried += self.tried(design, use, other, evenly)
-        self.assertGreater(tried, 30)
+        self.assertGreater(tried, 15)
 
     def test_of_any_design(self):
         """Designs of chance: the worst words, and words of chance that keep their rates, of which none is dropped."""
         tried, number = 0, 0
-        while tried < 25:
+        while tried < 12:
             chance = Random(f"drain {number}")
             number += 1
-            chip, app = (self.home.top / name for name in ("any.chip", "any.app"))
+            chip, app = (self.folder / name for name in ("any.chip", "any.app"))
             for path, text in zip((chip, app), random_design(chance)):
                 path.write_bytes(text)
             told = program("allocate", chip, app)

@@ -87,7 +87,7 @@ class Pictures(WithProgram):
         for words, tells in (
             (("plan", *PAIR, "u1", "--clock", "500"), "--clock: `500` has no unit: those of a clock are Hz, kHz, MHz, GHz"),
             (("plan", *PAIR, "u1", "--word", "4B"), "--word needs --clock beside it, as --clock 500MHz --word 4B"),
-            (("wave", *PAIR_RUN, "24", "--clock", "1GHz"), "--clock is of plan, run, report, refusal; `./draw help` tells more"),
+            (("wave", *PAIR_RUN, "24", "--clock", "1GHz"), "--clock is of plan, run, report, refusal, play; `./draw help` tells more"),
             (("plan", *PAIR, "--clock", "1GHz"), "plan takes 4 words and up to 2 of a channel, not 3; `./draw help` tells more"),
         ):
             with self.subTest(words=words):

@@ -20,7 +20,6 @@ import gc
 import importlib
 import json
 import os
-import re
 import shutil
 import signal
 import sys
@@ -43,7 +42,6 @@ MOST_SHOWN = 400
 TOO_MUCH = 1_000  # as a status: it took more memory or time
 STATUSES = {0, 1, 2, 3, 4}
 UNWRITTEN = 5  # where a folder may be one that can't be made
-WHICH = re.compile(r"^(design|draw): this is said of [^\n]*\n\Z", re.M)  # where two designs are given
 BOUNDED = "keys and values other than strings"  # a file of more is accepted by nobody, or can't be read here
 
 
@@ -106,7 +104,8 @@ def why_unlike(case: Case, ran: Ran) -> str:
         if told.status > 1:
             if case.command.name == "report" and words[0] == "check" and not case.files["plan"] and ran.status == 0:
                 return ""
-            is_same = (ran.status, WHICH.sub("", ran.errors)) == (told.status, told.errors)
+            errors = ran.errors[: len(told.errors)] if case.command.says_more else ran.errors
+            is_same = (ran.status, errors) == (told.status, told.errors)
             return "" if is_same or ran.status == 1 and case.is_odd else f"`aeth {words[0]}` says {told}"
     return ""
 

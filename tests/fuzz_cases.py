@@ -15,8 +15,7 @@ BASES = (("pair", "one"), ("pair", "two"), ("pair", "roll"), ("wide", "one"), ("
 KINDS = {
     "chip": b"", "app": b"", "plan": b"", "words": b"connection,side,cycle,value\n", "receivers": b"connection,side,cycle,pull\n",
     "switches": b"cycle,use,drain\n", "log": b"cycle,link,header,first,second\n", "cert": b"explain 1\nend\n",
-    "later_app": b"", "later_plan": b"",  # those of a design that is compared
-    "flows": (EXAMPLES / "camera.flows.csv").read_bytes(), "seats": (EXAMPLES / "camera.seats.csv").read_bytes(),
+    "later_app": b"", "later_plan": b"", "flows": (EXAMPLES / "camera.flows.csv").read_bytes(), "seats": (EXAMPLES / "camera.seats.csv").read_bytes(),
 }
 # The kinds of words. Those of a name in NAMES are names of the application, or made of them.
 WORDS = {
@@ -26,21 +25,19 @@ WORDS = {
     "COSTS": ("hops", "hops,pressure"), "SIDE": ("fwd", "back"), "PLACE": ("1", "2"), "NUMBER": ("1", "8", "9"),
     "LIST": ("0", "0,4", "-"), "LOOKUP": ("headers", "tables"), "CLOCK": ("500MHz", "1 GHz", "66.6666MHz", "3Hz"), "BYTES": ("4B", "32b", "1000B", "1b"),
     "SMOOTH": ("record,play", "play,record,play"), "DETOUR": ("0", "4"), "COST": ("hops", "pressure"), "TABLE": ("channels", "links", "switches"),
-    "FOLDER": ("made", "made/below", "chip.toml", "/proc/none"),
+    "CORE": ("cpu", "k0", "mem"), "FOLDER": ("made", "made/below", "chip.toml", "/proc/none"),
 }
 NAMES = {
     "USE": lambda uses, connections: uses,
     "CONNECTION": lambda uses, connections: connections,
-    "CORE": lambda uses, connections: ["k0", "cpu", "mem", "none"],
     "STALL": lambda uses, connections: [f"{connections[0]},fwd,5", f"{connections[0]},back,1000000"],
     "CHAIN": lambda uses, connections: [f"{connections[0]}:fwd:3,{connections[0]}:back"],
 }
-LOOSE = {"ODD", "CORE", "SIZE", "SLOTS", "DELAY", "ROUTERS", "CONNECTION", "SIDE", "PLACE", "CLOCK", "FOLDER", "TABLE"}  # that may be wrong for a script
+LOOSE = {"CORE", "ODD", "SIZE", "SLOTS", "DELAY", "ROUTERS", "CONNECTION", "SIDE", "PLACE", "CLOCK", "FOLDER", "TABLE"}  # that may be wrong for a script
 RUN = "chip app plan words receivers switches CYCLES"
 UNITS = ("--clock CLOCK", "--clock CLOCK =--word BYTES")
 DESIGN = ("app chip app",)
 PLANNED = ("app chip app", "check chip app plan")
-COMPARED = ("check chip app plan", "check chip later_app later_plan")
 
 
 @dataclass(frozen=True)
@@ -55,6 +52,7 @@ class Command:
     options: tuple[str, ...] = ()
     judged: tuple[str, ...] = DESIGN
     makes: str = ""
+    says_more: bool = False  # behind the lines of `aeth`
 
     @property
     def title(self) -> str:
@@ -81,10 +79,16 @@ COMMANDS = (
     ),
     Command("design", "fit", ("chip app =--slots TABLES",), ("--detours DETOURS", "--costs COSTS", *UNITS)),
     Command("design", "rtl", ("chip app plan =--to FOLDER",), ("--routers LOOKUP",), PLANNED),
-    Command("design", "pin", ("app plan", "app plan =--free CORE", "app plan =--free CORE CORE"), (), ()),
-    Command("design", "diff", ("chip app plan later_app later_plan",), (), COMPARED),
-    Command("design", "drain", ("chip app plan USE USE", "chip app plan USE USE =--words words =--at CYCLES"), (), PLANNED[1:]),
-    Command("design", "load", ("chip app plan", "chip app plan USE"), (), PLANNED[1:]),
+    Command("design", "pin", ("app plan", "app later_plan"), ("--free CORE",), ()),
+    Command(
+        "design", "diff", ("chip app plan later_app later_plan",), (),
+        ("check chip app plan", "check chip later_app later_plan"), says_more=True,
+    ),
+    Command(
+        "design", "drain", ("chip app plan USE USE", "chip app plan USE USE =--words words =--at CYCLES"),
+        ("--receivers receivers", "--evenly"), ("tables chip app plan USE",),
+    ),
+    Command("design", "load", ("chip app plan", "chip app plan USE"), (), ("tables chip app plan USE", "check chip app plan")),
     Command("design", "where", (
         "=chip chip", "=app chip app", "=allocate chip app", "=check chip app plan", "=explain chip app", "=explain chip app cert",
         "=tables chip app plan USE", "=route-tables chip app plan USE", f"=simulate {RUN}", f"=links {RUN}",
@@ -97,12 +101,15 @@ COMMANDS = (
     ),
     Command("draw", "run", (RUN, RUN, f"{RUN} CONNECTION", f"{RUN} CONNECTION SIDE"), UNITS, (f"simulate {RUN}",), "picture"),
     Command("draw", "report", ("chip app plan", RUN), (*UNITS, "--csv TABLE", "--json"), (*PLANNED, f"simulate {RUN}")),
+    Command("draw", "play", ("chip app plan",), (), PLANNED),  # (where another word would be one of the next row)
     Command(
-        "draw", "play", ("chip app plan", "chip app plan USE", RUN), UNITS,
-        ("app chip app", "tables chip app plan USE", "check chip app plan", f"simulate {RUN}"),
+        "draw", "play", ("chip app plan USE", RUN), UNITS, ("app chip app", "tables chip app plan USE", f"simulate {RUN}"),
     ),
-    Command("draw", "diff", ("chip app plan later_app later_plan", "chip app plan later_app later_plan USE"), (), COMPARED, "picture"),
     Command("draw", "refusal", ("chip app", "chip app PLACE"), UNITS, ("explain chip app",), "picture"),
+    Command(
+        "draw", "diff", ("chip app plan later_app later_plan", "chip app plan later_app later_plan USE"), (),
+        ("check chip app plan", "check chip later_app later_plan"), "picture", says_more=True,
+    ),
     Command("draw", "wave", (RUN,), (), (f"links {RUN}",)),
 )
 
@@ -167,17 +174,9 @@ def files_of(chance: Random, known: list[dict[str, bytes]]) -> dict[str, bytes]:
     """The files of a case before they are turned."""
     if chance.randrange(5) < 2:
         chip, app = random_design(chance)
-        return {**KINDS, "chip": chip, "app": app, **traces_of(app, chance)}
-    return dict(chance.choice(known))
-
-
-def with_plan(case: Case, chance: Random, app: str, plan: str, texts: list[bytes]) -> None:
-    """Has the program make a plan mostly, which is turned now and then."""
-    if plan in case.given and chance.randrange(8):
-        printed = program(["allocate", case.given["chip"], case.given[app]]).out if "chip" in case.given else b""
-        if printed:
-            case.files[plan] = printed if chance.randrange(4) else turned(printed, chance.choice(list(WAYS)), chance, texts)
-            Path(case.given[plan]).write_bytes(case.files[plan])
+        return {**KINDS, "chip": chip, "app": app, "later_app": app, **traces_of(app, chance)}
+    found = chance.choice(known)
+    return {**found, "later_app": found["app"], "later_plan": found["plan"]}
 
 
 def put(case: Case, chance: Random, kinds: list[str], known: list[dict[str, bytes]]) -> None:
@@ -189,10 +188,21 @@ def put(case: Case, chance: Random, kinds: list[str], known: list[dict[str, byte
         path = case.folder / (f"{kind}.toml" if kind in ("chip", "app") else f"{kind}.csv")
         path.write_bytes(case.files[kind])
         case.given[kind] = str(path)
-    with_plan(case, chance, "app", "plan", texts)
-    with_plan(case, chance, "later_app", "later_plan", texts)
+    for plan, app in (("plan", "app"), ("later_plan", "later_app")):
+        if plan in kinds and chance.randrange(8):
+            put_plan(case, chance, plan, app, texts)
     if kinds and not chance.randrange(16):
         case.given[chance.choice(kinds)] = odd_path(case.folder, chance)
+
+
+def put_plan(case: Case, chance: Random, kind: str, app: str, texts: list[bytes]) -> None:
+    """Writes the plan of an application, where everything is granted; some are turned."""
+    chip = case.folder / "chip.toml"
+    chip.write_bytes(case.files["chip"])
+    plan = program(["allocate", str(chip), case.given.get(app, case.given["app"])]).out
+    if plan:
+        case.files[kind] = plan if chance.randrange(4) else turned(plan, chance.choice(list(WAYS)), chance, texts)
+        Path(case.given[kind]).write_bytes(case.files[kind])
 
 
 def odd_word(chance: Random) -> str:
@@ -220,7 +230,6 @@ def made(command: Command, number: int, seed: int, folder: Path, known: list[dic
     """A case of a number, which a seed decides."""
     chance = Random(f"{seed} {command.title} {number}")
     case = Case(command, folder, files_of(chance, known))
-    case.files |= {"later_app": case.files["app"], "later_plan": case.files["plan"]}
     form = chance.choice(command.forms).split(" ")
     options = [option.split(" ") for option in command.options if not chance.randrange(3)]
     all_kinds = [*form, *(kind for _, *kinds in options for kind in kinds)]
