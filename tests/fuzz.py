@@ -122,7 +122,7 @@ def why_not_made(case: Case, ran: Ran) -> str:
         except ElementTree.ParseError as error:
             return f"no picture: {error}"
     if case.command.makes == "app" and "chip" in case.given:
-        told = program(("app", case.given["chip"], str(case.folder / "out")), case.folder)
+        told = program(["app", case.given["chip"], str(case.folder / "out")], case.folder)
         return "" if told.status == 0 else f"no application: {told.errors}"
     if case.command.makes == "chip":
         told = program(["chip", str(case.folder / "out")], case.folder)
