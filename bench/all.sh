@@ -86,7 +86,7 @@ run short slots_64 70 310000 slots 64 32 2 "$slots_64"
 run short slots_128 70 330000 slots 128 64 2 "$slots_128"
 run short server_64 70 310000 server 64 64 3 "$slots_64"
 run short server_128 70 320000 server 128 128 3 "$slots_128"
-run short chip 115 3018141 chip chip
+run short chip 112 3018141 chip chip
 run short app 105 34657781 app chip app_hops
 run short allocate_hops 105 77274183 allocate chip app_hops
 run short allocate_hops_128 105 91297219 allocate chip128 app_hops
@@ -102,10 +102,10 @@ if is_chosen audit short; then
     "$program" links chip app_hops plan words_20k receivers switches_1024 10000 >log
 fi
 run short links 150 142990588 links chip app_hops plan words_20k receivers switches_1024 10000
-run short audit 150 211330979 audit chip app_hops plan switches_1024 log 10000
-run short explain 133 900000000 explain chip app_stress
+run short audit 105 211330979 audit chip app_hops plan switches_1024 log 10000
+run short explain 120 900000000 explain chip app_stress
 if is_chosen confirm short; then "$program" explain chip app_stress >cert; fi
-run short confirm 130 918000000 explain chip app_stress cert
+run short confirm 110 918000000 explain chip app_stress cert
 run_word long
 run short simulate_short 150 99711593 simulate chip app_hops plan words_20k receivers switches_1024 20000
 run short simulate_tables_short - 111213202 \
