@@ -38,7 +38,7 @@ class Running(unittest.TestCase):
         program.chmod(0o755)
         self.home.settings["PROGRAM"] = str(program)
         self.assertEqual(self.home.run("--prove-only")[0], 0)
-        self.out = self.home.room / "text"
+        self.out = self.home.room / "out"
         self.given = self.home.room / "given"
         self.given.write_text("given ")
 
@@ -49,6 +49,7 @@ class Running(unittest.TestCase):
         if process == 0:
             for number in (signal.SIGPIPE, signal.SIGXFSZ, signal.SIGINT, signal.SIGQUIT):
                 signal.signal(number, signal.SIG_DFL)
+            os.chdir(self.home.room)
             os.closerange(3, 64)
             os.dup2(os.open(self.given, os.O_RDONLY), 0)
             os.dup2(os.open(self.out, os.O_WRONLY | os.O_CREAT | os.O_TRUNC, 0o644), 1)
