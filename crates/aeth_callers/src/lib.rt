@@ -1,6 +1,8 @@
 //! Callers of the crates that are of use alone, as their pages CALLING.md have them.
 #![tactic(auto)]
 
+#[cfg(test)]
+mod answers;
 mod clocked;
 mod paths;
 mod plans;
