@@ -91,6 +91,11 @@ def play(code: CodeType, case: Case) -> Ran:
     return Ran(status, out.read_bytes(), errors.read_bytes().decode("utf-8", "replace"))
 
 
+def has_no_words(case: Case) -> bool:
+    """Whether some call of `aeth` on the files has words that are none of `aeth`'s, as a name that isn't UTF-8."""
+    return any(program(words, case.folder).status == 1 for words in case.judging())
+
+
 def why_unlike(case: Case, ran: Ran) -> str:
     """What is wrong with how a script ended, beside what `aeth` says of its files; nothing where nothing is."""
     if case.command.title == "design:where":
@@ -101,14 +106,14 @@ def why_unlike(case: Case, ran: Ran) -> str:
         return ""
     for words in case.judging():
         told = program(words, case.folder)
-        if told.status == ran.status == 1:  # words that are none of `aeth`'s
-            return ""
         if told.status > 1:
             if case.command.name == "report" and words[0] == "check" and not case.files["plan"] and ran.status == 0:
                 return ""
             errors = ran.errors[: len(told.errors)] if case.command.says_more else ran.errors
             is_same = (ran.status, errors) == (told.status, told.errors)
-            return "" if is_same or ran.status == 1 and case.is_odd else f"`aeth {words[0]}` says {told}"
+            if is_same or ran.status == 1 and (case.is_odd or has_no_words(case)):
+                return ""
+            return f"`aeth {words[0]}` says {told}"
     return ""
 
 
