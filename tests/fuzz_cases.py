@@ -100,8 +100,8 @@ COMMANDS = (
         UNITS, ("tables chip app plan USE",), "picture",
     ),
     Command("draw", "run", (RUN, RUN, f"{RUN} CONNECTION", f"{RUN} CONNECTION SIDE"), UNITS, (f"simulate {RUN}",), "picture"),
-    Command("draw", "report", ("chip app plan", RUN), (*UNITS, "--csv TABLE", "--json"), (*PLANNED, f"simulate {RUN}")),
-    Command("draw", "play", ("chip app plan",), (), PLANNED),  # (where another word would be one of the next row)
+    Command("draw", "report", ("chip app plan", RUN), (*UNITS, "--csv TABLE", "--json"), (*PLANNED[1:], f"simulate {RUN}")),
+    Command("draw", "play", ("chip app plan",), (), PLANNED[1:]),  # (where another word would be one of the next row)
     Command(
         "draw", "play", ("chip app plan USE", RUN), UNITS, ("app chip app", "tables chip app plan USE", f"simulate {RUN}"),
     ),
