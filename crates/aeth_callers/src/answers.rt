@@ -76,14 +76,27 @@ fn first_links(alloc: Global, chip: &Chip, app: &App) -> Option<u32> {
     }
 }
 
-// The answers for the chip and the application.
+// The answers of the callers; `None` where one can't be told.
 fn answers(alloc: Global) -> Option<(bool, u32)> {
-    let chip = read_chip(alloc, CHIP.as_bytes()).ok()?;
-    let app = read_app(alloc, APP.as_bytes(), &chip).ok()?;
-    Some((
-        is_accepted(alloc, PLAN, &chip, &app)?,
-        first_links(alloc, &chip, &app)?,
-    ))
+    match read_chip(alloc, CHIP.as_bytes()) {
+        Ok(chip) => answers_on(alloc, &chip),
+        Err(_) => None,
+    }
+}
+
+fn answers_on(alloc: Global, chip: &Chip) -> Option<(bool, u32)> {
+    match read_app(alloc, APP.as_bytes(), chip) {
+        Ok(app) => answers_for(alloc, chip, &app),
+        Err(_) => None,
+    }
+}
+
+fn answers_for(alloc: Global, chip: &Chip, app: &App) -> Option<(bool, u32)>
+    requires { IsAppOf chip.now app.now }
+{
+    let is_accepted = is_accepted(alloc, PLAN, chip, app)?;
+    let links = first_links(alloc, chip, app)?;
+    Some((is_accepted, links))
 }
 
 #[test]
