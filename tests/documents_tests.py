@@ -221,7 +221,7 @@ class Calling(unittest.TestCase):
             if crate == "aeth_callers":
                 self.assertEqual(text, source, page)
                 shown.add(file)
-        self.assertEqual(shown, {file.name for file in (TOP / "crates/aeth_callers/src").glob("*.rt")} - {"lib.rt"})
+        self.assertEqual(shown, {file.name for file in (TOP / "crates/aeth_callers/src").glob("*.rt")} - {"lib.rt", "answers.rt"})
 
     def test_contracts(self):
         """A page has each public call of its crates, each clause of it, each law, and no others."""
