@@ -47,7 +47,8 @@ class Running(unittest.TestCase):
         terminal."""
         process, ours = pty.fork()
         if process == 0:
-            for number in (signal.SIGPIPE, signal.SIGXFSZ, signal.SIGINT, signal.SIGQUIT):
+            # (who runs the tests may ignore some of them, as `nohup` does)
+            for number in (signal.SIGPIPE, signal.SIGXFSZ, signal.SIGINT, signal.SIGQUIT, signal.SIGHUP, signal.SIGTERM, signal.SIGUSR1):
                 signal.signal(number, signal.SIG_DFL)
             os.chdir(self.home.room)
             os.closerange(3, 64)
