@@ -67,10 +67,14 @@ run() {
     # (what a shell begins beside itself would have its input from nowhere)
     { env --default-signal=INT,QUIT "$program" "$@" <&9 9<&- & } 9<&0
     child=$!
-    if [ -n "$caught" ]; then kill -s "$caught" "$child" 2>/dev/null; fi
     tell_time >/dev/null &
     teller=$!
     while :; do # a signal that is handed on ends `wait` early
+        # (what has just begun may still ignore an interrupt, so it is handed on again)
+        if [ -n "$caught" ]; then
+            sleep 0.1
+            kill -s "$caught" "$child" 2>/dev/null
+        fi
         ended=0
         wait "$child" 2>/dev/null || ended=$?
         kill -0 "$child" 2>/dev/null || break

@@ -48,8 +48,8 @@ class Running(unittest.TestCase):
         process, ours = pty.fork()
         if process == 0:
             # (who runs the tests may ignore some of them, as `nohup` does)
-            for number in (signal.SIGPIPE, signal.SIGXFSZ, signal.SIGINT, signal.SIGQUIT, signal.SIGHUP, signal.SIGTERM, signal.SIGUSR1):
-                signal.signal(number, signal.SIG_DFL)
+            for name in ("PIPE", "XFSZ", "INT", "QUIT", "HUP", "TERM", "USR1"):
+                signal.signal(signal.Signals[f"SIG{name}"], signal.SIG_DFL)
             os.chdir(self.home.room)
             os.closerange(3, 64)
             os.dup2(os.open(self.given, os.O_RDONLY), 0)
