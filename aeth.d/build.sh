@@ -3,7 +3,8 @@
 # The crates that the program stands on are copied to a folder of their own, without their wrong bodies, and `rt ci` proves
 # them there: side by side, as many as there are processors and memory. It keeps each crate as soon as it is proved, for
 # all checkouts on this machine, and takes over what it kept before. So a build that was ended goes on where it was, and
-# what a gate or another checkout proved of the same sources isn't proved again.
+# what a gate or another checkout proved of the same sources isn't proved again. Nearly all crates stand on a few low ones,
+# which stand on each other. These are proved ahead, each in a run of its own, which has two processors for it.
 #
 # What runs afterwards is a copy, `out/aeth`. Beside it stand git's index and a list of the sources that it was built
 # from, and the prover's text where the build failed. The last few programs are kept in the user's cache too, each by the
@@ -12,6 +13,7 @@
 out=$home/out
 log=$out/build.$$.log
 room=
+ahead=
 
 # The crates that the program is built from, each after those that it stands on.
 crates_in_order() {
@@ -29,17 +31,19 @@ crates_in_order() {
     ' "$home/crates.txt"
 }
 
-# Copies what `rt ci` reads of these crates to the folder `room`, so that neither a change meanwhile nor another `rt`
-# meets it. The folder stands outside of the checkout: a gate there refuses sources that it doesn't know.
+# Copies what `rt ci` reads of these crates to the folder `all` in `room`, so that neither a change meanwhile nor another
+# `rt` meets it. The folder stands outside of the checkout: a gate there refuses sources that it doesn't know.
 copy_crates() {
-    room=$(mktemp -d "${TMPDIR:-/tmp}/aeth-build.XXXXXX") && mkdir "$room/crates" || return 1
-    if [ -f "$home/HANDLES" ]; then cp "$home/HANDLES" "$room/HANDLES" || return 1; fi
+    room=$(mktemp -d "${TMPDIR:-/tmp}/aeth-build.XXXXXX") && mkdir -p "$room/all/crates" "$room/low/crates" || return 1
+    if [ -f "$home/HANDLES" ]; then
+        cp "$home/HANDLES" "$room/all/HANDLES" && cp "$home/HANDLES" "$room/low/HANDLES" || return 1
+    fi
     for crate in $order; do
-        grep "^ *$crate *\( staticlib *\)\{0,1\}:" "$home/crates.txt" >>"$room/crates.txt" || return 1
-        mkdir "$room/crates/$crate" || return 1
+        grep "^ *$crate *\( staticlib *\)\{0,1\}:" "$home/crates.txt" >>"$room/all/crates.txt" || return 1
+        mkdir "$room/all/crates/$crate" || return 1
         for part in src specs proofs data stdin stdout args status; do
             if [ -e "$home/crates/$crate/$part" ]; then
-                cp -R "$home/crates/$crate/$part" "$room/crates/$crate/$part" || return 1
+                cp -R "$home/crates/$crate/$part" "$room/all/crates/$crate/$part" || return 1
             fi
         done
     done
@@ -48,8 +52,58 @@ copy_crates() {
 # The size of each crate's sources, which the time of its proof goes by.
 weigh() {
     for crate in $order; do
-        echo "$crate $(find "$room/crates/$crate" -name '*.rt' -o -name '*.antt' | xargs cat 2>/dev/null | wc -c)"
+        echo "$crate $(find "$room/all/crates/$crate" -name '*.rt' -o -name '*.antt' | xargs cat 2>/dev/null | wc -c)"
     done
+}
+
+# The low crates that are proved ahead, a line each with those that they stand on: of the heaviest chain of crates that wait
+# for each other those below which, with themselves, there is at most a third of all. Crates of a few KB are proved as fast
+# without a run of their own.
+low_crates() {
+    awk -v weights="$out/weights.$$" '
+        BEGIN { while ((getline line < weights) > 0) { split(line, of, " "); weight[of[1]] = of[2]; all += of[2] } }
+        { split($0, parts, ":"); split(parts[1], words, " "); name = words[1]; count = split(parts[2], list, " "); most = 0
+          for (i = 1; i <= count; i++) if (list[i] in weight) {
+              if (chain[list[i]] > most) { most = chain[list[i]]; before[name] = list[i] }
+              below[name] = below[name] " " below[list[i]] " " list[i]
+          }
+          chain[name] = most + weight[name]; last = name }
+        END { for (name = last; name != ""; name = before[name]) {
+            count = split(below[name] " " name, list, " "); split("", seen); sum = 0; line = ""
+            for (i = 1; i <= count; i++) if (!(list[i] in seen)) { seen[list[i]]; sum += weight[list[i]]; line = line " " list[i] }
+            if (3 * sum <= all && weight[name] > 10000) lines = line "\n" lines
+        } printf "%s", lines }
+    ' "$room/all/crates.txt"
+}
+
+# Proves these crates one after the other, each in a folder that has no others but those below it.
+prove_low() {
+    run=
+    trap 'kill $run 2>/dev/null; exit' TERM
+    low_crates >"$room/low/chain"
+    while read -r crates; do
+        for crate in $crates; do
+            if [ -d "$room/low/crates/$crate" ]; then continue; fi
+            cp -R "$room/all/crates/$crate" "$room/low/crates/$crate" &&
+                grep "^ *$crate *\( staticlib *\)\{0,1\}:" "$room/all/crates.txt" >>"$room/low/crates.txt" || return
+        done
+        (cd "$room/low" && exec rt ci) </dev/null >/dev/null 2>&1 &
+        run=$!
+        wait $run || return
+    done <"$room/low/chain"
+}
+
+# Whether there are processors to spare while low crates are proved, and memory for two runs.
+has_room() {
+    [ "$(getconf _NPROCESSORS_ONLN)" -gt 2 ] && awk '/^MemAvailable:/ { exit $2 < 8000000 }' /proc/meminfo 2>/dev/null
+}
+
+end_low() {
+    if [ -n "$ahead" ]; then
+        kill "$ahead" 2>/dev/null
+        wait "$ahead"
+        ahead=
+    fi
 }
 
 # How far the build is, from the crates that it told of, and how long it has been and may be yet.
@@ -107,6 +161,7 @@ give_up() {
 
 stopped() {
     end_progress
+    end_low
     forget
     rm -f "$log"
     echo "aeth: ended; what is proved is kept, and the next call goes on from there" >&2
@@ -168,8 +223,8 @@ keep() {
 
 # What a newcomer reads while the first build goes on.
 tell_first() {
-    echo "aeth: the program is proved and built first. With nothing kept on this machine that takes some 20 min on four" >&2
-    echo "aeth: processors and 35 on two. Meanwhile: \`./aeth help\`, README.md, \`./design chip mesh 4 4 --slots 32\`." >&2
+    echo "aeth: the program is proved and built first. With nothing kept on this machine that takes half an hour to an" >&2
+    echo "aeth: hour. Meanwhile: \`./aeth help\`, README.md, \`./design chip mesh 4 4 --slots 32\`." >&2
     echo "aeth: Ctrl-C ends it; what is proved by then is kept, and the next call goes on from there." >&2
 }
 
@@ -185,12 +240,17 @@ build() {
     trap 'stopped INT' INT
     trap 'stopped TERM' TERM
     trap 'stopped HUP' HUP
+    if has_room; then
+        prove_low &
+        ahead=$!
+    fi
     ended=0
-    (cd "$room" && exec rt ci) </dev/null >"$log" 2>&1 || ended=$?
+    (cd "$room/all" && exec rt ci) </dev/null >"$log" 2>&1 || ended=$?
     end_progress
+    end_low
     trap - INT TERM HUP
     if [ $ended -ne 0 ]; then give_up "not proved or not built"; fi
-    built=$room/crates/aeth/out/aeth
+    built=$room/all/crates/aeth/out/aeth
     if ! [ -x "$built" ]; then give_up "not built"; fi
 }
 

@@ -6,14 +6,14 @@
 # takes, which has 257 MB: the memory beside the text, and that such a text is too long to be read back. A line tells the
 # processor time, the least of five runs, of a text with the 53,168 cuts of one try in no order, and its ratio to the peer's.
 # The files are those of `inputs.py`, whose head says what each is. It needs valgrind, GNU time and Python 3. The instructions
-# are about the same at each run on one machine. The status is 1 where a run takes more than 1,200 million, the random one more
+# are about the same at each run on one machine. The status is 1 where a run takes more than 900 million, the random one more
 # than 30 MB beside its text, or the one in no order more than twice the peer's time.
 set -eu
 
 home=$(dirname -- "$(dirname -- "$(readlink -f -- "$0")")")
 . "$home/bench/instructions.sh"
 . "$home/bench/files.sh"
-most=1200000000 above=0
+most=900000000 above=0
 
 python3 "$home/bench/inputs.py" "$folder"
 cd "$folder"

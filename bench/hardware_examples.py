@@ -1,14 +1,14 @@
 #!/usr/bin/env python3
 """Runs each example as hardware, and judges it by a lint and a synthesizer.
 
-hardware_examples.py [icarus|verilator|lint|yosys]..
+hardware_examples.py [icarus|verilator|lint|yosys].. [CHIP/APP..]
 
 Each application of examples/ that is granted on a chip there is run through all its use cases in their order and back, with
 words as the application wishes them and receivers that are as late as it allows, by routers of either kind. `./design cosim`
 must say of both simulators that the hardware did the same, Verilator must have no warning, and Yosys must find no latch, no
 loop and no net with two drivers in the flat netlist that its synthesis makes; gates aren't made smaller, which is the longest
-part of it. Words behind its name choose what is done. The video pipeline has the run of its own files, and `crossing` the chip
-that `./design chip mesh 2 2 --slots 8` makes, with its core `dsp` anywhere.
+part of it. The video pipeline has the run of its own files, and `crossing` the chip that `./design chip mesh 2 2 --slots 8`
+makes, square, with its core `dsp` anywhere. Words behind its name choose what is done, and of which pairs, as mesh/video.
 
 It prints rows for each run. The last line counts those of which something isn't as it must be; with one the status is 1.
 """
@@ -113,10 +113,12 @@ def judged(files, kind, task, room):
     return linted(folder) if task == "lint" else synthesized(folder)
 
 
-def main(tasks):
+def main(tasks, chosen):
     runs, bad = 0, 0
     with tempfile.TemporaryDirectory() as room:
         for chip, app in pairs(pathlib.Path(room)):
+            if chosen and f"{chip.stem}/{app.stem}" not in chosen:
+                continue
             with tempfile.TemporaryDirectory() as own:
                 files = run_files(pathlib.Path(own), chip, app)
                 for kind in KINDS if files else ():
@@ -130,7 +132,8 @@ def main(tasks):
 
 
 if __name__ == "__main__":
-    unknown = set(sys.argv[1:]) - set(TASKS)
+    words = {word for word in sys.argv[1:] if "/" not in word}
+    unknown = ", ".join(sorted(words - set(TASKS)))
     if unknown:
-        sys.exit(f"hardware_examples.py [icarus|verilator|lint|yosys]..: there is no {', '.join(sorted(unknown))}")
-    sys.exit(main(sys.argv[1:] or TASKS))
+        sys.exit(f"hardware_examples.py [icarus|verilator|lint|yosys].. [CHIP/APP..]: there is no {unknown}")
+    sys.exit(main([task for task in TASKS if task in words] or TASKS, set(sys.argv[1:]) - words))

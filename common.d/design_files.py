@@ -1,9 +1,11 @@
 """Chips and applications as they stand in files that `aeth` accepts: what they have, by names. Nothing is judged here."""
 from dataclasses import dataclass
-from functools import cached_property
+from functools import cached_property, lru_cache
 
 from ending import UNTOLD, Stop
-from toml_lines import TomlError, Tree, read
+from toml_lines import Lines, TomlError, Tree, read
+
+MOST_KEPT = 4  # files of which it is kept what they say: those of two designs
 
 
 @dataclass(frozen=True)
@@ -145,17 +147,25 @@ def application_of(tree: Tree) -> Application:
     )
 
 
+@lru_cache(MOST_KEPT)
+def read_once(data: bytes) -> tuple[Tree, Lines]:
+    """The tree of a file's bytes and the lines of its keys, read once however often they are asked for. Nothing changes them."""
+    return read(data)
+
+
 def tree_of(data: bytes) -> Tree:
     """The tree of a file that `aeth` accepts."""
     try:
-        return read(data)[0]
+        return read_once(data)[0]
     except TomlError as error:
         raise Stop(UNTOLD, f"a file that `aeth` accepts can't be read here: {error}") from error
 
 
+@lru_cache(MOST_KEPT)
 def read_chip(data: bytes) -> Chip:
     return chip_of(tree_of(data))
 
 
+@lru_cache(MOST_KEPT)
 def read_application(data: bytes) -> Application:
     return application_of(tree_of(data))

@@ -120,6 +120,11 @@ def fault_of(error: BaseException) -> str:
     ).removesuffix("; ")
 
 
+def line_of(script: str, why: str) -> str:
+    """The line of a script that says why it stopped, if anything does."""
+    return f"{script}: {printable(shortened(why, MOST_LETTERS))}\n" if why else ""
+
+
 def done(work: Callable[[list[str]], Result], words: list[str]) -> Result:
     """What the work of a script gives, with what is to be done behind it."""
     try:
@@ -141,8 +146,7 @@ def ended(script: str, work: Callable[[list[str]], Result], words: list[str]) ->
         tell(passed.lines)
         return passed.status
     except Stop as stop:
-        if stop.why:
-            tell(f"{script}: {printable(shortened(stop.why, MOST_LETTERS))}\n")
+        tell(line_of(script, stop.why))
         return stop.status
     except KeyboardInterrupt:
         return BROKEN_OFF

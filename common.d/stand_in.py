@@ -6,10 +6,11 @@ from collections.abc import Iterable, Sequence
 from itertools import count, islice
 import re
 
+from design_files import read_once
 from ending import Passed
 from plan_texts import lines_of
 from program import Input, answer, made
-from toml_lines import TomlError, Tree, read
+from toml_lines import TomlError, Tree
 
 NAME = re.compile("[a-z0-9_]{1,32}")
 INTERFACES, SEATS = 64, 4
@@ -83,7 +84,7 @@ def judge_plan(plan: Input) -> None:
 def fixed_interfaces(data: bytes) -> list[str]:
     """The interfaces to which an application that may still be refused fixes cores."""
     try:
-        cores = read(data)[0].get("core")
+        cores = read_once(data)[0].get("core")
     except TomlError:
         return []
     tables: list[Tree] = [core for core in cores if isinstance(core, dict)] if isinstance(cores, list) else []

@@ -1,6 +1,7 @@
 """Makes a network as hardware, runs it in a simulator, and says whether it did what `aeth` says."""
 from argparse import Namespace
 from collections.abc import Sequence
+from dataclasses import dataclass
 from pathlib import Path
 import tempfile
 
@@ -12,12 +13,39 @@ from program import Input, text_of
 from progress import Progress
 from rtl import make_folder
 from rtl_bench import Run, Stimuli
-from rtl_tables import read_network
+from rtl_tables import Network, read_network
 from run_texts import read_receivers, read_switches, read_words
 
-__all__ = ["SIMULATORS", "cosim"]
+__all__ = ["SIMULATORS", "Simulation", "cosim", "verdict"]
 
 DIFFERENCE = 3
+PLAIN_SIMULATOR = "icarus"
+
+
+@dataclass(frozen=True)
+class Simulation:
+    """A run of a network in a simulator: its files, its cycles, and the file that gets a dump, if one is wanted."""
+
+    network: Network
+    words: Input
+    receivers: Input
+    switches: Input
+    cycles: int
+    simulator: str = PLAIN_SIMULATOR
+    wave: str | None = None
+
+    @property
+    def files(self) -> list[Input]:
+        files = self.network.files
+        return [files.chip_file, files.app_file, self.network.plan_file, self.words, self.receivers, self.switches]
+
+    @property
+    def stimuli(self) -> Stimuli:
+        """What the files of the run say of its cycles."""
+        return Stimuli(
+            list(read_words(self.words.data, self.cycles)), list(read_receivers(self.receivers.data, self.cycles)),
+            read_switches(self.switches.data, self.cycles), self.cycles,
+        )
 
 
 def verdict_of(comparison: Comparison, run: Run, links: str, log: str, broken: Sequence[Broken]) -> tuple[str, bool]:
@@ -40,34 +68,34 @@ def verdict_of(comparison: Comparison, run: Run, links: str, log: str, broken: S
     return f"the same: {comparison.cycles:,} cycles, {flits:,} flits, {landed:,} words landed", True
 
 
-def cosim(given: Namespace) -> Result:
-    """The verdict, with its status."""
-    network = read_network(given)
-    words, receivers, switches = (Input(path) for path in (given.words, given.receivers, given.switches))
-    files = [network.files.chip_file, network.files.app_file, network.plan_file, words, receivers, switches]
-    links = text_of("links", *files, min(given.cycles, MOST_CYCLES_OF_LINKS))
-    log = text_of("simulate", *files, given.cycles)
-    simulator = found(given.simulator)
-    stimuli = Stimuli(
-        list(read_words(words.data, given.cycles)), list(read_receivers(receivers.data, given.cycles)),
-        read_switches(switches.data, given.cycles), given.cycles,
-    )
-    run, progress = Run(network, stimuli), Progress("design")
+def verdict(of: Simulation, progress: Progress) -> Result:
+    """What comes out, with its status."""
+    links = text_of("links", *of.files, min(of.cycles, MOST_CYCLES_OF_LINKS))
+    log = text_of("simulate", *of.files, of.cycles)
+    simulator, run = found(of.simulator), Run(of.network, of.stimuli)
     with tempfile.TemporaryDirectory(prefix="aeth-cosim-") as room:
         folder = Path(room) / "hardware"
         try:
-            made = make_folder(folder, network, run)
+            made = make_folder(folder, of.network, run)
         except OSError as error:
             raise Stop(UNWRITTEN, f"{error.filename}: {error.strerror}") from error
-        compiled(simulator, folder, given.wave is not None, progress)
+        compiled(simulator, folder, of.wave is not None, progress)
         broken = played(simulator, folder, made.sizes["FirstCycle"], progress)
-        comparison = Comparison(network, files, given.cycles, folder)
+        comparison = Comparison(of.network, of.files, of.cycles, folder)
         text, is_same = verdict_of(comparison, run, links, log, broken)
-        if given.wave is not None:
-            keep_wave(folder / "network.vcd", given.wave, comparison)
+        if of.wave is not None:
+            keep_wave(folder / "network.vcd", of.wave, comparison)
     if is_same:
-        text += f"; routers with {given.routers}, {simulator.name}\n"
+        text += f"; routers with {'tables' if of.network.has_tables else 'headers'}, {simulator.name}\n"
     return Result(text, 0 if is_same else DIFFERENCE)
+
+
+def cosim(given: Namespace) -> Result:
+    """The verdict on the files that words name."""
+    network = read_network(given)
+    words, receivers, switches = (Input(path) for path in (given.words, given.receivers, given.switches))
+    of = Simulation(network, words, receivers, switches, given.cycles, given.simulator, given.wave)
+    return verdict(of, Progress("design"))
 
 
 def keep_wave(dump: Path, path: str, comparison: Comparison) -> None:

@@ -2,10 +2,9 @@
 from collections.abc import Callable, Sequence
 
 from changes import ChannelChange, Changes, SeatChange, Verdict
-from comparing import judged_design
+from comparing import changes_of, inputs_of
 from design import Channel
 from ending import Result
-from program import Input
 from text_table import Column, table
 
 WORSE = 3  # the status
@@ -145,10 +144,9 @@ def use_told(changes: Changes, use: str) -> str:
 PARTS = (promises, paths, slots, seats, wishes, others, links)
 
 
-def diff(chip_path: str, words: Sequence[str]) -> Result:
+def diff(chip: str, words: Sequence[str]) -> Result:
     """What changed from the first application and plan to the second ones."""
-    chip = Input(chip_path)
-    changes = Changes(*(judged_design(chip, app, plan, "design") for app, plan in (words[:2], words[2:])))
+    changes = changes_of(inputs_of((chip, *words)), "design")
     parts = [part(changes) for part in PARTS]
     if not any(parts):
         return Result(f"{changes.nothing}\n")

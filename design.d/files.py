@@ -4,7 +4,7 @@ from functools import cached_property
 from typing import Any
 import json
 
-from design_files import Application, Chip, application_of, chip_of, tree_of
+from design_files import Application, Chip, read_application, read_chip, tree_of
 from program import Input, text_of as printed
 from toml_lines import Tree
 
@@ -26,11 +26,11 @@ class Files:
 
     @cached_property
     def chip(self) -> Chip:
-        return chip_of(self.chip_tree)
+        return read_chip(self.chip_file.data)
 
     @cached_property
     def app(self) -> Application:
-        return application_of(self.app_tree)
+        return read_application(self.app_file.data)
 
 
 def judged(chip: str, app: str) -> Files:

@@ -1,16 +1,18 @@
 """Which table sizes, detours and prices grant everything that an application wishes."""
-from collections import Counter
+from collections import Counter, defaultdict
 from collections.abc import Iterable, Sequence
 from concurrent.futures import ThreadPoolExecutor
 from dataclasses import dataclass
 from itertools import product
 import os
 
+from asking import Answer
+from design import uses_for_all
 from design_files import Application
 from ending import NO_WORDS, Result, Stop, printable
 from files import Files, judged, text_of
 from physical_units import PhysicalUnits
-from plan_texts import Plan, read_plan, read_queues, read_refused
+from plan_texts import Grant, Plan, read_plan, read_queues, read_refused
 from program import Input, answer, made
 from progress import Progress
 from shapes import MOST_SLOTS, PLAIN_SLOTS
@@ -48,53 +50,82 @@ class Try:
         return not (self.refused or self.error)
 
 
-def changed(files: Files, choice: Choice) -> tuple[Input, Input]:
-    """The files of the chip and of the application with another table size, detour and price."""
-    chip, app = files.chip_tree, files.app_tree
+def chip_with(files: Files, slots: int) -> Input:
+    """The chip's file with another table size."""
+    version = 2 if slots > PLAIN_SLOTS else files.chip_tree["version"]
+    return made("chip", text_of({**files.chip_tree, "version": version, "slots": slots}))
+
+
+def app_with(files: Files, detour: int, price: str) -> Input:
+    """The application's file with another detour and price."""
     # A use case may name another one as often as its file has room.
-    uses = [{**use, "smooth": list(dict.fromkeys(use.get("smooth", ())))} for use in app["use"]]
-    version = 2 if choice.slots > PLAIN_SLOTS else chip["version"]
-    chip_text = text_of({**chip, "version": version, "slots": choice.slots})
-    return made("chip", chip_text), made("app", text_of({**app, "detour": choice.detour, "cost": choice.price, "use": uses}))
+    uses = [{**use, "smooth": list(dict.fromkeys(use.get("smooth", ())))} for use in files.app_tree["use"]]
+    return made("app", text_of({**files.app_tree, "detour": detour, "cost": price, "use": uses}))
 
 
 def fullest_link(app: Application, plan: Plan) -> int:
     """The greatest number of used slots of a link in one use case."""
-    most = 0
+    most, by_group = 0, defaultdict[int, list[Grant]](list)
+    for grant in plan.grants:
+        by_group[grant.group].append(grant)
     for use, members in app.members.items():
         used: Counter[int] = Counter()
-        for grant in plan.grants:
-            if grant.group == app.groups[use] and grant.connection in members:
+        for grant in by_group[app.groups[use]]:
+            if grant.connection in members:
                 for link in grant.links:
                     used[link] += len(grant.starts)
         most = max([most, *used.values()])
     return most
 
 
-def tried(files: Files, choice: Choice) -> Try:
-    """What the allocation makes of one choice."""
-    chip, app = changed(files, choice)
-    told = answer("allocate", chip, app)
+class Fitting:
+    """The files of some choices, each made once."""
+
+    def __init__(self, files: Files, choices: Iterable[Choice]) -> None:
+        self.app, self.uses = files.app, uses_for_all(files.app)
+        self.chips = {slots: chip_with(files, slots) for slots in {choice.slots for choice in choices}}
+        pairs = {(MOST_DETOUR, PRICES[0]), *((choice.detour, choice.price) for choice in choices)}
+        self.apps = {pair: app_with(files, *pair) for pair in pairs}
+
+    def allocated(self, choice: Choice) -> Answer:
+        return answer("allocate", self.chips[choice.slots], self.apps[choice.detour, choice.price])
+
+    def granted(self, choice: Choice) -> Try:
+        """Whether the allocation grants everything."""
+        return seen(choice, self.allocated(choice))
+
+    def tried(self, choice: Choice) -> Try:
+        """The same, with what its plan takes and gives."""
+        told = self.allocated(choice)
+        found = seen(choice, told)
+        return self.measured(choice, told.text) if found.fits else found
+
+    def measured(self, choice: Choice, text: str) -> Try:
+        """What a plan takes and gives. It is accepted with the greatest detour too, and so are its tables asked for: once for
+        all detours and prices by which it is the same."""
+        plan, latency = made("plan", text), 0
+        for use in self.uses:
+            told = answer("tables", self.chips[choice.slots], self.apps[MOST_DETOUR, PRICES[0]], plan, use)
+            if told.status:
+                return seen(choice, told)
+            latency = max([latency, *(queue.latency for queue in read_queues(told.text))])
+        return Try(choice, fullest=fullest_link(self.app, read_plan(plan.data)), latency=latency)
+
+
+def seen(choice: Choice, told: Answer) -> Try:
+    """What an answer says of a choice."""
     if told.status == 3:
         return Try(choice, refused=len(read_refused(told.errors)))
-    if told.status:
-        return Try(choice, error=printable(told.errors.strip()) or f"status {told.status}")
-    plan, latency = made("plan", told.text), 0
-    for use in files.app.uses:
-        tables = answer("tables", chip, app, plan, use)
-        if tables.status:
-            return Try(choice, error=printable(tables.errors.strip()) or f"status {tables.status}")
-        latency = max([latency, *(queue.latency for queue in read_queues(tables.text))])
-    return Try(choice, fullest=fullest_link(files.app, read_plan(plan.data)), latency=latency)
+    return Try(choice, error=(printable(told.errors.strip()) or f"status {told.status}") if told.status else "")
 
 
-def all_tries(files: Files, choices: Sequence[Choice]) -> list[Try]:
-    """Each choice, several at once."""
+def all_tries(files: Files, choices: Sequence[Choice], is_measured: bool = True) -> list[Try]:
+    """Each choice, several at once: whether everything is granted, and what the plan takes and gives, if that is asked for."""
     results: list[Try] = []
     progress = Progress("design", f"0 of {len(choices)} choices tried")
-    pool = ThreadPoolExecutor(os.cpu_count() or 1)
+    fitting, pool = Fitting(files, choices), ThreadPoolExecutor(os.cpu_count() or 1)
     try:
-        for result in pool.map(lambda choice: tried(files, choice), choices):
+        for result in pool.map(fitting.tried if is_measured else fitting.granted, choices):
             results.append(result)
             last = f"{result.choice.slots} slots, detour {result.choice.detour}, {result.choice.price}"
             progress.say(f"{len(results)} of {len(choices)} choices tried, the last with {last}")
@@ -104,7 +135,7 @@ def all_tries(files: Files, choices: Sequence[Choice]) -> list[Try]:
     return results
 
 
-def measured(one: Try, units: PhysicalUnits | None) -> str:
+def measures(one: Try, units: PhysicalUnits | None) -> str:
     """What a choice that grants everything takes and gives: with units as a rate and a time too."""
     rate = f" {units.megabytes(WORDS_A_FLIT * one.fullest, one.choice.slots):>8}" if units else ""
     time = f" {units.nanoseconds(one.latency):>8}" if units else ""
@@ -117,7 +148,7 @@ def table_of(results: Iterable[Try], units: PhysicalUnits | None) -> Result:
     lines = [f"slots detour cost      granted       fullest{rate} latency{time}\n"]
     for one in results:
         tells = one.error or (f"{one.refused} refused" if one.refused else "all")
-        rest = measured(one, units) if one.fits else ""
+        rest = measures(one, units) if one.fits else ""
         choice = one.choice
         lines.append(f"{choice.slots:>5} {choice.detour:>6} {choice.price:<9} {tells:<13} {rest}".rstrip() + "\n")
     fits = [one for one in results if one.fits]

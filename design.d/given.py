@@ -2,12 +2,12 @@
 from collections.abc import Sequence
 from functools import cached_property
 
-from design_files import Application, Chip, application_of, chip_of
-from ending import printable, shortened
+from design_files import Application, Chip, application_of, chip_of, read_once
+from ending import asks_for_help, printable, shortened
 from physical_units import PhysicalUnits
 from plan_texts import Plan, read_plan
 from program import Input
-from toml_lines import Lines, Tree, read
+from toml_lines import Lines, Tree
 from usage import WORDS
 
 FILES = ("CHIP", "APP", "PLAN", "CERT", "WORDS", "RECEIVERS", "SWITCHES", "LOG")
@@ -34,6 +34,11 @@ class Given:
                 self.files = {kind: Input(word) for kind, word in self.by_kind.items() if kind.upper() in FILES}
 
     @property
+    def is_of_program(self) -> bool:
+        """Whether the program answers the words, and not the script `aeth`, as it does where a page is asked for."""
+        return self.words[:1] != [] and self.words[0] in WORDS and not asks_for_help(self.words)
+
+    @property
     def for_program(self) -> list[str | Input]:
         """The words as `aeth` is given them: copies of the files."""
         words: list[str | Input] = list(self.words)
@@ -45,15 +50,9 @@ class Given:
         """The path of a file, as it can be shown."""
         return shortened(printable(self.by_kind.get(kind, kind)), 300)
 
-    @cached_property
-    def trees(self) -> dict[str, tuple[Tree, Lines]]:
-        return {}
-
     def tree(self, kind: str) -> tuple[Tree, Lines]:
         """The tree of a chip's or an application's file, and the lines of its keys."""
-        if kind not in self.trees:
-            self.trees[kind] = read(self.files[kind].data)
-        return self.trees[kind]
+        return read_once(self.files[kind].data)
 
     @cached_property
     def chip(self) -> Chip:

@@ -124,15 +124,19 @@ def queues_of(ways: Mapping[str, Mapping[Ends, Way]]) -> dict[str, list[Queue]]:
     return {interface: sorted(queues, key=lambda queue: queue.number) for interface, queues in found.items()}
 
 
-def read_network(given: Namespace) -> Network:
-    """The network of an accepted plan: `aeth` judges the files."""
-    files, plan = judged(given.chip, given.app), Input(given.plan)
+def network_of(files: Files, plan: Input, routers: str) -> Network:
+    """The network of files that `aeth` accepts, and of a plan, which it judges: with routers that have tables or read headers."""
     design = files.chip_file, files.app_file, plan
     text_of("check", *design)
-    uses, has_tables = list(files.app.uses), given.routers == "tables"
+    uses, has_tables = list(files.app.uses), routers == "tables"
     ways = {use: ways_of(text_of("tables", *design, use)) for use in uses}
     hops = {use: rows_of(text_of("route-tables", *design, use), "hop") for use in uses if has_tables}
     network = Network(files, plan, ways, hops, has_tables)
     if not network.channels:
         raise Refused("no use case has a connection: there is no hardware to make")
     return network
+
+
+def read_network(given: Namespace) -> Network:
+    """The network of the files that words name."""
+    return network_of(judged(given.chip, given.app), Input(given.plan), given.routers)

@@ -6,6 +6,7 @@ from collections.abc import Iterable, Mapping
 from typing import NamedTuple
 import re
 
+from design_files import read_once
 from toml_lines import BLANK, GAP, Place, Reader
 
 BLANKS = " \t"
@@ -36,9 +37,8 @@ class SeatText:
         self.whole = text.removeprefix("\ufeff")
         self.reader = Reader(self.whole)
         self.text = self.reader.text  # without the carriage returns of line ends
-        self.reader.document()
         self.returns = [found.start() - number for number, found in enumerate(re.finditer("\r\n", self.whole))]
-        self.cores: Mapping[str | int, Place] = self.reader.top.inside["core"].inside
+        self.cores: Mapping[str | int, Place] = read_once(data)[1].top.inside["core"].inside
 
     def span(self, place: Place) -> Span:
         """Where a key with a string stands."""

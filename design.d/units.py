@@ -53,7 +53,8 @@ def why_no_slots(given: Given, refused: list[RefusedUnit], unit: RefusedUnit) ->
 def what_fits(given: Given) -> str:
     """Which tables grant everything, with the detour and the cost that the application has."""
     app = given.app
-    tries = all_tries(Files(given.files["chip"], given.files["app"]), [Choice(size, app.detour, app.cost) for size in SIZES])
+    choices = [Choice(size, app.detour, app.cost) for size in SIZES]
+    tries = all_tries(Files(given.files["chip"], given.files["app"]), choices, is_measured=False)
     fits = [one.choice.slots for one in tries if one.fits]
     if not fits:
         return f"`./design fit` finds: with this detour and cost no table of {listed(list(SIZES))} slots grants everything."

@@ -10,7 +10,7 @@ from places import WALKS
 from plan_texts import read_refused
 from plans import why_broken
 from pointing import in_rows, in_toml, rows_at, why_no_toml
-from program import MOST_BYTES, answer
+from program import AETH, MOST_BYTES, answer, told_by
 from rules import SECTIONS, broken_at, columns_of, forms_of, rules_of, rules_of_logs, rules_of_plans
 from run_texts import FlitRow, records_of
 from toml_lines import TomlError
@@ -146,7 +146,7 @@ def where(words: Sequence[str]) -> Result:
     """Runs a command, and says what it refuses in words. Gives its status, and both texts with these words."""
     given = Given(*without_units(words))
     began = time.monotonic()
-    told_ = answer(*given.for_program)
+    told_ = answer(*given.for_program) if given.is_of_program else told_by(AETH, given.for_program)
     given.seconds = time.monotonic() - began
     errors = told_.errors if told_.errors.endswith("\n") or not told_.errors else told_.errors + "\n"
     return Result(told_.text, told_.status, Telling(given, errors).all())

@@ -6,6 +6,7 @@ beside each other.
 """
 from collections import deque
 from collections.abc import Iterable, Sequence
+from functools import lru_cache
 import math
 from typing import TypeAlias
 
@@ -182,9 +183,12 @@ def breadth_first(routers: Sequence[str], near: Near) -> list[str]:
 
 def reach(router: str, place: Place, places: Places, near: Near) -> int:
     """How far it is from a place to the neighbours of a router."""
-    return sum(
-        abs(place[0] - places[other][0]) + abs(place[1] - places[other][1]) for other in near[router] if other in places
-    )
+    (x, y), far = place, 0
+    for other in near[router]:
+        if other in places:
+            column, row = places[other]
+            far += abs(x - column) + abs(y - row)
+    return far
 
 
 def swapped_nearer(places: Places, near: Near, cells: Sequence[Place]) -> bool:
@@ -240,6 +244,12 @@ def place_part(routers: Sequence[str], near: Near) -> Places:
 
 
 def place_routers(routers: Sequence[str], links: Iterable[Link]) -> Places:
+    """The place of each router, looked for once, however many maps of the chip are drawn."""
+    return dict(placed(tuple(routers), tuple(links)))
+
+
+@lru_cache(1)
+def placed(routers: tuple[str, ...], links: tuple[Link, ...]) -> Places:
     """The place of each router. Parts that aren't joined stand side by side, in rows that are about as wide as all of it
     is high."""
     near = neighbours_of(routers, links)

@@ -101,11 +101,13 @@ def lines_of(app: Application, slots: int) -> dict[Key, Line]:
     for use in app.uses.values():
         for name in use.connections:
             uses[name, app.groups[use.name]].append(use.name)
+    groups: dict[str, list[int]] = defaultdict(list)
+    for name, group in uses:
+        groups[name].append(group)
     lines = {}
     for connection in app.connections.values():
-        groups = sorted(group for name, group in uses if name == connection.name)
         for side in SIDES:
-            for group in groups:
+            for group in sorted(groups[connection.name]):
                 key = Key(connection.name, side, group)
                 lines[key] = Line(
                     key, uses[connection.name, group], connection.sender(side), connection.receiver(side),

@@ -4,10 +4,12 @@ The table of channels stands in it as data, of which the page's script shows as 
 stand in it compressed, and a picture is unpacked when it is opened.
 """
 from base64 import b64encode
+from concurrent.futures import ThreadPoolExecutor
 from dataclasses import dataclass
 from fractions import Fraction
 from html import escape
 import json
+import os
 import pathlib
 from typing import TypeAlias
 import zlib
@@ -253,7 +255,9 @@ def page(report: Report) -> str:
     )
     if report.pictures:
         parts.append(f"<h2>Pictures</h2><p class=less>{READING}</p>")
-        parts += [figure(shown, len(report.pictures) <= MOST_OPEN and not at) for at, shown in enumerate(report.pictures)]
+        is_open = [not at and len(report.pictures) <= MOST_OPEN for at in range(len(report.pictures))]
+        with ThreadPoolExecutor(os.cpu_count() or 1) as pool:  # which packs them side by side
+            parts += pool.map(figure, report.pictures, is_open)
     if report.player:
         parts.append(player_section(report.player))
     parts.append(f'<script type="text/plain" id="rows">{data_of(report)}</script>')

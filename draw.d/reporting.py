@@ -1,7 +1,6 @@
 """Owns how a report is made of its words: as a page, or as tables for other programs."""
 from collections.abc import Sequence
 from dataclasses import dataclass
-import subprocess
 
 from design_files import read_application, read_chip
 from ending import NO_WORDS, Passed, Stop, printable, shortened
@@ -9,7 +8,7 @@ from making import MOST_CYCLES, DesignFiles, Refusals, cycles_of, design_of, run
 from physical_units import PhysicalUnits
 from plan_texts import RefusedUnit, read_refused
 from playing import player_of
-from program import HOME, Input, answer, text_of
+from program import Input, answer, text_of
 from progress import Progress
 from report import draw_report, refused_report, refused_verdict, rows_of, rows_of_refusals, verdict_of
 from report_page import Verdict
@@ -100,6 +99,13 @@ def report(
     return text
 
 
+def hardware_verdict(files: DesignFiles, run_files: RunFiles, cycles: int, progress: Progress) -> Verdict:
+    from report_hardware import verdict_on  # which takes longer to load than most pages take to make
+
+    progress.say("the hardware is made and simulated")
+    return verdict_on(files, run_files, cycles)
+
+
 def tables_of_refusals(
     title: str, files: DesignFiles, refused: Sequence[RefusedUnit], units: PhysicalUnits | None, form: Form
 ) -> str:
@@ -107,19 +113,6 @@ def tables_of_refusals(
     chip, app = read_chip(files.chip.data), read_application(files.app.data)
     rows = rows_of_refusals(app, chip.slots, refused)
     return form.text(Facts(title, chip, app, rows, units=units), refused_verdict(rows, refused))
-
-
-def hardware_verdict(files: DesignFiles, run_files: RunFiles, cycles: int, progress: Progress) -> Verdict:
-    """What `design cosim` says of the run as hardware. Where it can't say anything the script ends so, with its lines."""
-    progress.say("the hardware is made and simulated")
-    inputs = *files.words, run_files.words, run_files.receivers, run_files.switches
-    words = [str(HOME / "design"), "cosim", *(file.path for file in inputs), str(cycles)]
-    copies = [file.copy for file in inputs if file.copy is not None]
-    ran = subprocess.run(words, capture_output=True, pass_fds=copies, check=False)
-    if ran.returncode not in (0, 3):
-        raise Passed(ran.returncode, ran.stderr.decode("utf-8", "replace"))
-    line = ran.stdout.decode("ascii", "replace").partition("\n")[0]
-    return Verdict(f"Hardware: {line}.", "bad" if ran.returncode else "good")
 
 
 def report_of_refusals(

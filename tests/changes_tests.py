@@ -66,7 +66,7 @@ class Changes(unittest.TestCase):
     def setUpClass(cls):
         cls.folder = Path(cls.enterClassContext(tempfile.TemporaryDirectory()))
         cls.enterClassContext(mock.patch.object(calls, "AETH", PROGRAM))
-        cls.enterClassContext(mock.patch.object(calls, "build"))
+        cls.enterClassContext(mock.patch.object(calls, "built", lambda: PROGRAM))
         cls.enterClassContext(mock.patch.object(progress.teller, "start"))
         cls.two = cls.made("two.plan", program("allocate", PAIR, TWO)[1])
         cls.video = cls.made("video.plan", program("allocate", MESH, VIDEO)[1])

@@ -146,7 +146,7 @@ class Words(unittest.TestCase):
     def test_pages_that_are_quoted(self):
         """The sentences of the headline are those of its file."""
         record = re.search(r"^```\n(pub record Headline.*?)^```", (TOP / "docs/PROMISE.md").read_text(), re.M | re.S)[1]
-        source = (TOP / "crates/aeth_headline/specs/Headline.antt").read_text()
+        source = (TOP / "crates/aeth_cli/specs/Headline.antt").read_text()
         for line in record.splitlines():
             self.assertIn(line.replace(" ..", "").strip(), source)
 

@@ -42,7 +42,7 @@ class Flows(unittest.TestCase):
     def setUpClass(cls):
         cls.home = Home(PROGRAM)
         cls.addClassCleanup(cls.home.end)
-        for name, value in (("AETH", PROGRAM), ("build", lambda: None)):
+        for name, value in (("AETH", PROGRAM), ("built", lambda: PROGRAM)):
             patch = mock.patch.object(program, name, value)
             patch.start()
             cls.addClassCleanup(patch.stop)

@@ -158,14 +158,14 @@ def why_wrong(case: Case, ran: Ran) -> str:
 
 def load(script: str) -> CodeType:
     """Loads the modules of a script, with the program itself in place of what builds it, and gives its code."""
-    sys.path[:0] = [str(TOP / folder) for folder in (f"{script}.d", "common.d", "draw.d")]
+    sys.path[:0] = [str(TOP / folder) for folder in (f"{script}.d", "common.d", "draw.d", "design.d")]
     for folder in (f"{script}.d", "common.d"):
         for file in sorted((TOP / folder).glob("*.py")):
             module = importlib.import_module(file.stem)
             if hasattr(module, "AETH"):
                 setattr(module, "AETH", PROGRAM)
             if file.stem == "program":
-                setattr(module, "build", lambda: None)
+                setattr(module, "built", lambda: PROGRAM)
     return compile((TOP / script).read_bytes(), str(TOP / script), "exec")
 
 

@@ -26,6 +26,7 @@ run=ended status=${STATUS:-3} runners=1 proved=no
 END
     exit "${STATUS:-3}"
 fi
+case $PWD in */low) echo "ahead: $(echo $(ls crates))" >> "$BUILDS"; exit 0 ;; esac
 echo built >> "$BUILDS"
 for crate in aeth_base aeth_middle aeth; do
     echo "== $crate"

@@ -4,7 +4,7 @@
 
 ghost use Rattle.std.specs.Prelude.{◌≡◌, drop};
 
-use aeth_headline::{Status, run};
+use aeth_cli::{Status, start};
 use aeth_io::{HostShelf, HostSink};
 use std::io::ErrorKind;
 use std::process::ExitCode;
@@ -26,7 +26,7 @@ fn main(rt: HostRuntime) -> ExitCode {
     let mut out = HostSink::new(rt.stdout());
     let mut err = HostSink::new(rt.stderr());
     let words = words_of(&arguments);
-    ExitCode::from(run(rt.alloc(), words, &mut shelf, &mut out, &mut err))
+    ExitCode::from(start(rt.alloc(), words, &mut shelf, &mut out, &mut err))
 }
 
 /// The arguments of the program, the first of which is its name.

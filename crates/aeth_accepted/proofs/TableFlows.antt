@@ -30,12 +30,12 @@ use Rattle.aeth_app.specs.App.{position_of, wish_of}
 use Rattle.aeth_app.specs.Limits.{max_core_connections}
 use Rattle.aeth_app.specs.Rates.{need_of}
 use Rattle.aeth_app.specs.declared.connection.Connection.{Connection}
+use Rattle.aeth_app.specs.Connections.{receiver as receiving_core, sender as sending_core}
 use Rattle.aeth_group.specs.Members.{group_at, groups_of, has_at}
 use Rattle.aeth_group.specs.declared.grant.Grant.{Grant}
 use Rattle.aeth_group.specs.declared.grant.SeatLine.{SeatLine}
 use Rattle.aeth_header.specs.Route.{route_of}
 use Rattle.aeth_report.specs.declared.session.Session.{Session}
-use Rattle.aeth_check.specs.Channels.{receiver as receiving_core, sender as sending_core}
 use Rattle.aeth_reconf.specs.Rows.{channels_that, rows_that}
 use Rattle.aeth_base.specs.Sides.{channels_with, other_side}
 use Rattle.aeth_report.specs.Channels.{opposite}

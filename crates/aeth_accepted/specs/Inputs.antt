@@ -14,6 +14,7 @@ use Rattle.aeth_chip.specs.Chip.{ChipData}
 use Rattle.aeth_app.specs.App.{AppData, IsAppOf}
 use Rattle.aeth_group.specs.Members.{groups_of}
 use Rattle.aeth_plan.specs.Plan.{PlanData}
+use Rattle.aeth_plan.specs.Design.{IsDesign}
 use Rattle.aeth_ni.specs.declared.row.ChannelRow.{ChannelRow}
 use Rattle.aeth_trace.specs.Receivers.{AreReceiversOf}
 use Rattle.aeth_trace.specs.Switches.{AreSwitchesOf}
@@ -26,7 +27,6 @@ use Rattle.aeth_report.specs.Design.{Design, connection_at, grant_at, queue_at, 
 use Rattle.aeth_report.specs.Design.{shape_at}
 use Rattle.aeth_report.specs.Flows.{Flow, Run}
 use Rattle.aeth_report.specs.Routes.{route_along}
-use Rattle.aeth_tables.specs.Reserved.{IsDesign}
 use Rattle.aeth_tables.specs.Switching.{spans_of}
 
 -- A chip, an application and a plan, the rows of the three traces, and the number of cycles.

@@ -7,9 +7,9 @@ use Rattle.aeth_base.specs.declared.ids.Side.{Side}
 use Rattle.aeth_base.specs.declared.ids.Unit.{Unit as GroupUnit}
 use Rattle.aeth_chip.specs.Chip.{ChipData, IsChip}
 use Rattle.aeth_app.specs.declared.connection.Connection.{Connection}
+use Rattle.aeth_app.specs.Connections.{receiver, sender}
 use Rattle.aeth_book.specs.Book.{BookData, IsBook}
 use Rattle.aeth_seats.specs.Seats.{candidates_of, crowded_of}
-use Rattle.aeth_check.specs.Channels.{receiver, sender}
 use Rattle.aeth_paths.specs.Candidates.{IsCandidate, IsFirst}
 use Rattle.aeth_paths.specs.declared.request.Found.{Found}
 use Rattle.aeth_paths.specs.declared.request.Request.{Request}

@@ -19,9 +19,9 @@ use Rattle.aeth_group.specs.declared.grant.Grant.{Grant}
 use Rattle.aeth_plan.specs.Making.{AreApart}
 use Rattle.aeth_plan.specs.Plan.{PlanData, grant_before, side_before}
 use Rattle.aeth_plan.proofs.MadePlans.{grants_apart}
+use Rattle.aeth_plan.specs.UnitGrants.{is_for}
 use Rattle.aeth_base.specs.Sides.{same_side}
 use Rattle.aeth_base.proofs.SideLemmas.{same_side-is, same_side-itself}
-use Rattle.aeth_check.specs.Channels.{is_for}
 use Rattle.aeth_text.specs.Order.{Rises}
 use Rattle.aeth_alloc.specs.Allocation.{grants_for, in_order}
 use Rattle.aeth_alloc.proofs.OnceLists.{AreOnce, once-pairs, once-permutation}

@@ -2,7 +2,7 @@
 -- turns.
 use Rattle.std.proofs.Common.{◌≡◌, ◌∙◌, ◌≤◌, ◌+◌, ◌++◌, ℕ, suc, List, [], ◌∷◌, Option, None, Some}
 use Rattle.std.proofs.Common.{length, map, refl, sym, ap, subst, arith}
-use Rattle.std.specs.Prelude.{All, IfSome, option_map, option_to_list, slice_get}
+use Rattle.std.specs.Prelude.{IfSome, option_map, option_to_list, slice_get}
 use Rattle.std.specs.List.{cons_option, filter_map, range_with_len}
 use Rattle.std.proofs.lemmas.List.{append-nil, append_assoc, length-append, map-append, take-append-le}
 use Rattle.std.proofs.lemmas.List.Elements.{All-append, filter_map-append}
@@ -135,7 +135,8 @@ map-noted : (grants : List Grant) (noted : Option TryData)
 map-noted grants None = refl
 map-noted grants (Some one) = refl
 
-one-kept : {X Y : Type 0} (h : X → Option Y) (x : X) → filter_map h (x ∷ []) ≡ option_to_list (h x)
+-- What one value comes to.
+pub one-kept : {X Y : Type 0} (h : X → Option Y) (x : X) → filter_map h (x ∷ []) ≡ option_to_list (h x)
 one-kept {Y = Y} h x =
     let go : (y : Option Y) → cons_option y [] ≡ option_to_list y =
     elim [ None ↦ refl | (Some y) ↦ refl ]

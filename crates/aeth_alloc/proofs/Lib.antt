@@ -28,3 +28,4 @@ mod TrialLists
 mod TryLemmas
 mod KeptTryLemmas
 pub mod TrialLemmas
+pub mod EarlierLemmas

@@ -10,7 +10,7 @@ use Rattle.std.proofs.lemmas.Option.{slice_get_within}
 use Rattle.aeth_base.proofs.Members.{Contains-cases, Contains-here, Contains-nil, Contains-there}
 use Rattle.aeth_base.proofs.Members.{filter-Contains, flat_map-Contains, map-Contains}
 use Rattle.aeth_text.specs.Order.{Rises, RisesAfter}
-use Rattle.aeth_check.specs.Firsts.{NoTwo}
+use Rattle.aeth_plan.specs.Accepted.{NoTwo}
 
 -- Each item of the list is so related to each behind it.
 abbrev pub Ordered : {X : Type 0} → (X → X → Type 0) → List X → Type 0

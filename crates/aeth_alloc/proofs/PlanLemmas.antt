@@ -14,6 +14,7 @@ use Rattle.aeth_base.specs.declared.ids.Unit.{Unit as GroupUnit}
 use Rattle.aeth_chip.specs.Chip.{ChipData, IsChip}
 use Rattle.aeth_app.specs.App.{AppData, IsApp, IsAppOf}
 use Rattle.aeth_app.specs.declared.connection.Core.{Core}
+use Rattle.aeth_app.specs.Connections.{receiver, sender}
 use Rattle.aeth_group.specs.Conflict.{Conflict}
 use Rattle.aeth_group.specs.Members.{GroupsData, groups_of, units_of}
 use Rattle.aeth_group.specs.declared.grant.Grant.{Grant}
@@ -24,10 +25,8 @@ use Rattle.aeth_plan.proofs.MadePlans.{before_irrefl}
 use Rattle.aeth_plan.proofs.SeatedCores.{seated_cores_rise}
 use Rattle.aeth_plan.specs.Making.{IsPlanWith, seated_cores}
 use Rattle.aeth_plan.specs.Plan.{PlanData, grant_before}
-use Rattle.aeth_check.specs.Accepted.{HasGrant, IsAccepted}
-use Rattle.aeth_check.specs.Channels.{HasSlots, IsOnPath, receiver, sender}
-use Rattle.aeth_check.specs.Firsts.{NoTwo}
-use Rattle.aeth_check.specs.Seats.{ni_of}
+use Rattle.aeth_plan.specs.Accepted.{HasGrant, HasSlots, IsAccepted, IsOnPath, NoTwo}
+use Rattle.aeth_plan.specs.Seated.{ni_of}
 use Rattle.aeth_chip.specs.declared.node.Link.{Link}
 use Rattle.aeth_seats.specs.First.{fixed_of}
 use Rattle.aeth_alloc.specs.Allocation.{OutcomeData, allocation, in_order, last_state, outcome_of}

@@ -14,8 +14,8 @@ use Rattle.aeth_seats.specs.Places.{Place, seat_of, sits_on}
 use Rattle.aeth_seats.specs.Seats.{IsSeats, SeatsData}
 use Rattle.aeth_plan.specs.Making.{line_of_core, seated_cores}
 use Rattle.aeth_plan.proofs.SeatedCores.{lines_from}
-use Rattle.aeth_check.specs.Firsts.{NoTwo}
-use Rattle.aeth_check.specs.Seats.{IsOneSeat, ni_of}
+use Rattle.aeth_plan.specs.Accepted.{NoTwo}
+use Rattle.aeth_plan.specs.Seated.{IsOneSeat, ni_of}
 use Rattle.aeth_alloc.proofs.OrderedLists.{Ordered, no_two-ordered}
 
 -- A core sits on an interface.

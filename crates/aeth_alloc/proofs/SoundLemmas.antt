@@ -19,6 +19,7 @@ use Rattle.aeth_chip.specs.declared.node.Link.{Link}
 use Rattle.aeth_app.specs.App.{IsApp, IsConnection, wish_of}
 use Rattle.aeth_app.specs.Rates.{need_of}
 use Rattle.aeth_app.specs.declared.connection.Connection.{Connection}
+use Rattle.aeth_app.specs.Connections.{receiver, sender}
 use Rattle.aeth_group.specs.Members.{GroupsData, units_of}
 use Rattle.aeth_group.specs.declared.grant.Grant.{Grant}
 use Rattle.aeth_group.proofs.ListLemmas.{all_at}
@@ -26,7 +27,7 @@ use Rattle.aeth_book.specs.Book.{IsBook}
 use Rattle.aeth_book.specs.Free.{free_starts, is_open}
 use Rattle.aeth_seats.specs.Seats.{IsSeats, SeatsData, candidates_of, crowded_of}
 use Rattle.aeth_plan.specs.Making.{AreApart}
-use Rattle.aeth_check.specs.Channels.{gap_for, receiver, sender}
+use Rattle.aeth_plan.specs.Accepted.{gap_for}
 use Rattle.aeth_paths.specs.declared.request.Found.{Found}
 use Rattle.aeth_paths.specs.declared.request.Request.{Request}
 use Rattle.aeth_alloc.specs.Channels.{Design, Reserved, grant_of, request_of, with_found}

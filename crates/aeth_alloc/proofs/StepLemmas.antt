@@ -9,10 +9,10 @@ use Rattle.aeth_base.specs.declared.ids.Side.TheVariants.{Back, Fwd}
 use Rattle.aeth_base.specs.declared.ids.Unit.{Unit as GroupUnit}
 use Rattle.aeth_app.specs.App.{IsConnection}
 use Rattle.aeth_app.specs.declared.connection.Connection.{Connection}
+use Rattle.aeth_app.specs.Connections.{receiver, sender}
 use Rattle.aeth_book.specs.Book.{BookData, with_grant}
 use Rattle.aeth_seats.specs.Places.{has_free, seat_of}
 use Rattle.aeth_seats.specs.Seats.{SeatsData, candidates_of, crowded_of}
-use Rattle.aeth_check.specs.Channels.{receiver, sender}
 use Rattle.aeth_paths.specs.Candidates.{IsAllowed}
 use Rattle.aeth_paths.specs.declared.request.Found.{Found}
 use Rattle.aeth_alloc.specs.Channels.{Design, Reserved, first_for, grant_of, tried, tried_by}

@@ -19,6 +19,7 @@ use Rattle.aeth_chip.specs.declared.node.Link.{Link}
 use Rattle.aeth_app.specs.App.{IsApp, IsAppOf}
 use Rattle.aeth_app.specs.Limits.{seats_per_ni}
 use Rattle.aeth_app.specs.declared.connection.Connection.{Connection}
+use Rattle.aeth_app.specs.Connections.{receiver, sender}
 use Rattle.aeth_group.specs.Members.{GroupsData, groups_of, units_of}
 use Rattle.aeth_book.specs.Book.{BookData, IsFit}
 use Rattle.aeth_order.specs.Units.{next_unit}
@@ -29,8 +30,7 @@ use Rattle.aeth_paths.specs.Candidates.{IsCandidate}
 use Rattle.aeth_paths.specs.Trials.{IsTrialOf, TrialData, book_of}
 use Rattle.aeth_paths.specs.declared.request.Found.{Found}
 use Rattle.aeth_alloc.specs.Allocation.{after_turns, last_state}
-use Rattle.aeth_check.specs.Channels.{receiver, sender}
-use Rattle.aeth_alloc.specs.Channels.{Design, Reserved, request_of, tried}
+use Rattle.aeth_alloc.specs.Channels.{Design, Reserved, request_of}
 use Rattle.aeth_alloc.specs.Refusals.{HasNoCandidate, IsBeforeTry, IsRefused}
 use Rattle.aeth_alloc.specs.Trials.{refusal_by, refusal_in, refused_of, reserved_for, trial_after}
 use Rattle.aeth_alloc.specs.Trials.{trial_for, trial_of, trials_of}

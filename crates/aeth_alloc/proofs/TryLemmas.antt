@@ -1,6 +1,6 @@
 -- Tries of refusals: that of a `back` channel beside the `fwd` channel of its unit, and what a refusal
 -- leaves.
-use Rattle.std.proofs.Common.{◌≡◌, ◌∙◌, ◌<◌, ◌+◌, ◌++◌, ℕ, List, [], ◌∷◌, Option, None}
+use Rattle.std.proofs.Common.{◌≡◌, ◌∙◌, ◌<◌, ◌++◌, ℕ, List, [], ◌∷◌, Option, None}
 use Rattle.std.proofs.Common.{Some, length, take, refl, sym, ap, subst}
 use Rattle.std.specs.Prelude.{Err, IfOk, Ok, Result, option_and_then, option_map, option_to_list}
 use Rattle.std.specs.Prelude.{slice_get}

@@ -13,6 +13,7 @@ use Rattle.aeth_base.specs.declared.ids.Unit.{Unit as GroupUnit}
 use Rattle.aeth_chip.specs.Chip.{IsChip}
 use Rattle.aeth_app.specs.App.{AppData, IsApp, IsAppOf}
 use Rattle.aeth_app.specs.declared.connection.Connection.{Connection}
+use Rattle.aeth_app.specs.Connections.{receiver, sender}
 use Rattle.aeth_group.specs.Members.{GroupsData, groups_of, units_of}
 use Rattle.aeth_group.proofs.UnitLemmas.{unit_from_units}
 use Rattle.aeth_order.specs.Units.{UnitsData, all_units, is_unit, keys_by, keys_of, next_unit}
@@ -23,7 +24,6 @@ use Rattle.aeth_seats.specs.Seats.{SeatsData}
 use Rattle.aeth_seats.proofs.FirstLemmas.{seats-of-app}
 use Rattle.aeth_seats.proofs.SeatingLemmas.{length-placed_on}
 use Rattle.aeth_paths.specs.declared.request.Found.{Found}
-use Rattle.aeth_check.specs.Channels.{receiver, sender}
 use Rattle.aeth_alloc.specs.Channels.{Design, Reserved, first_for, tried, tried_by, with_found}
 use Rattle.aeth_alloc.specs.Channels.{with_seat, with_seat_by}
 use Rattle.aeth_alloc.specs.Turns.{State, after_back, after_fwd, after_turn, after_turn_of}

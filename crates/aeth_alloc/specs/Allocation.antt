@@ -17,11 +17,11 @@ use Rattle.aeth_app.specs.App.{AppData}
 use Rattle.aeth_group.specs.Members.{GroupsData, units_of}
 use Rattle.aeth_group.specs.declared.grant.Grant.{Grant}
 use Rattle.aeth_book.specs.Book.{empty_book}
-use Rattle.aeth_check.specs.Channels.{is_for}
 use Rattle.aeth_seats.specs.First.{first_seats}
 use Rattle.aeth_order.specs.Units.{first_units}
 use Rattle.aeth_plan.specs.Plan.{PlanData}
 use Rattle.aeth_plan.specs.Making.{seated_cores}
+use Rattle.aeth_plan.specs.UnitGrants.{is_for}
 use Rattle.aeth_alloc.specs.Channels.{Design}
 use Rattle.aeth_alloc.specs.Turns.{State, after_turn}
 use Rattle.aeth_alloc.specs.declared.outcome.Refused.{Refused}

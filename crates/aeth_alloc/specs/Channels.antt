@@ -15,11 +15,11 @@ use Rattle.aeth_chip.specs.Chip.{ChipData}
 use Rattle.aeth_app.specs.App.{AppData, wish_of}
 use Rattle.aeth_app.specs.Rates.{need_of}
 use Rattle.aeth_app.specs.declared.connection.Connection.{Connection}
+use Rattle.aeth_app.specs.Connections.{receiver, sender}
 use Rattle.aeth_group.specs.declared.grant.Grant.{Grant}
 use Rattle.aeth_book.specs.Book.{BookData, with_grant}
 use Rattle.aeth_seats.specs.Places.{Place, seat_of}
 use Rattle.aeth_seats.specs.Seats.{SeatsData, candidates_of, crowded_of, with_core}
-use Rattle.aeth_check.specs.Channels.{receiver, sender}
 use Rattle.aeth_paths.specs.declared.request.Found.{Found}
 use Rattle.aeth_paths.specs.declared.request.Request.{Request}
 use Rattle.aeth_alloc.specs.FirstCandidate.{first_candidate}

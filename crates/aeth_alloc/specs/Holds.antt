@@ -15,13 +15,13 @@ use Rattle.aeth_chip.specs.Chip.{IsChip}
 use Rattle.aeth_chip.specs.declared.node.Link.{Link}
 use Rattle.aeth_app.specs.App.{IsApp, IsAppOf}
 use Rattle.aeth_app.specs.declared.connection.Connection.{Connection}
+use Rattle.aeth_app.specs.Connections.{receiver, sender}
 use Rattle.aeth_group.specs.declared.grant.Grant.{Grant}
 use Rattle.aeth_book.specs.Book.{BookData, with_grant}
 use Rattle.aeth_order.specs.declared.keys.UnitKeys.{UnitKeys}
 use Rattle.aeth_seats.specs.First.{fixed_of}
 use Rattle.aeth_seats.specs.Places.{seat_of}
 use Rattle.aeth_seats.specs.Seats.{SeatsData, candidates_of, crowded_of, without_core}
-use Rattle.aeth_check.specs.Channels.{receiver, sender}
 use Rattle.aeth_paths.specs.Candidates.{IsCandidate}
 use Rattle.aeth_paths.specs.declared.request.Found.{Found}
 use Rattle.aeth_alloc.specs.Channels.{Design, Reserved, request_of}

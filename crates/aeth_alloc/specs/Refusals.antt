@@ -21,11 +21,9 @@ use Rattle.aeth_group.specs.Conflict.{Conflict}
 use Rattle.aeth_group.specs.Members.{GroupsData, is_member, units_of}
 use Rattle.aeth_group.specs.declared.grant.Grant.{Grant}
 use Rattle.aeth_order.specs.Units.{next_unit}
-use Rattle.aeth_check.specs.Accepted.{HasGrant}
-use Rattle.aeth_check.specs.Channels.{HasSlots, IsOnPath}
-use Rattle.aeth_check.specs.Firsts.{NoTwo}
-use Rattle.aeth_check.specs.Seats.{IsOneSeat, ni_of}
+use Rattle.aeth_plan.specs.Accepted.{HasGrant, HasSlots, IsOnPath, NoTwo}
 use Rattle.aeth_paths.specs.declared.request.Found.{Found}
+use Rattle.aeth_plan.specs.Seated.{IsOneSeat, ni_of}
 use Rattle.aeth_alloc.specs.Channels.{Design, Reserved, tried}
 use Rattle.aeth_alloc.specs.Holds.{IsCandidateFor}
 use Rattle.aeth_alloc.specs.Allocation.{OutcomeData, after_turns}

@@ -5,8 +5,9 @@
 --   refusal_in      the refusal of a turn
 --   trial_for, trial_of      a channel's try, and that of a refusal
 --   trial_in, trial_after, trials_of      the trial of a turn, of the turn after so many, and of all
+--   earlier_count, GoesOn      how many grants of a trial were made before its turn; a later trial has these
 --   refused_of      the refusal of which a trial tells
-use Rattle.std.specs.Prelude.{ℕ, ◌+◌, List, Option, None, Some, length, option_and_then, option_map}
+use Rattle.std.specs.Prelude.{ℕ, ◌≡◌, ◌≤◌, ◌+◌, ◌-◌, take, List, Option, None, Some, length, option_and_then, option_map}
 use Rattle.std.specs.Prelude.{slice_get}
 use Rattle.std.specs.List.{filter_map, range_with_len}
 use Rattle.aeth_base.specs.declared.ids.Side.{Side}
@@ -15,10 +16,10 @@ use Rattle.aeth_base.specs.declared.ids.Unit.{Unit as GroupUnit}
 use Rattle.aeth_chip.specs.Chip.{ChipData}
 use Rattle.aeth_app.specs.App.{AppData}
 use Rattle.aeth_app.specs.declared.connection.Connection.{Connection}
+use Rattle.aeth_app.specs.Connections.{receiver, sender}
 use Rattle.aeth_group.specs.Members.{GroupsData, units_of}
 use Rattle.aeth_order.specs.Units.{next_unit}
 use Rattle.aeth_seats.specs.Seats.{candidates_of, crowded_of}
-use Rattle.aeth_check.specs.Channels.{receiver, sender}
 use Rattle.aeth_paths.specs.Trials.{TrialData}
 use Rattle.aeth_alloc.specs.Allocation.{after_turns}
 use Rattle.aeth_alloc.specs.Channels.{Design, Reserved, request_of, tried}
@@ -42,6 +43,11 @@ refusal_by design turn state (Some unit) =
 abbrev pub refusal_in : Design → ℕ → State → Option Refused
 refusal_in design turn state =
     refusal_by design turn state (next_unit state.units state.reserved.seats.places)
+
+-- How many grants of its own unit stand behind those that were made before its turn.
+abbrev pub own_count : Side → ℕ
+own_count Fwd = 0
+own_count Back = 1
 
 -- The try of a refused channel beside what is reserved then.
 abbrev pub trial_for : Design → Refused → Connection → Reserved → TrialData
@@ -77,6 +83,16 @@ unfoldable pub trials_of : ChipData → AppData → GroupsData → List ℕ → 
 trials_of chip app groups prices =
     filter_map (trial_after (record { chip = chip; app = app; prices = prices }) groups)
     (range_with_len 0 (length (units_of groups)))
+
+-- How many of its grants were made before the turn of its unit: all, but for the `fwd` grant of the unit
+-- where the `back` channel was tried.
+abbrev pub earlier_count : TrialData → ℕ
+earlier_count trial = length trial.grants - own_count trial.ask.side
+
+-- A trial that comes later than another: the grants before the turn of the other stand first in it.
+pub record GoesOn (trial later : TrialData) : Type 0 where
+  pub more : earlier_count trial ≤ earlier_count later
+  pub same : take (earlier_count trial) later.grants ≡ take (earlier_count trial) trial.grants
 
 -- The refusal of which a trial tells.
 abbrev pub refused_of : TrialData → Refused

@@ -1,9 +1,9 @@
 // The allocation.
 ghost use Rattle.std.specs.Prelude.{◌≡◌, [], IfOk};
 ghost use Rattle.aeth_app.specs.App.{IsAppOf};
-ghost use Rattle.aeth_check.specs.Accepted.{IsAccepted};
 ghost use Rattle.aeth_group.specs.Members.{groups_of};
 ghost use Rattle.aeth_plan.specs.Plan.{IsPlanOf};
+ghost use Rattle.aeth_plan.specs.Accepted.{IsAccepted};
 ghost use Rattle.aeth_alloc.specs.Allocation.{allocation, last_state};
 ghost use Rattle.aeth_alloc.specs.Prices.{prices_of};
 ghost use Rattle.aeth_alloc.specs.Refusals.{LacksOnlyRefused, RefusesExactly};

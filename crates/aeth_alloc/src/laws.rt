@@ -1,9 +1,8 @@
 //! What holds of an allocation, over the definitions alone.
-ghost use Rattle.std.specs.Prelude.{◌≡◌, ◌≢◌, ℕ, [], All, Contains, List, None, Some, map};
+ghost use Rattle.std.specs.Prelude.{◌≡◌, ◌≢◌, ℕ, [], All, AllPairs, Contains, List, None, Some, map};
 ghost use Rattle.aeth_app.specs.App.{AppData, IsApp, IsAppOf};
 ghost use Rattle.aeth_base.specs.declared.ids.NiId.{NiId};
 ghost use Rattle.aeth_book.specs.Book.{BookData, IsBook};
-ghost use Rattle.aeth_check.specs.Accepted.{IsAccepted};
 ghost use Rattle.aeth_chip.specs.Chip.{ChipData, IsChip};
 ghost use Rattle.aeth_group.specs.Members.{GroupsData, groups_of};
 ghost use Rattle.aeth_group.specs.declared.grant.Grant.{Grant};
@@ -12,11 +11,12 @@ ghost use Rattle.aeth_paths.specs.Trials.{IsTrialOf, TrialData, book_of};
 ghost use Rattle.aeth_paths.specs.declared.request.Found.{Found};
 ghost use Rattle.aeth_paths.specs.declared.request.Request.{Request};
 ghost use Rattle.aeth_plan.specs.Plan.{IsPlanOf};
+ghost use Rattle.aeth_plan.specs.Accepted.{IsAccepted};
 ghost use Rattle.aeth_alloc.specs.Allocation.{allocation, last_state};
 ghost use Rattle.aeth_alloc.specs.Channels.{Design};
 ghost use Rattle.aeth_alloc.specs.FirstCandidate.{first_candidate};
 ghost use Rattle.aeth_alloc.specs.Refusals.{IsRefused, LacksOnlyRefused, RefusesExactly};
-ghost use Rattle.aeth_alloc.specs.Trials.{refused_of, trials_of};
+ghost use Rattle.aeth_alloc.specs.Trials.{GoesOn, refused_of, trials_of};
 ghost use Rattle.aeth_alloc.specs.declared.outcome.Refused.{Refused};
 
 /// The first candidate as a function is the first candidate as a fact, and there is none exactly
@@ -73,7 +73,7 @@ pub fn plans()
 {}
 
 /// The trials of an allocation tell of its refusals, one by one. Each is one on the chip, and nothing
-/// is a candidate for it.
+/// is a candidate for it. The grants before the turn of each stand first in all later ones.
 pub fn trials()
     ensures refused { (design : Design) → IsChip design.chip → IsApp design.app
         → IsAppOf design.chip design.app
@@ -87,4 +87,6 @@ pub fn trials()
         → Contains (trials_of design.chip design.app (groups_of design.app) design.prices) trial
         → (found : Found) → IsCandidate (book_of design.chip (groups_of design.app) trial)
         trial.ask trial.from trial.to trial.crowded found → ⊥ }
+    ensures go_on { (design : Design) (groups : GroupsData) → AllPairs GoesOn
+        (trials_of design.chip design.app groups design.prices) }
 {}

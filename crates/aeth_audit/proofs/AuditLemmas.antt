@@ -12,6 +12,7 @@ use Rattle.aeth_chip.specs.Chip.{ChipData}
 use Rattle.aeth_app.specs.App.{AppData, IsAppOf}
 use Rattle.aeth_group.specs.Members.{groups_of}
 use Rattle.aeth_plan.specs.Plan.{PlanData}
+use Rattle.aeth_plan.specs.Design.{IsDesign}
 use Rattle.aeth_text.specs.Order.{Rises}
 use Rattle.aeth_trace.specs.Switches.{AreSwitchesOf}
 use Rattle.aeth_trace.specs.declared.switches.SwitchRow.{SwitchRow}
@@ -20,7 +21,6 @@ use Rattle.aeth_report.specs.Flows.{Run, sessions_in}
 use Rattle.aeth_report.specs.Sound.{IsSound}
 use Rattle.aeth_report.specs.declared.session.Session.{Session}
 use Rattle.aeth_report.proofs.SessionsGone.{last_gone, sessions_rise}
-use Rattle.aeth_tables.specs.Reserved.{IsDesign}
 use Rattle.aeth_tables.specs.Switching.{spans_of}
 use Rattle.aeth_accepted.specs.Inputs.{AreAccepted}
 use Rattle.aeth_audit.specs.Judged.{IsJudgeOf, quiet, run_on}

@@ -1,18 +1,16 @@
 -- What a row is found at is what its link is reserved for, and the rule that it breaks there.
-use Rattle.std.proofs.Common.{◌≡◌, ◌∙◌, ◌+◌, ◌-◌, ◌*◌, ℕ, List, [], ◌∷◌, Contains, Option}
+use Rattle.std.proofs.Common.{◌≡◌, ◌∙◌, ◌+◌, ◌-◌, ◌*◌, ℕ, List, Contains, Option}
 use Rattle.std.proofs.Common.{Some, None, slice_get, refl, sym, ap, subst}
 use Rattle.std.proofs.Common.{arith}
 use Rattle.std.proofs.lemmas.Option.{same_Some, slice_get-map}
 use Rattle.std.specs.Prelude.{◌==◌, IsTrue, find, option_map, unwrap_or}
 use Rattle.std.specs.List.{range_with_len, slice_index_or}
 use Rattle.std.specs.Option.{option_map_or}
-use Rattle.aeth_base.specs.declared.ids.Channel.{Channel}
 use Rattle.aeth_base.specs.declared.ids.CoreId.{CoreId}
-use Rattle.aeth_base.specs.declared.ids.Side.{Side}
-use Rattle.aeth_base.specs.declared.ids.Side.TheVariants.{Back, Fwd}
-use Rattle.aeth_base.proofs.Members.{Contains-flat_map, Contains-here, Contains-slice_get}
-use Rattle.aeth_base.proofs.Members.{Contains-there, slice_get-Contains}
+use Rattle.aeth_base.proofs.Members.{Contains-flat_map, Contains-slice_get}
+use Rattle.aeth_base.proofs.Members.{slice_get-Contains}
 use Rattle.aeth_base.proofs.Ranges.{Contains-range}
+use Rattle.aeth_base.proofs.SideLemmas.{own-channel}
 use Rattle.aeth_chip.specs.Paths.{offset}
 use Rattle.aeth_app.specs.App.{AppData, position_of}
 use Rattle.aeth_app.specs.Connections.{receiver}
@@ -46,17 +44,6 @@ use Rattle.aeth_audit.specs.declared.places.Place.{Place}
 use Rattle.aeth_audit.specs.declared.row.LinkRow.{LinkRow}
 use Rattle.aeth_audit.specs.declared.table.Address.{Address}
 use Rattle.aeth_audit.proofs.FaultLemmas.{reserved-first, reserved-none}
-
--- A channel is one of its connection.
-channel-with : (conn : ℕ) (side : Side)
-    → Contains (channels_with conn) (record { conn = record { 0 = conn }; side = side })
-channel-with conn Fwd =
-    Contains-here (record { conn = record { 0 = conn }; side = Fwd })
-    (record { conn = record { 0 = conn }; side = Back } ∷ [])
-channel-with conn Back =
-    let back : Channel = record { conn = record { 0 = conn }; side = Back } in
-    Contains-there (record { conn = record { 0 = conn }; side = Fwd }) (back ∷ []) back
-    (Contains-here back [])
 
 -- The seat of a core that may have no line.
 seat-same : (seats : List SeatLine) (core : CoreId) (missing : SeatLine) → missing.seat ≡ 0
@@ -139,7 +126,7 @@ module _ (app : AppData) (switches : List SwitchRow) (judge : Judge)
         injected = injected;
         is_channel = Contains-flat_map channels_with
             (range_with_len 0 (groups_of app).connections) conn _ listed
-            (channel-with conn grant.side);
+            (own-channel (record { conn = record { 0 = conn }; side = grant.side }));
         is_session = found.opened.has.has;
         group = found.opened.has.group_is;
         may = found.opened.has.may;

@@ -8,7 +8,7 @@ use Rattle.aeth_chip.specs.Chip.{ChipData}
 use Rattle.aeth_app.specs.App.{AppData}
 use Rattle.aeth_group.specs.Members.{groups_of}
 use Rattle.aeth_plan.specs.Plan.{IsGrantOf, PlanData}
-use Rattle.aeth_tables.specs.Reserved.{IsDesign}
+use Rattle.aeth_plan.specs.Design.{IsDesign}
 use Rattle.aeth_tables.proofs.ListLaws.{all_from_places, all_has_by}
 use Rattle.aeth_tables.proofs.PortLaws.{all_sent}
 use Rattle.aeth_tables.proofs.SentLinks.{sent_along}

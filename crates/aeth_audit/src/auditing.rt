@@ -4,7 +4,7 @@ ghost use Rattle.aeth_app.specs.App.{IsAppOf};
 ghost use Rattle.aeth_group.specs.Members.{groups_of};
 ghost use Rattle.aeth_trace.specs.Switches.{AreSwitchesOf};
 ghost use Rattle.aeth_reconf.specs.Timeline.{timeline_of};
-ghost use Rattle.aeth_tables.specs.Reserved.{IsDesign};
+ghost use Rattle.aeth_plan.specs.Design.{IsDesign};
 ghost use Rattle.aeth_tables.specs.Switching.{spans_of};
 ghost use Rattle.aeth_accepted.specs.Inputs.{design_on};
 ghost use Rattle.aeth_audit.specs.Audit.{audit_of};

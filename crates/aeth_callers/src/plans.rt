@@ -1,8 +1,8 @@
 // The plan of a text, where it is accepted.
 ghost use Rattle.std.specs.Prelude.{◌≡◌, IfOk, IfSome};
 ghost use Rattle.aeth_group.specs.Members.{groups_of};
-ghost use Rattle.aeth_check.specs.Accepted.{IsAccepted};
 ghost use Rattle.aeth_plan.specs.PlanText.{plan_text};
+ghost use Rattle.aeth_plan.specs.Accepted.{IsAccepted};
 
 use aeth_app::App;
 use aeth_check::{Verdict, check};

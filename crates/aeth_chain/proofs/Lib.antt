@@ -14,3 +14,8 @@ mod ChannelLogs
 mod LoggedLemmas
 mod ChainedLemmas
 mod DueLemmas
+mod WordLemmas
+mod WorkLemmas
+mod RuleLemmas
+mod TabledShapes
+mod ToldLemmas

@@ -4,29 +4,13 @@ use Rattle.std.proofs.Common.{◌-◌, ◌∙◌, ap, drop, take, subst, suc, ge
 use Rattle.std.specs.Prelude.{All}
 use Rattle.std.proofs.lemmas.List.{length-drop, take_all}
 use Rattle.std.proofs.lemmas.List.Elements.{All-cons, All-head, All-nil, All-tail}
-use Rattle.aeth_slots.specs.SlotSet.{Ascends, IsSlotSet}
-use Rattle.aeth_server.specs.ChannelShape.{IsShapeInRange, shape_of}
+use Rattle.aeth_server.specs.ChannelShape.{shape_of}
 use Rattle.aeth_server.specs.Shape.{IsGranted, channel_latency}
 use Rattle.aeth_server.specs.declared.shape.ChannelShape.{ChannelShape}
 use Rattle.aeth_chain.specs.Chain.{IsChain, latency_along, leg_of, legs_of, passing_latency}
 use Rattle.aeth_chain.specs.Chain.{size_of}
 use Rattle.aeth_chain.specs.declared.item.ChainItem.{ChainItem}
 use Rattle.aeth_chain.proofs.ChainLemmas.{IsLegOf}
-
--- A shape in its range, of slot sets, is granted what it asks for.
-pub shape-granted : (shape : ChannelShape) → IsSlotSet shape.slots → IsSlotSet shape.back
-    → IsShapeInRange shape → IsGranted (shape_of shape)
-shape-granted shape own back is = record {
-  paths = record {
-    path = let some = is.least_links in omega arith;
-    back_path = let some = is.least_back in omega arith;
-  };
-  least_rate = let some = is.least_need in omega arith;
-  ascends = own.ascends;
-  capacity = let few = is.capacity in omega arith;
-  back_ascends = subst (λ n. Ascends 0 n shape.back.slots) (sym is.same_size) back.ascends;
-  back_capacity = is.back_capacity;
-}
 
 -- Shapes of one size that are granted make legs of that size.
 legs-are : (size : ℕ) (items : List ChainItem) (shapes : List ChannelShape)

@@ -21,7 +21,7 @@ use Rattle.aeth_trace.specs.declared.words.WordRow.{WordRow}
 use Rattle.aeth_trace.specs.Channels.{is_channel}
 use Rattle.aeth_report.specs.declared.log.Landing.{Landing}
 use Rattle.aeth_report.specs.Log.{LogData}
-use Rattle.aeth_tables.specs.Reserved.{IsDesign}
+use Rattle.aeth_plan.specs.Design.{IsDesign}
 use Rattle.aeth_tables.specs.Tables.{TablesData, tables_of}
 use Rattle.aeth_accepted.specs.Inputs.{Inputs}
 use Rattle.aeth_chain.specs.declared.item.ChainItem.{ChainItem}

@@ -5,3 +5,7 @@ pub mod ChainBounds
 pub mod ChainText
 pub mod ChainInputs
 pub mod Lanes
+pub mod ItemNames
+pub mod ChainItems
+pub mod Fault
+pub mod Shapes

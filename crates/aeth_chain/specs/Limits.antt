@@ -16,3 +16,7 @@ max_work = 4096
 abbrev pub max_leg_latency : ℕ
 max_leg_latency =
     max_slots + max_path_delay + max_receiver_delay + max_work + 1 + max_slots
+
+-- The byte between two words of an item.
+abbrev pub colon : ℕ
+colon = 58

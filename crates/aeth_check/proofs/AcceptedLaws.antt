@@ -13,12 +13,12 @@ use Rattle.aeth_group.specs.Members.{GroupsData, is_member, units_of}
 use Rattle.aeth_group.specs.declared.grant.Grant.{Grant}
 use Rattle.aeth_plan.specs.Layout.{first_grant_line, first_seat_line}
 use Rattle.aeth_plan.specs.Plan.{PlanData}
+use Rattle.aeth_plan.specs.Accepted.{HasSlots, IsAccepted, IsOnPath}
+use Rattle.aeth_plan.specs.Seated.{IsOneSeat}
 use Rattle.aeth_check.specs.declared.verdict.Verdict.{Verdict}
 use Rattle.aeth_check.specs.declared.verdict.Verdict.TheVariants.{Accepted, Missing, Broken}
-use Rattle.aeth_check.specs.Accepted.{IsAccepted}
-use Rattle.aeth_check.specs.Channels.{HasSlots, IsOnPath}
 use Rattle.aeth_check.specs.Meetings.{conflicts}
-use Rattle.aeth_check.specs.Seats.{IsOneSeat, is_one_seat}
+use Rattle.aeth_check.specs.Seats.{is_one_seat}
 use Rattle.aeth_check.specs.Verdict.{broken_line, broken_pair, conflict, lacking, missing}
 use Rattle.aeth_check.specs.Verdict.{misseated, shared_seat, stranger, stray_path, unfit_slots}
 use Rattle.aeth_check.specs.Verdict.{verdict_of}

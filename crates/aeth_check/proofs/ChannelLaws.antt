@@ -15,15 +15,17 @@ use Rattle.aeth_chip.specs.Chip.{ChipData, IsChip}
 use Rattle.aeth_chip.specs.Paths.{IsAdmissible}
 use Rattle.aeth_app.specs.App.{AppData}
 use Rattle.aeth_app.specs.declared.connection.Connection.{Connection}
+use Rattle.aeth_app.specs.Connections.{receiver, sender}
 use Rattle.aeth_group.specs.declared.grant.Grant.{Grant}
 use Rattle.aeth_group.specs.declared.grant.SeatLine.{SeatLine}
 use Rattle.aeth_group.proofs.ListLemmas.{any_from_passes, passes_from_any}
 use Rattle.aeth_plan.specs.Plan.{PlanData}
-use Rattle.aeth_check.specs.Accepted.{HasGrant}
-use Rattle.aeth_check.specs.Channels.{HasSlots, IsOnPath, first_lacking, fits_path, fits_slots}
-use Rattle.aeth_check.specs.Channels.{has_side, is_for, lacking_side, leads, receiver}
-use Rattle.aeth_check.specs.Channels.{sender, side_or}
-use Rattle.aeth_check.specs.Seats.{ni_of}
+use Rattle.aeth_plan.specs.Accepted.{HasGrant, HasSlots, IsOnPath}
+use Rattle.aeth_plan.specs.UnitGrants.{is_for}
+use Rattle.aeth_plan.specs.Seated.{ni_of}
+use Rattle.aeth_check.specs.Channels.{first_lacking, fits_path, fits_slots}
+use Rattle.aeth_check.specs.Channels.{has_side, lacking_side, leads}
+use Rattle.aeth_check.specs.Channels.{side_or}
 use Rattle.aeth_base.specs.Sides.{same_side}
 use Rattle.aeth_base.proofs.SideLemmas.{same_side-is, same_side-itself}
 use Rattle.aeth_check.proofs.RouteLaws.{is_admissible-Decides}

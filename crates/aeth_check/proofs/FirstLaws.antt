@@ -9,7 +9,8 @@ use Rattle.aeth_base.proofs.Members.{Contains-cases, Contains-here, Contains-nil
 use Rattle.aeth_base.proofs.Members.{Contains-slice_get}
 use Rattle.aeth_base.proofs.Members.{Contains-there, slice_get-Contains}
 use Rattle.aeth_text.specs.Order.{line_after}
-use Rattle.aeth_check.specs.Firsts.{NoTwo, first_line, first_pair, pair_or}
+use Rattle.aeth_check.specs.Firsts.{first_line, first_pair, pair_or}
+use Rattle.aeth_plan.specs.Accepted.{NoTwo}
 
 pair_none : (line : ℕ) (first : Option ℕ) (later : Option (ℕ × ℕ))
     → pair_or line first later ≡ None → (first ≡ None) × (later ≡ None)

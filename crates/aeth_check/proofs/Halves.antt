@@ -10,10 +10,11 @@ use Rattle.aeth_group.specs.declared.grant.Grant.{Grant}
 use Rattle.aeth_group.proofs.ListLemmas.{any_from_passes, passes_from_any}
 use Rattle.aeth_text.specs.Order.{Rises}
 use Rattle.aeth_plan.specs.Plan.{grant_before}
-use Rattle.aeth_check.specs.Channels.{has_side, is_before, is_for}
+use Rattle.aeth_check.specs.Channels.{has_side}
 use Rattle.aeth_base.proofs.SideLemmas.{same_side-is}
 use Rattle.aeth_base.proofs.Members.{Contains-slice_get, slice_get-Contains}
 use Rattle.aeth_plan.proofs.MadePlans.{before_trans}
+use Rattle.aeth_plan.specs.UnitGrants.{is_before, is_for, sought}
 use Rattle.aeth_check.proofs.GrantOrder.{not_before, rises_at}
 
 -- A grant for a side of a unit has its connection, group and side.
@@ -31,11 +32,6 @@ for_parts unit side grant found =
       group = eqb-true _ _ group;
       side_is = same_side-is grant.side side same;
     }
-
--- A grant that is sought, with any path and slots.
-abbrev pub sought : GroupUnit → Side → Grant → Grant
-sought unit side grant =
-    record { unit = unit; side = side; path = grant.path; slots = grant.slots }
 
 module _ (unit : GroupUnit) (side : Side) (grants : List Grant)
     (rises : Rises grant_before grants) where

@@ -8,9 +8,9 @@ use Rattle.aeth_app.specs.App.{AppData}
 use Rattle.aeth_group.specs.Members.{GroupsData, groups_of}
 use Rattle.aeth_plan.specs.Plan.{IsGrantOf, IsPlanOf, PlanData}
 use Rattle.aeth_plan.proofs.PlanAgain.{all_weaker}
+use Rattle.aeth_plan.specs.Accepted.{IsAccepted}
 use Rattle.aeth_check.specs.declared.verdict.Verdict.{Verdict}
 use Rattle.aeth_check.specs.declared.verdict.Verdict.TheVariants.{Accepted}
-use Rattle.aeth_check.specs.Accepted.{IsAccepted}
 use Rattle.aeth_check.specs.Calls.{IsPlaced, IsWithin}
 use Rattle.aeth_check.specs.Verdict.{verdict_of}
 use Rattle.aeth_check.proofs.AcceptedLaws.{accepts}

@@ -14,9 +14,10 @@ use Rattle.aeth_base.specs.declared.ids.NiId.{NiId}
 use Rattle.aeth_app.specs.App.{is_ni}
 use Rattle.aeth_app.specs.declared.connection.Core.{Core}
 use Rattle.aeth_group.specs.declared.grant.SeatLine.{SeatLine}
-use Rattle.aeth_check.specs.Seats.{IsOneSeat, first_misseated, is_elsewhere, is_misseated}
+use Rattle.aeth_check.specs.Seats.{first_misseated, is_elsewhere, is_misseated}
+use Rattle.aeth_plan.specs.Seated.{IsOneSeat, ni_of}
 use Rattle.aeth_check.specs.Seats.{is_one_seat}
-use Rattle.aeth_check.specs.Seats.{AreSeatedAt, ni_of, seat_line}
+use Rattle.aeth_check.specs.Seats.{AreSeatedAt, seat_line}
 
 -- The test decides whether two seats are one.
 pub is_one_seat-Decides : (a b : SeatLine) → Decides (is_one_seat a b) (IsOneSeat a b)

@@ -8,7 +8,8 @@ use Rattle.aeth_app.specs.Rates.{need_of}
 use Rattle.aeth_app.specs.declared.connection.Connection.{Connection}
 use Rattle.aeth_group.specs.declared.grant.Grant.{Grant}
 use Rattle.aeth_group.proofs.ListLemmas.{same_tests}
-use Rattle.aeth_check.specs.Channels.{fits_slots, gap_for}
+use Rattle.aeth_check.specs.Channels.{fits_slots}
+use Rattle.aeth_plan.specs.Accepted.{gap_for}
 
 -- What decides whether slots are suitable for a connection's need and gap is the test.
 pub suffices : (chip : ChipData) (app : AppData) (grant : Grant) (connection : Connection)

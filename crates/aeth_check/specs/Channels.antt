@@ -1,44 +1,33 @@
 -- What the grants of a plan are for: units with both sides, paths between the seats of the cores,
 -- and slots that suffice.
 --
---   is_for, is_before, has_side      the grants of a unit's sides
+--   has_side      a grant for a unit's side
 --   lacking_side, first_lacking      the first side without a grant
---   fits_path, IsOnPath      a grant's path leads from the sender's seat to the receiver's
---   fits_slots, HasSlots      a grant's slots suffice for what the channel needs and wishes
+--   fits_path      whether a grant's path leads from the sender's seat to the receiver's
+--   fits_slots      whether a grant's slots suffice for what the channel needs and wishes
 -- Connections: after Æthereal (2005). The rest: this project's own.
-use Rattle.std.specs.Prelude.{◌≡◌, ◌+◌, ◌-◌, ℕ, ◌==◌, ◌&&◌, Bool, false, List, [], ◌∷◌}
-use Rattle.std.specs.Prelude.{Option, Some, None, slice_get, if◌then◌else◌}
+use Rattle.std.specs.Prelude.{ℕ, Bool, false, List, [], ◌∷◌}
+use Rattle.std.specs.Prelude.{Option, Some, None, if◌then◌else◌}
 use Rattle.std.specs.List.{list_any}
-use Rattle.aeth_base.specs.Sides.{same_side}
 use Rattle.aeth_base.specs.declared.ids.LinkId.{LinkId}
 use Rattle.aeth_base.specs.declared.ids.NiId.{NiId}
 use Rattle.aeth_base.specs.declared.ids.Side.{Side}
 use Rattle.aeth_base.specs.declared.ids.Side.TheVariants.{Fwd, Back}
 use Rattle.aeth_base.specs.declared.ids.Unit.{Unit as GroupUnit}
-use Rattle.aeth_slots.specs.Choice.{IsSuitable, is_suitable}
+use Rattle.aeth_slots.specs.Choice.{is_suitable}
 use Rattle.aeth_chip.specs.Chip.{ChipData}
-use Rattle.aeth_chip.specs.Paths.{IsAdmissible, path_delay}
-use Rattle.aeth_app.specs.App.{AppData, wish_of}
-pub use Rattle.aeth_app.specs.Connections.{receiver, sender}
+use Rattle.aeth_app.specs.App.{AppData}
+use Rattle.aeth_app.specs.Connections.{receiver, sender}
 use Rattle.aeth_app.specs.Rates.{need_of}
 use Rattle.aeth_app.specs.declared.connection.Connection.{Connection}
 use Rattle.aeth_group.specs.declared.grant.Grant.{Grant}
 use Rattle.aeth_group.specs.declared.grant.SeatLine.{SeatLine}
-use Rattle.aeth_plan.specs.Plan.{grant_before}
+use Rattle.aeth_plan.specs.Accepted.{gap_for}
+use Rattle.aeth_plan.specs.UnitGrants.{is_for}
+use Rattle.aeth_plan.specs.Seated.{ni_of}
 use Rattle.aeth_check.specs.Routes.{is_admissible}
-use Rattle.aeth_check.specs.Seats.{ni_of}
 
 -- ---- Units
-
--- Whether a grant is for a side of a unit.
-abbrev pub is_for : GroupUnit → Side → Grant → Bool
-is_for unit side grant = grant.unit.conn.0 == unit.conn.0
-    && (grant.unit.group.0 == unit.group.0 && same_side grant.side side)
-
--- Whether a grant comes before those for a side of a unit.
-abbrev pub is_before : GroupUnit → Side → Grant → Bool
-is_before unit side grant = grant_before grant
-    (record { unit = unit; side = side; path = grant.path; slots = grant.slots })
 
 -- Whether some grant is for a side of a unit.
 abbrev pub has_side : List Grant → GroupUnit → Side → Bool
@@ -79,25 +68,7 @@ fits_path chip app seats grant (Some connection) =
     leads chip app.detour (ni_of seats (sender connection grant.side))
     (ni_of seats (receiver connection grant.side)) grant.path
 
--- The grant's path is admissible from the interface of its sender's seat to that of its receiver's,
--- and both are seated.
-pub record IsOnPath (chip : ChipData) (app : AppData) (seats : List SeatLine) (grant : Grant)
-    : Type 0 where
-  pub connection : Connection
-  pub is : slice_get app.connections grant.unit.conn.0 ≡ Some connection
-  pub from : NiId
-  pub to : NiId
-  pub sends : ni_of seats (sender connection grant.side) ≡ Some from
-  pub receives : ni_of seats (receiver connection grant.side) ≡ Some to
-  pub admissible : IsAdmissible chip.links app.detour from to grant.path
-
 -- ---- Slots
-
--- The gap that a channel's slots may have: the latency that it wishes and 1, without the delay of
--- its path. Where the path alone takes longer it is 0, and no slots have so small a gap.
-abbrev pub gap_for : ChipData → Connection → Grant → ℕ
-gap_for chip connection grant =
-    (wish_of connection grant.side).latency + 1 - path_delay chip.links grant.path
 
 -- Whether the slots of a grant of a connection, which may be missing, suffice.
 abbrev pub fits_slots : ChipData → AppData → Grant → Option Connection → Bool
@@ -105,10 +76,3 @@ fits_slots chip app grant None = false
 fits_slots chip app grant (Some connection) =
     is_suitable (need_of app.slots connection grant.side) (gap_for chip connection grant)
     grant.slots
-
--- The grant's slots are as many as the channel needs, and none is too far from the next.
-pub record HasSlots (chip : ChipData) (app : AppData) (grant : Grant) : Type 0 where
-  pub connection : Connection
-  pub is : slice_get app.connections grant.unit.conn.0 ≡ Some connection
-  pub suitable : IsSuitable (need_of app.slots connection grant.side)
-      (gap_for chip connection grant) grant.slots

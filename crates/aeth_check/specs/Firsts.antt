@@ -2,9 +2,8 @@
 --
 --   first_line      the line of the first item that passes
 --   first_pair      the lines of the first pair of items that passes
---   NoTwo      no two items are so related
 -- This project's own.
-use Rattle.std.specs.Prelude.{◌≡◌, ◌<◌, ℕ, Bool, List, [], ◌∷◌, Option, Some, None, slice_get}
+use Rattle.std.specs.Prelude.{ℕ, Bool, List, [], ◌∷◌, Option, Some, None}
 use Rattle.std.specs.Prelude.{if◌then◌else◌}
 use Rattle.aeth_text.specs.Order.{line_after}
 
@@ -24,8 +23,3 @@ abbrev pub first_pair : {X : Type 0} → (X → X → Bool) → ℕ → List X �
 first_pair test line [] = None
 first_pair test line (x ∷ xs) = pair_or line (first_line (test x) (line_after line 1) xs)
     (first_pair test (line_after line 1) xs)
-
--- No two items of a list, one behind the other, are so related.
-abbrev pub NoTwo : {X : Type 0} → (X → X → Type 0) → List X → Type 0
-NoTwo {X} Related xs = (i j : ℕ) (a b : X) → i < j → slice_get xs i ≡ Some a
-    → slice_get xs j ≡ Some b → Related a b → ⊥

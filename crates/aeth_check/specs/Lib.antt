@@ -3,7 +3,6 @@ pub mod Seats
 pub mod Routes
 pub mod Channels
 pub mod Meetings
-pub mod Accepted
 pub mod Verdict
 pub mod Masks
 pub mod Calls

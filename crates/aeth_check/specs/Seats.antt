@@ -1,8 +1,8 @@
 -- Where a plan seats cores. Seats: after UMARS (2005), which places cores on network interfaces.
 --
---   IsOneSeat, is_one_seat      two lines seat cores on one seat
+--   is_one_seat      whether two lines seat cores on one seat
 --   seat_place, HasMarks      the places of seats in a table
---   ni_of, AreSeatedAt, seat_line      the interface of a core's seat, a table of these, and the line
+--   AreSeatedAt, seat_line      a table of the interfaces of cores' seats; the line of a core's
 --   is_misseated, first_misseated      cores that are fixed to an interface and not seated there
 use Rattle.std.specs.Prelude.{◌≡◌, ◌+◌, ◌*◌, ◌==◌, ◌&&◌, ℕ, Bool, true, false, not, List, []}
 use Rattle.std.specs.Prelude.{◌∷◌, Option, Some, None, Contains, slice_get, unwrap_or}
@@ -15,14 +15,10 @@ use Rattle.aeth_app.specs.Limits.{seats_per_ni}
 use Rattle.aeth_app.specs.declared.connection.Core.{Core}
 use Rattle.aeth_group.specs.declared.grant.SeatLine.{SeatLine}
 use Rattle.aeth_plan.specs.Layout.{first_seat_line}
+use Rattle.aeth_plan.specs.Seated.{ni_of}
 use Rattle.aeth_check.specs.Firsts.{first_line}
 
--- Two lines seat cores on one seat: the interface is one, and the seat there.
-pub record IsOneSeat (a b : SeatLine) : Type 0 where
-  pub ni : a.ni.0 ≡ b.ni.0
-  pub seat : a.seat ≡ b.seat
-
--- The same as a test.
+-- Whether two lines seat cores on one seat.
 abbrev pub is_one_seat : SeatLine → SeatLine → Bool
 is_one_seat a b = a.ni.0 == b.ni.0 && a.seat == b.seat
 
@@ -34,11 +30,6 @@ seat_place line = line.ni.0 * seats_per_ni + line.seat
 abbrev pub HasMarks : List SeatLine → List Bool → Type 0
 HasMarks seats marks = (line : SeatLine) → Contains seats line
     → slice_get marks (seat_place line) ≡ Some true
-
--- The network interface of a core's seat; `None` where the core isn't seated.
-abbrev pub ni_of : List SeatLine → CoreId → Option NiId
-ni_of [] core = None
-ni_of (line ∷ lines) core = if line.core.0 == core.0 then Some line.ni else ni_of lines core
 
 -- A table has the interface of each core's seat, for so many cores.
 abbrev pub AreSeatedAt : List SeatLine → ℕ → List (Option NiId) → Type 0

@@ -1,10 +1,11 @@
 // Rules 3 and 4: units and their sides.
-ghost use Rattle.aeth_check.specs.Channels.{first_lacking, has_side, is_before, is_for};
+ghost use Rattle.aeth_check.specs.Channels.{first_lacking, has_side};
 ghost use Rattle.aeth_check.specs.Channels.{lacking_side};
 ghost use Rattle.aeth_check.specs.Firsts.{first_line};
 ghost use Rattle.aeth_check.specs.Verdict.{lacking, stranger};
 ghost use Rattle.aeth_group.specs.Members.{is_member, units_of, units_with};
 ghost use Rattle.aeth_plan.specs.Plan.{grant_before};
+ghost use Rattle.aeth_plan.specs.UnitGrants.{is_before, is_for};
 ghost use Rattle.aeth_text.specs.Order.{Rises};
 ghost use Rattle.std.specs.Prelude.{◌≡◌, not};
 
@@ -12,7 +13,7 @@ use crate::lines::grants_begin;
 use crate::verdict::Verdict;
 use aeth_base::{ConnId, GroupId, Side, Unit};
 use aeth_group::{Grant, Groups};
-use aeth_plan::Plan;
+use aeth_plan::{Plan, is_before, is_for};
 use aeth_text::line_after;
 
 /// The line of the first grant whose connection is in no use case of its group.
@@ -42,32 +43,6 @@ pub(crate) fn stranger(groups: &Groups, plan: &Plan) -> Option<Verdict>
         line,
         other: 0,
     })
-}
-
-/// Whether a grant is for a side of a unit.
-pub fn is_for(unit: Unit, side: Side, grant: &Grant) -> bool
-    ensures { result ≡ is_for unit side grant.now }
-{
-    grant.unit.conn.0 == unit.conn.0 && grant.unit.group.0 == unit.group.0 && grant.side.is(side)
-}
-
-/// Whether a grant comes before those for a side of a unit.
-pub fn is_before(unit: Unit, side: Side, grant: &Grant) -> bool
-    ensures { result ≡ is_before unit side grant.now }
-{
-    if grant.unit.conn.0 != unit.conn.0 {
-        return grant.unit.conn.0 < unit.conn.0;
-    }
-    if grant.unit.group.0 != unit.group.0 {
-        return grant.unit.group.0 < unit.group.0;
-    }
-    match grant.side {
-        Side::Fwd => match side {
-            Side::Fwd => false,
-            Side::Back => true,
-        },
-        Side::Back => false,
-    }
 }
 
 /// Whether some grant is for a side of a unit, by a search by halves.

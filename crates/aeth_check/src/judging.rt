@@ -1,11 +1,11 @@
 // The check of a plan: its rules one after the other.
-ghost use Rattle.aeth_check.specs.Accepted.{IsAccepted};
 ghost use Rattle.aeth_check.specs.Calls.{IsPlaced, IsWithin};
 ghost use Rattle.aeth_check.specs.Verdict.{conflict, lacking, misseated, stranger, stray_path};
 ghost use Rattle.aeth_check.specs.Verdict.{unfit_slots, verdict_of};
 ghost use Rattle.aeth_chip.specs.Chip.{IsChip};
 ghost use Rattle.aeth_group.specs.Members.{groups_of};
 ghost use Rattle.aeth_plan.specs.Plan.{IsPlanOf, grant_before};
+ghost use Rattle.aeth_plan.specs.Accepted.{IsAccepted};
 ghost use Rattle.aeth_text.specs.Order.{Rises};
 ghost use Rattle.std.specs.Option.{option_or};
 ghost use Rattle.std.specs.Prelude.{◌≡◌, ◌↔◌, All, IfOk, length, unwrap_or};

@@ -11,10 +11,11 @@ ghost use Rattle.aeth_group.specs.Members.{GroupsData};
 ghost use Rattle.aeth_group.specs.declared.grant.Grant.{Grant};
 ghost use Rattle.aeth_group.specs.declared.grant.SeatLine.{SeatLine};
 ghost use Rattle.aeth_plan.specs.Plan.{PlanData};
-ghost use Rattle.aeth_check.specs.Accepted.{HasGrant, IsAccepted};
-ghost use Rattle.aeth_check.specs.Channels.{HasSlots, IsOnPath, fits_path, fits_slots, has_side};
+ghost use Rattle.aeth_plan.specs.Accepted.{HasGrant, HasSlots, IsAccepted, IsOnPath};
+ghost use Rattle.aeth_plan.specs.Seated.{IsOneSeat};
+ghost use Rattle.aeth_check.specs.Channels.{fits_path, fits_slots, has_side};
 ghost use Rattle.aeth_check.specs.Meetings.{conflicts};
-ghost use Rattle.aeth_check.specs.Seats.{IsOneSeat, is_one_seat};
+ghost use Rattle.aeth_check.specs.Seats.{is_one_seat};
 ghost use Rattle.aeth_check.specs.Verdict.{verdict_of};
 ghost use Rattle.aeth_check.specs.declared.verdict.Verdict.TheVariants.{Accepted};
 

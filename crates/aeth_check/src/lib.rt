@@ -13,6 +13,5 @@ mod seating;
 mod seats;
 mod verdict;
 
-pub use channels::{is_before, is_for};
 pub use judging::check;
 pub use verdict::Verdict;

@@ -1,5 +1,6 @@
 // The network interfaces of cores, from a table.
-ghost use Rattle.aeth_check.specs.Seats.{AreSeatedAt, ni_of};
+ghost use Rattle.aeth_check.specs.Seats.{AreSeatedAt};
+ghost use Rattle.aeth_plan.specs.Seated.{ni_of};
 ghost use Rattle.std.specs.Prelude.{◌≡◌, [], All, IfOk, None, length};
 
 use crate::seats::ni_of;

@@ -2,7 +2,8 @@
 ghost use Rattle.aeth_base.specs.declared.ids.CoreId.{CoreId};
 ghost use Rattle.aeth_check.specs.Firsts.{first_line, first_pair};
 ghost use Rattle.aeth_check.specs.Seats.{first_misseated, is_elsewhere, is_misseated, is_one_seat};
-ghost use Rattle.aeth_check.specs.Seats.{ni_of, seat_line, seat_place};
+ghost use Rattle.aeth_check.specs.Seats.{seat_line, seat_place};
+ghost use Rattle.aeth_plan.specs.Seated.{ni_of};
 ghost use Rattle.aeth_check.specs.Verdict.{misseated, shared_seat};
 ghost use Rattle.std.specs.Prelude.{◌≡◌, ◌==◌, ℕ, IfOk, IsTrue, None};
 

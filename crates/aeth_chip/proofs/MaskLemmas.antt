@@ -11,7 +11,7 @@ use Rattle.std.proofs.lemmas.Nat.Bits.{bit_at_above, bit_at_not, bit_at_ones, bi
 use Rattle.std.proofs.lemmas.Nat.Bits.{bit_at_or}
 use Rattle.std.proofs.lemmas.Nat.Bits.{bit_at_cat_high, bit_at_cat_low, bit_at_clear_other}
 use Rattle.std.proofs.lemmas.Nat.Bits.{bit_at_clear_same}
-use Rattle.aeth_chip.specs.Levels.{HasBit, IsLedFrom, IsOrigin, LeadsTo}
+use Rattle.aeth_chip.specs.Levels.{HasBit, IsLedFrom, IsOrigin, LeadsTo, half_places}
 
 -- A place is in a set or not.
 pub bit-cases : (set place : ℕ) → HasBit set place ⊎ (bit_at set place ≡ 0)
@@ -47,70 +47,70 @@ pub and_bit-both : (a b place : ℕ) → HasBit a place → HasBit b place
 and_bit-both a b place has other = omega (arith, bit_at_and a b place, has, other)
 
 -- A mask is its halves.
-halves : (set : ℕ) → set / 2 ^ 64 * 2 ^ 64 + set % 2 ^ 64 ≡ set
+halves : (set : ℕ) → set / 2 ^ half_places * 2 ^ half_places + set % 2 ^ half_places ≡ set
 halves set = omega arith
 
-low_bit : (set i : ℕ) → i < 64 → bit_at (set % 2 ^ 64) i ≡ bit_at set i
+low_bit : (set i : ℕ) → i < half_places → bit_at (set % 2 ^ half_places) i ≡ bit_at set i
 low_bit set i within =
-    sym (bit_at_cat_low (set / 2 ^ 64) 64 (set % 2 ^ 64) i within)
+    sym (bit_at_cat_low (set / 2 ^ half_places) half_places (set % 2 ^ half_places) i within)
     ∙ ap (λ n. bit_at n i) (halves set)
 
-high_bit : (set i : ℕ) → bit_at (set / 2 ^ 64) i ≡ bit_at set (64 + i)
+high_bit : (set i : ℕ) → bit_at (set / 2 ^ half_places) i ≡ bit_at set (half_places + i)
 high_bit set i =
-    let back : 64 + i - 64 ≡ i = omega arith in
-    ap (bit_at (set / 2 ^ 64)) (sym back)
-    ∙ sym (bit_at_cat_high (set / 2 ^ 64) 64 (set % 2 ^ 64) (64 + i) (omega arith) (omega arith))
-    ∙ ap (λ n. bit_at n (64 + i)) (halves set)
+    let back : half_places + i - half_places ≡ i = omega arith in
+    ap (bit_at (set / 2 ^ half_places)) (sym back)
+    ∙ sym (bit_at_cat_high (set / 2 ^ half_places) half_places (set % 2 ^ half_places) (half_places + i) (omega arith) (omega arith))
+    ∙ ap (λ n. bit_at n (half_places + i)) (halves set)
 
 -- A place of the lower half has a bit of it.
-pub low-has : (set i : ℕ) → HasBit (set % 2 ^ 64) i → (i < 64) × HasBit set i
-low-has set i has = elim (cases_lt i 64) [
+pub low-has : (set i : ℕ) → HasBit (set % 2 ^ half_places) i → (i < half_places) × HasBit set i
+low-has set i has = elim (cases_lt i half_places) [
   | inl low ↦ (low, sym (low_bit set i low) ∙ has)
   | inr far ↦ absurd
-      (omega (arith, has, bit_at_above (set % 2 ^ 64) 64 i (omega arith) far))
+      (omega (arith, has, bit_at_above (set % 2 ^ half_places) half_places i (omega arith) far))
 ]
 
-pub has-low : (set i : ℕ) → i < 64 → HasBit set i → HasBit (set % 2 ^ 64) i
+pub has-low : (set i : ℕ) → i < half_places → HasBit set i → HasBit (set % 2 ^ half_places) i
 has-low set i low has = low_bit set i low ∙ has
 
 -- A place of the upper half too.
-pub high-has : (set i : ℕ) → HasBit (set / 2 ^ 64) i → HasBit set (64 + i)
+pub high-has : (set i : ℕ) → HasBit (set / 2 ^ half_places) i → HasBit set (half_places + i)
 high-has set i has = sym (high_bit set i) ∙ has
 
-pub has-high : (set place : ℕ) → 64 ≤ place → HasBit set place
-    → HasBit (set / 2 ^ 64) (place - 64)
+pub has-high : (set place : ℕ) → half_places ≤ place → HasBit set place
+    → HasBit (set / 2 ^ half_places) (place - half_places)
 has-high set place high has =
-    let back : 64 + (place - 64) ≡ place = omega arith in
-    high_bit set (place - 64) ∙ ap (bit_at set) back ∙ has
+    let back : half_places + (place - half_places) ≡ place = omega arith in
+    high_bit set (place - half_places) ∙ ap (bit_at set) back ∙ has
 
 -- What leads to the halves of a set.
 pub led-halves : (origins : List ℕ) (set low high from : ℕ)
-    → IsLedFrom low from ((i : ℕ) × HasBit (set % 2 ^ 64) i × IsOrigin origins from (0 + i))
-    → IsLedFrom high from ((i : ℕ) × HasBit (set / 2 ^ 64) i × IsOrigin origins from (64 + i))
+    → IsLedFrom low from ((i : ℕ) × HasBit (set % 2 ^ half_places) i × IsOrigin origins from (0 + i))
+    → IsLedFrom high from ((i : ℕ) × HasBit (set / 2 ^ half_places) i × IsOrigin origins from (half_places + i))
     → IsLedFrom (bit_or low high) from (LeadsTo origins set from)
 led-halves origins set low high from lower upper = (
   λ has. elim (or_bit-cases low high from has) [
     | inl one ↦
         let (i, bit, leads) = lower.0 one in
         (i, (low-has set i bit).1, subst (IsOrigin origins from) (zero-add i) leads)
-    | inr one ↦ let (i, bit, leads) = upper.0 one in (64 + i, high-has set i bit, leads)
+    | inr one ↦ let (i, bit, leads) = upper.0 one in (half_places + i, high-has set i bit, leads)
   ],
-  λ (to, bit, leads). elim (cases_lt to 64) [
+  λ (to, bit, leads). elim (cases_lt to half_places) [
     | inl below ↦ or_bit-left low high from (lower.1 (
       to,
       has-low set to below bit,
       subst (IsOrigin origins from) (sym (zero-add to)) leads,
     ))
     | inr above ↦
-        let back : to ≡ 64 + (to - 64) = omega arith in
+        let back : to ≡ half_places + (to - half_places) = omega arith in
         or_bit-right low high from
-        (upper.1 (to - 64, has-high set to above bit, subst (IsOrigin origins from) back leads))
+        (upper.1 (to - half_places, has-high set to above bit, subst (IsOrigin origins from) back leads))
   ],
 )
 
 -- The lowest bit of a half of a mask.
-pub lowest_bit : (rest : ℕ) → 0 < rest → rest < 2 ^ 64
-    → (trailing_zeros w64 rest < 64) × HasBit rest (trailing_zeros w64 rest)
+pub lowest_bit : (rest : ℕ) → 0 < rest → rest < 2 ^ half_places
+    → (trailing_zeros w64 rest < half_places) × HasBit rest (trailing_zeros w64 rest)
 lowest_bit rest some small =
     let lowest = bit_at-trailing_zeros w64 rest some small in (lowest.0, lowest.1)
 
@@ -119,10 +119,10 @@ abbrev pub without_bit : ℕ → ℕ → ℕ
 without_bit rest bit = bit_and rest (bit_not w64 (1 * 2 ^ bit % 2 ^ bits w64))
 
 -- It has the others.
-pub without-only : (rest bit i : ℕ) → rest < 2 ^ 64 → bit < 64 → HasBit (without_bit rest bit) i
+pub without-only : (rest bit i : ℕ) → rest < 2 ^ half_places → bit < half_places → HasBit (without_bit rest bit) i
     → HasBit rest i × (i ≢ bit)
 without-only rest bit i small within has =
-    elim (cases_lt i 64) [
+    elim (cases_lt i half_places) [
       | inl low ↦ elim (cases_eq i bit) [
         | inl same ↦
             let gone = ap (bit_at (without_bit rest bit)) same
@@ -132,23 +132,23 @@ without-only rest bit i small within has =
       ]
       | inr far ↦
           let fewer = and_le_l rest (bit_not w64 (1 * 2 ^ bit % 2 ^ bits w64)) in
-          let none = bit_at_above (without_bit rest bit) 64 i (omega (arith, fewer, small)) far in
+          let none = bit_at_above (without_bit rest bit) half_places i (omega (arith, fewer, small)) far in
           absurd (omega (arith, has, none))
     ]
 
-pub without-each : (rest bit i : ℕ) → rest < 2 ^ 64 → bit < 64 → HasBit rest i
+pub without-each : (rest bit i : ℕ) → rest < 2 ^ half_places → bit < half_places → HasBit rest i
     → (i ≡ bit) ⊎ HasBit (without_bit rest bit) i
 without-each rest bit i small within has =
-    elim (cases_lt i 64) [
+    elim (cases_lt i half_places) [
       | inl low ↦ elim (cases_eq i bit) [
         | inl same ↦ inl same
         | inr other ↦ inr (bit_at_clear_other w64 rest bit within i low other ∙ has)
       ]
-      | inr far ↦ absurd (omega (arith, has, bit_at_above rest 64 i small far))
+      | inr far ↦ absurd (omega (arith, has, bit_at_above rest half_places i small far))
     ]
 
 -- It is less.
-pub without-less : (rest bit : ℕ) → bit < 64 → HasBit rest bit → without_bit rest bit < rest
+pub without-less : (rest bit : ℕ) → bit < half_places → HasBit rest bit → without_bit rest bit < rest
 without-less rest bit within has =
     elim (cases_lt (without_bit rest bit) rest) [
       | inl less ↦ less

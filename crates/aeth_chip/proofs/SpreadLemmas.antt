@@ -7,7 +7,7 @@ use Rattle.std.specs.List.{slice_set}
 use Rattle.std.proofs.lemmas.Bool.{cases_eq, cases_lt}
 use Rattle.std.proofs.lemmas.Option.{same_Some, slice_get-get_or}
 use Rattle.aeth_base.proofs.Lists.{slice_get-slice_set_other, slice_get-slice_set_same}
-use Rattle.aeth_chip.specs.Levels.{HasBit, HasLevel, MarksFrom, MarksLevel}
+use Rattle.aeth_chip.specs.Levels.{HasBit, HasLevel, MarksFrom, MarksLevel, half_places}
 use Rattle.aeth_chip.proofs.MaskLemmas.{bit-cases, has-high, has-low, high-has, low-has}
 
 -- How many places have no level.
@@ -72,19 +72,19 @@ level-set levels at place level within got = elim (cases_eq place at) [
 
 -- The lower half of a set got its level, and then the upper half.
 pub marks-halves : (set level : ℕ) (old mid new : List (Option ℕ))
-    → MarksFrom (set % 2 ^ 64) 0 level old mid → MarksFrom (set / 2 ^ 64) 64 level mid new
+    → MarksFrom (set % 2 ^ half_places) 0 level old mid → MarksFrom (set / 2 ^ half_places) half_places level mid new
     → MarksLevel set level old new
 marks-halves set level old mid new first second = record {
   size = second.size ∙ first.size;
-  here = λ place has. elim (cases_lt place 64) [
+  here = λ place has. elim (cases_lt place half_places) [
     | inl low ↦
         second.away place (λ i bit same. absurd (omega arith))
         ∙ subst (λ (p : ℕ). HasLevel mid p level) (zero-add place)
         (first.here place (has-low set place low has))
     | inr high ↦
-        let back : 64 + (place - 64) ≡ place = omega arith in
+        let back : half_places + (place - half_places) ≡ place = omega arith in
         subst (λ (p : ℕ). HasLevel new p level) back
-        (second.here (place - 64) (has-high set place high has))
+        (second.here (place - half_places) (has-high set place high has))
   ];
   away = λ place none.
       second.away place (λ i bit same.

@@ -12,8 +12,8 @@ use Rattle.aeth_answers.specs.declared.answer.Stop.{Stop}
 use Rattle.aeth_answers.proofs.Reading.{number_within-bounds}
 use Rattle.aeth_base.specs.Limits.{max_cycles}
 use Rattle.aeth_base.specs.Name.{name_of}
-use Rattle.aeth_chain_items.specs.ItemNames.{AreItemNames, item_names_of}
-use Rattle.aeth_chain_items.specs.declared.names.ItemName.{ItemName}
+use Rattle.aeth_chain.specs.ItemNames.{AreItemNames, item_names_of}
+use Rattle.aeth_chain.specs.declared.names.ItemName.{ItemName}
 use Rattle.aeth_design_commands.specs.Commands.{design_command}
 use Rattle.aeth_design_commands.specs.declared.command.DesignCommand.{DesignCommand}
 use Rattle.aeth_explain_commands.specs.Commands.{explain_command}

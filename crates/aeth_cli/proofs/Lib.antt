@@ -1,2 +1,4 @@
 mod CommandLemmas
 mod PromiseLemmas
+mod HeadlineLemmas
+mod KeptLemmas

@@ -2,3 +2,9 @@ pub mod Commands
 pub mod Limits
 pub mod Promise
 pub mod Told
+pub mod Asked
+pub mod Headline
+pub mod Kept
+pub mod Machines
+pub mod Printed
+pub mod Runs

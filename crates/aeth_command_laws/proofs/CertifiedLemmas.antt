@@ -27,7 +27,7 @@ use Rattle.aeth_explain.proofs.VerdictLemmas.{verdict-complete}
 use Rattle.aeth_files.proofs.ToldLemmas.{file_kept}
 use Rattle.aeth_group.specs.Members.{groups_of}
 use Rattle.aeth_paths.specs.Trials.{TrialData}
-use Rattle.aeth_playing.specs.declared.inputs.Design.{Design}
+use Rattle.aeth_plan.specs.declared.design.Design.{Design}
 use Rattle.aeth_text.specs.Order.{line_after}
 use Rattle.aeth_explain_commands.specs.Explain.{cert_task, confirm_task, explain_task}
 use Rattle.aeth_explain_commands.specs.Explain.{explanation, flaw_of, refused_tries, verdicts_job}

@@ -12,19 +12,19 @@ use Rattle.aeth_chain.specs.Chain.{IsChain, legs_of}
 use Rattle.aeth_chain.specs.ChainBounds.{AreDueWordsLanded}
 use Rattle.aeth_chain.specs.ChainInputs.{AreTabled}
 use Rattle.aeth_chain.specs.declared.item.ChainItem.{ChainItem}
-use Rattle.aeth_chain_items.specs.ChainItems.{items_of}
-use Rattle.aeth_chain_items.specs.ItemNames.{AreItemNames}
-use Rattle.aeth_chain_items.specs.Shapes.{AreShapesIn, shapes_in}
-use Rattle.aeth_chain_items.specs.declared.names.ItemName.{ItemName}
+use Rattle.aeth_chain.specs.ChainItems.{items_of}
+use Rattle.aeth_chain.specs.ItemNames.{AreItemNames}
+use Rattle.aeth_chain.specs.Shapes.{AreShapesIn, shapes_in}
+use Rattle.aeth_chain.specs.declared.names.ItemName.{ItemName}
 use Rattle.aeth_chip.specs.Chip.{ChipData}
 use Rattle.aeth_files.proofs.ToldLemmas.{file_kept}
 use Rattle.aeth_group.specs.Members.{groups_of}
 use Rattle.aeth_plan.specs.Plan.{PlanData}
+use Rattle.aeth_plan.specs.Design.{IsDesign}
 use Rattle.aeth_plan_commands.specs.Chain.{chain_job, chain_task, items_task, named_task, planned_task}
 use Rattle.aeth_plan_commands.specs.Chain.{words_task}
 use Rattle.aeth_plan_commands.specs.declared.chain.ChainFiles.{ChainFiles}
 use Rattle.aeth_server.specs.declared.shape.ChannelShape.{ChannelShape}
-use Rattle.aeth_tables.specs.Reserved.{IsDesign}
 use Rattle.aeth_tables.specs.Tables.{tables_of}
 use Rattle.aeth_trace.specs.Receivers.{receivers_of}
 use Rattle.aeth_trace.specs.Words.{AreWordsOf, words_of}

@@ -12,22 +12,22 @@ use Rattle.aeth_answers.specs.Status.{done_status}
 use Rattle.aeth_answers.specs.Task.{ends, job_with}
 use Rattle.aeth_app.specs.App.{AppData}
 use Rattle.aeth_base.specs.declared.ids.Channel.{Channel}
-use Rattle.aeth_base.specs.declared.ids.Side.{Side}
-use Rattle.aeth_base.specs.declared.ids.Side.TheVariants.{Back, Fwd}
 use Rattle.aeth_base.specs.declared.ids.UseId.{UseId}
 use Rattle.aeth_base.specs.Sides.{channels_with}
 use Rattle.aeth_base.proofs.Lists.{map-at, map-slice_get}
-use Rattle.aeth_base.proofs.Members.{All-slice_get, Contains-filter, Contains-flat_map, Contains-here}
+use Rattle.aeth_base.proofs.Members.{All-slice_get, Contains-filter, Contains-flat_map}
 use Rattle.aeth_base.proofs.Members.{Contains-map, Contains-slice_get, Contains-there}
 use Rattle.aeth_base.proofs.Members.{slice_get-Contains}
 use Rattle.aeth_base.proofs.Ranges.{Contains-range}
+use Rattle.aeth_base.proofs.SideLemmas.{own-channel}
 use Rattle.aeth_chip.specs.Chip.{ChipData}
 use Rattle.aeth_group.specs.Members.{group_at, groups_of, has_at}
 use Rattle.aeth_group.proofs.MemberLemmas.{connections-groups_of}
 use Rattle.aeth_ni.specs.Limits.{queues_of_interface}
 use Rattle.aeth_ni.specs.declared.row.ChannelRow.{ChannelRow}
 use Rattle.aeth_plan.specs.Plan.{PlanData, name_at}
-use Rattle.aeth_playing.specs.RunInputs.{inputs_of}
+use Rattle.aeth_plan.specs.Design.{IsDesign}
+use Rattle.aeth_machine.specs.RunInputs.{inputs_of}
 use Rattle.aeth_reconf.specs.Rows.{channels_that, rows_that}
 use Rattle.aeth_report.specs.Design.{shape_at}
 use Rattle.aeth_report.specs.Flows.{flow_of}
@@ -36,7 +36,6 @@ use Rattle.aeth_server.specs.ChannelShape.{shape_of}
 use Rattle.aeth_server.specs.Shape.{Shape, channel_latency}
 use Rattle.aeth_server.specs.declared.shape.ChannelShape.{ChannelShape}
 use Rattle.aeth_tables.specs.Promises.{HasNumbers, KeepPromises}
-use Rattle.aeth_tables.specs.Reserved.{IsDesign}
 use Rattle.aeth_tables.specs.TableText.{IsRowOf, entry_lines, lines_of_queue, lines_with, promised}
 use Rattle.aeth_tables.specs.TableText.{promised_of, queue_lines, queues_at, queues_with, rows_at}
 use Rattle.aeth_tables.specs.Tables.{tables_of}
@@ -63,19 +62,6 @@ pub record TablesTell : Type 0 where
   pub flows : (inputs : Inputs) (channel : Channel) (session : Session)
       → IsTabled (row_at (design_of inputs) session.group.0 channel)
       (flow_of (run_of inputs) channel session)
-
--- A channel is one of its connection's.
-own-channel : (channel : Channel) → Contains (channels_with channel.conn.0) channel
-own-channel channel =
-    let fwd : Channel = record { conn = channel.conn; side = Fwd } in
-    let back : Channel = record { conn = channel.conn; side = Back } in
-    let cases : (side : Side) → channel.side ≡ side
-    → Contains (fwd ∷ back ∷ []) (record { conn = channel.conn; side = side }) =
-    elim [
-      | Fwd ↦ λ is. Contains-here fwd (back ∷ [])
-      | Back ↦ λ is. Contains-there fwd (back ∷ []) back (Contains-here back [])
-    ]
-    in cases channel.side refl
 
 -- What stands at a place of two lists stands there in their pairs.
 zip-at : {X Y : Type 0} (xs : List X) (ys : List Y) (i : ℕ) (x : X) (y : Y)

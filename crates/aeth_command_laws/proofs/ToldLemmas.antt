@@ -15,7 +15,6 @@ use Rattle.aeth_app.specs.AppFile.{app_of}
 use Rattle.aeth_base.specs.Faults.{BrokenRule}
 use Rattle.aeth_base.specs.Limits.{max_cycles}
 use Rattle.aeth_base.specs.declared.ids.UseId.{UseId}
-use Rattle.aeth_check.specs.Accepted.{IsAccepted}
 use Rattle.aeth_check.specs.Verdict.{verdict_of}
 use Rattle.aeth_check.specs.declared.verdict.Verdict.TheVariants.{Accepted}
 use Rattle.aeth_chip.specs.Chip.{ChipData, IsChip}
@@ -24,7 +23,8 @@ use Rattle.aeth_group.specs.Members.{GroupsData, groups_of}
 use Rattle.aeth_plan.specs.Plan.{PlanData}
 use Rattle.aeth_plan.specs.PlanText.{plan_of}
 use Rattle.aeth_plan.proofs.PlanReading.{plan_only}
-use Rattle.aeth_playing.specs.declared.inputs.Design.{Design}
+use Rattle.aeth_plan.specs.Accepted.{IsAccepted}
+use Rattle.aeth_plan.specs.declared.design.Design.{Design}
 use Rattle.aeth_io.specs.Limits.{max_file_bytes}
 use Rattle.aeth_report.specs.Log.{LogData}
 use Rattle.aeth_tables.specs.Switching.{spans_of}
@@ -44,7 +44,7 @@ use Rattle.aeth_files.specs.Files.{design_file}
 use Rattle.aeth_files.specs.Plans.{accepted_file}
 use Rattle.aeth_files.specs.Told.{IsTold}
 use Rattle.aeth_files.specs.Uses.{named_use, on_use, unknown_use}
-use Rattle.aeth_files.specs.declared.runs.RunFiles.{RunFiles}
+use Rattle.aeth_run_files.specs.declared.runs.RunFiles.{RunFiles}
 use Rattle.aeth_files.proofs.ToldLemmas.{file_kept, verdict_kept}
 use Rattle.aeth_design_commands.specs.Allocate.{allocate_job, allocate_task}
 use Rattle.aeth_run_commands.specs.Simulate.{simulate_task, simulation_job}

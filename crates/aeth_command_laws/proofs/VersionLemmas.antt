@@ -12,7 +12,7 @@ use Rattle.aeth_app.specs.AppFile.{app_of}
 use Rattle.aeth_audit.specs.LinkLog.{link_log_of}
 use Rattle.aeth_base.specs.Faults.{BrokenRule}
 use Rattle.aeth_base.specs.declared.ids.UseId.{UseId}
-use Rattle.aeth_chain_items.specs.ChainItems.{items_of}
+use Rattle.aeth_chain.specs.ChainItems.{items_of}
 use Rattle.aeth_check.specs.Verdict.{verdict_of}
 use Rattle.aeth_check.specs.declared.verdict.Verdict.{Verdict}
 use Rattle.aeth_check.specs.declared.verdict.Verdict.TheVariants.{Accepted, Broken, Missing}
@@ -33,11 +33,12 @@ use Rattle.aeth_explain_commands.specs.Commands.{refusals_task}
 use Rattle.aeth_explain_commands.specs.Explain.{cert_task, explanation, refused_tries, verdicts_job}
 use Rattle.aeth_explain_commands.specs.declared.command.ExplainCommand.{ExplainCommand}
 use Rattle.aeth_explain_commands.specs.declared.command.ExplainCommand.TheVariants as refusals
-use Rattle.aeth_files.specs.Files.{chip_file, design_file, receivers_file, switches_file}
+use Rattle.aeth_files.specs.Files.{chip_file, design_file}
+use Rattle.aeth_run_files.specs.TraceFiles.{receivers_file, switches_file}
 use Rattle.aeth_files.specs.Plans.{accepted_file, on_verdict}
-use Rattle.aeth_files.specs.Runs.{traced_files}
+use Rattle.aeth_run_files.specs.Runs.{traced_files}
 use Rattle.aeth_files.specs.Uses.{named_use, on_use}
-use Rattle.aeth_files.specs.declared.runs.RunFiles.{RunFiles}
+use Rattle.aeth_run_files.specs.declared.runs.RunFiles.{RunFiles}
 use Rattle.aeth_group.specs.Members.{groups_of}
 use Rattle.aeth_io.specs.Limits.{max_file_bytes}
 use Rattle.aeth_plan.specs.Plan.{PlanData}
@@ -52,7 +53,7 @@ use Rattle.aeth_plan_commands.specs.RouteTables.{route_tables_job}
 use Rattle.aeth_plan_commands.specs.Tables.{tables_job}
 use Rattle.aeth_plan_commands.specs.declared.command.PlanCommand.{PlanCommand}
 use Rattle.aeth_plan_commands.specs.declared.command.PlanCommand.TheVariants as plan
-use Rattle.aeth_playing.specs.declared.inputs.Design.{Design}
+use Rattle.aeth_plan.specs.declared.design.Design.{Design}
 use Rattle.aeth_run_commands.specs.TracedDesigns.{TracedData, traced_design, traced_for}
 use Rattle.aeth_tables.specs.Switching.{spans_of}
 use Rattle.aeth_trace.specs.Receivers.{receivers_of}

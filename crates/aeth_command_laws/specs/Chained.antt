@@ -9,15 +9,15 @@ use Rattle.aeth_base.specs.declared.ids.UseId.{UseId}
 use Rattle.aeth_chain.specs.Chain.{Leg, legs_of}
 use Rattle.aeth_chain.specs.ChainBounds.{AreDueWordsLanded}
 use Rattle.aeth_chain.specs.declared.item.ChainItem.{ChainItem}
-use Rattle.aeth_chain_items.specs.ChainItems.{items_of}
-use Rattle.aeth_chain_items.specs.Shapes.{shapes_in}
-use Rattle.aeth_chain_items.specs.declared.names.ItemName.{ItemName}
+use Rattle.aeth_chain.specs.ChainItems.{items_of}
+use Rattle.aeth_chain.specs.Shapes.{shapes_in}
+use Rattle.aeth_chain.specs.declared.names.ItemName.{ItemName}
 use Rattle.aeth_files.specs.Told.{IsTold}
 use Rattle.aeth_group.specs.Members.{groups_of}
 use Rattle.aeth_plan.specs.Plan.{PlanData}
 use Rattle.aeth_plan_commands.specs.Chain.{chain_job}
 use Rattle.aeth_plan_commands.specs.declared.chain.ChainFiles.{ChainFiles}
-use Rattle.aeth_playing.specs.declared.inputs.Design.{Design}
+use Rattle.aeth_plan.specs.declared.design.Design.{Design}
 use Rattle.aeth_tables.specs.Tables.{tables_of}
 use Rattle.aeth_trace.specs.Receivers.{receivers_of}
 use Rattle.aeth_trace.specs.Switches.{use_names}

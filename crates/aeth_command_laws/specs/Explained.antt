@@ -17,7 +17,7 @@ use Rattle.aeth_explain.specs.CutsText.{cuts_of_text, line_of}
 use Rattle.aeth_files.specs.Told.{IsTold}
 use Rattle.aeth_group.specs.Members.{groups_of}
 use Rattle.aeth_paths.specs.Trials.{TrialData}
-use Rattle.aeth_playing.specs.declared.inputs.Design.{Design}
+use Rattle.aeth_plan.specs.declared.design.Design.{Design}
 use Rattle.aeth_explain_commands.specs.Explain.{explanation, refused_tries, verdicts_job}
 use Rattle.aeth_command_laws.specs.Told.{IsDesignTold}
 

@@ -14,7 +14,7 @@ use Rattle.aeth_files.specs.Told.{IsTold}
 use Rattle.aeth_group.specs.Members.{groups_of}
 use Rattle.aeth_plan.specs.Plan.{PlanData}
 use Rattle.aeth_plan_commands.specs.declared.audit.AuditFiles.{AuditFiles}
-use Rattle.aeth_playing.specs.declared.inputs.Design.{Design as Given}
+use Rattle.aeth_plan.specs.declared.design.Design.{Design as Given}
 use Rattle.aeth_reconf.specs.Timeline.{timeline_of}
 use Rattle.aeth_report.specs.Design.{Design}
 use Rattle.aeth_tables.specs.Switching.{spans_of}

@@ -10,8 +10,8 @@ use Rattle.aeth_answers.specs.Job.{Job}
 use Rattle.aeth_base.specs.declared.ids.Channel.{Channel}
 use Rattle.aeth_group.specs.Members.{group_at, groups_of, has_at}
 use Rattle.aeth_plan.specs.Plan.{connection_names, name_at}
-use Rattle.aeth_playing.specs.RunInputs.{inputs_of}
-use Rattle.aeth_playing.specs.declared.inputs.Traces.{Traces}
+use Rattle.aeth_machine.specs.RunInputs.{inputs_of}
+use Rattle.aeth_machine.specs.declared.traces.Traces.{Traces}
 use Rattle.aeth_report.specs.Flows.{Flow, Run, flow_of, sessions_in}
 use Rattle.aeth_report.specs.declared.session.Session.{Session}
 use Rattle.aeth_ni.specs.declared.row.ChannelRow.{ChannelRow}

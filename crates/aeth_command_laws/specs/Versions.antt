@@ -14,7 +14,7 @@ use Rattle.aeth_design_commands.specs.declared.command.DesignCommand.{DesignComm
 use Rattle.aeth_design_commands.specs.declared.command.DesignCommand.TheVariants as design
 use Rattle.aeth_explain_commands.specs.declared.command.ExplainCommand.{ExplainCommand}
 use Rattle.aeth_explain_commands.specs.declared.command.ExplainCommand.TheVariants as refusals
-use Rattle.aeth_files.specs.declared.runs.RunFiles.{RunFiles}
+use Rattle.aeth_run_files.specs.declared.runs.RunFiles.{RunFiles}
 use Rattle.aeth_io.specs.Limits.{max_file_bytes}
 use Rattle.aeth_plan_commands.specs.declared.command.PlanCommand.{PlanCommand}
 use Rattle.aeth_plan_commands.specs.declared.command.PlanCommand.TheVariants as plan

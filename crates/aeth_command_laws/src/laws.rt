@@ -5,8 +5,8 @@ ghost use Rattle.aeth_answers.specs.Job.{Job};
 ghost use Rattle.aeth_answers.specs.Status.{done_status, refused_status};
 ghost use Rattle.aeth_answers.specs.Task.{Task, ends, job_with};
 ghost use Rattle.aeth_base.specs.Limits.{max_cycles};
-ghost use Rattle.aeth_chain_items.specs.ItemNames.{AreItemNames};
-ghost use Rattle.aeth_chain_items.specs.declared.names.ItemName.{ItemName};
+ghost use Rattle.aeth_chain.specs.ItemNames.{AreItemNames};
+ghost use Rattle.aeth_chain.specs.declared.names.ItemName.{ItemName};
 ghost use Rattle.aeth_command_laws.specs.Chained.{IsChained};
 ghost use Rattle.aeth_command_laws.specs.Explained.{IsConfirmed, IsExplained};
 ghost use Rattle.aeth_command_laws.specs.Logged.{IsAudited};
@@ -20,7 +20,7 @@ ghost use Rattle.aeth_design_commands.specs.declared.command.DesignCommand.{Desi
 ghost use Rattle.aeth_explain_commands.specs.Commands.{refusals_task};
 ghost use Rattle.aeth_explain_commands.specs.Explain.{confirm_task, explain_task};
 ghost use Rattle.aeth_explain_commands.specs.declared.command.ExplainCommand.{ExplainCommand};
-ghost use Rattle.aeth_files.specs.declared.runs.RunFiles.{RunFiles};
+ghost use Rattle.aeth_run_files.specs.declared.runs.RunFiles.{RunFiles};
 ghost use Rattle.aeth_plan_commands.specs.Audit.{audit_task};
 ghost use Rattle.aeth_plan_commands.specs.Chain.{chain_task};
 ghost use Rattle.aeth_plan_commands.specs.Commands.{plan_task};
@@ -114,7 +114,7 @@ pub fn chains_meet_bounds()
     aeth_app::laws::files();
     aeth_check::laws::verdicts();
     aeth_trace::laws::files();
-    aeth_chain_items::laws::items_are_chains();
+    aeth_chain::laws::items_are_chains();
     aeth_chain::laws::chains_land();
 }
 

@@ -1,5 +1,5 @@
 -- What rows that enter the tables of routers leave as it was, and what they change.
-use Rattle.std.proofs.Common.{◌≡◌, refl, ap, List, map}
+use Rattle.std.proofs.Common.{ℕ, zero, suc, ◌≡◌, refl, ap, List, [], ◌∷◌, map, Some}
 use Rattle.aeth_router.specs.TableRouter.{TableRouterState}
 use Rattle.aeth_router.specs.declared.part.Part.{Part}
 use Rattle.aeth_router.specs.declared.part.Part.TheVariants.{Interface, Router, Stage, TableRouter}
@@ -10,6 +10,7 @@ use Rattle.aeth_components.specs.Entering.{entered, with_rows}
 use Rattle.aeth_components.specs.Frames.{RouterFrame, frame_of}
 use Rattle.aeth_components.specs.Injecting.{entries_of}
 use Rattle.aeth_components.specs.Passing.{way_of}
+use Rattle.aeth_components.specs.View.{queue_in, queue_of}
 use Rattle.aeth_components.proofs.CycleLemmas.{IsComponents-framed}
 use Rattle.aeth_components.proofs.FrameLemmas.{views-map}
 
@@ -47,6 +48,20 @@ ways-entered rows = views-map way_of (entered rows) (way-entered rows)
 pub tables-entered : (rows : List RouterRow) (parts : List Part)
     → map entries_of (with_rows rows parts) ≡ map entries_of parts
 tables-entered rows = views-map entries_of (entered rows) (entries-entered rows)
+
+-- So does each queue.
+queue_in-entered : (rows : List RouterRow) (part : Part) (queue : ℕ)
+    → queue_in queue (Some (entered rows part)) ≡ queue_in queue (Some part)
+queue_in-entered rows (Interface ni) queue = refl
+queue_in-entered rows (Router router) queue = refl
+queue_in-entered rows (TableRouter router) queue = refl
+queue_in-entered rows (Stage stage) queue = refl
+
+pub queue_of-entered : (rows : List RouterRow) (parts : List Part) (number queue : ℕ)
+    → queue_of (with_rows rows parts) number queue ≡ queue_of parts number queue
+queue_of-entered rows [] number queue = refl
+queue_of-entered rows (part ∷ parts) zero queue = queue_in-entered rows part queue
+queue_of-entered rows (part ∷ parts) (suc number) queue = queue_of-entered rows parts number queue
 
 -- What holds of components still holds once rows have entered.
 pub IsComponents-entered : (rows : List RouterRow) (all : ComponentsState) → IsComponents all

@@ -1,6 +1,6 @@
 -- Laws of the walk over the interfaces in which each that sends something of its own drives it.
-use Rattle.std.proofs.Common.{ℕ, ◌≡◌, ◌≢◌, ◌<◌, ◌≤◌, ◌+◌, refl, sym, ap, ◌∙◌, arith, cond, false}
-use Rattle.std.proofs.Common.{true, inl, inr, [], List, length, length-set, map, Option, Some, take}
+use Rattle.std.proofs.Common.{ℕ, ◌≡◌, ◌≢◌, ◌<◌, ◌≤◌, ◌+◌, ◌%◌, refl, sym, ap, ◌∙◌, arith, cond, false}
+use Rattle.std.proofs.Common.{true, inl, inr, List, length, length-set, map, Option, Some, take}
 use Rattle.std.proofs.Common.{count_by, get_or, slice_get}
 use Rattle.std.specs.Prelude.{slice_set}
 use Rattle.std.specs.Option.{option_map}
@@ -10,12 +10,15 @@ use Rattle.std.proofs.lemmas.List.Sums.{count_by_more_yes, sum_by-take-le}
 use Rattle.std.proofs.lemmas.Option.{get_or_from_slice_get, same_Some, slice_get-get_or}
 use Rattle.std.proofs.lemmas.Option.{slice_get-map, slice_get_within}
 use Rattle.aeth_base.proofs.Lists.{same_list, slice_get-slice_set_other, slice_get-slice_set_same}
-use Rattle.aeth_base.specs.Marks.{marked_from}
 use Rattle.aeth_clocked.specs.Wires.{Drives, flit_on}
 use Rattle.aeth_clocked.specs.declared.flit.Flit.{Flit}
 use Rattle.aeth_router.specs.Part.{after_of, emit_of, outputs_of}
 use Rattle.aeth_router.specs.declared.part.Part.{Part}
+use Rattle.aeth_base.specs.Marks.{bit_of}
+use Rattle.aeth_components.specs.declared.injecting.Injecting.{Injecting}
 use Rattle.aeth_components.specs.Frames.{IsWired, frame_of}
+use Rattle.aeth_components.specs.Injecting.{AreInjecting, marks_at}
+use Rattle.aeth_components.proofs.InjectingLemmas.{AreInjecting-sends}
 use Rattle.aeth_components.specs.Handing.{HasWaitingPlaces, Wakes}
 use Rattle.aeth_components.specs.Seen.{interfaces_driven}
 use Rattle.aeth_components.specs.Sending.{Injects, IsSending}
@@ -23,7 +26,7 @@ use Rattle.aeth_components.specs.Turns.{AreSendersMarked, sends_own}
 use Rattle.aeth_components.specs.declared.handing.Handing.{Handing}
 use Rattle.aeth_components.proofs.FrameLemmas.{AreDisjoint-parts}
 use Rattle.aeth_components.proofs.OwnLemmas.{after-sends, flit_on-other, flit_on-own, option_map-still}
-use Rattle.aeth_components.proofs.OwnLemmas.{mute-behind, output-below, own_driven, still-mute}
+use Rattle.aeth_components.proofs.OwnLemmas.{mute-unmarked, output-below, own_driven, still-mute}
 use Rattle.aeth_components.proofs.WakingLemmas.{Wakes-more, Wakes-none, Wakes-same}
 
 -- The components below a number have driven what they send of their own, and who waits there is woken.
@@ -102,6 +105,20 @@ module _ {cycle : ℕ} {parts : List Part} {wires : List (Option Flit)} {handing
             let same = ap (count_by (sends_own cycle)) (take-take to next parts further) in
             omega (arith, before, more, same));
       }
+
+  -- So those are up to the next marked one, where all that may send are marked.
+  pub InjectedTo-passed : (injecting : Injecting) → AreInjecting now_parts injecting → (slot next : ℕ)
+      → slot ≡ cycle % length injecting.slots.items → to ≤ next
+      → ((number : ℕ) → to ≤ number → number < next
+      → bit_of (marks_at injecting.slots.items slot) number ≡ 0)
+      → InjectedTo cycle parts wires handing steps next now_parts now_wires now_handing now_steps
+  InjectedTo-passed injecting are slot next is further none =
+      let marks = marks_at injecting.slots.items slot in
+      let senders : AreSendersMarked cycle now_parts marks =
+      rw is (AreInjecting-sends cycle now_parts injecting are) in
+      InjectedTo-until next further (λ number part at over below.
+      mute-unmarked cycle now_parts marks senders number part (injected.behind number over ∙ at)
+      (none number over below))
 
   -- The next is as it was.
   pub InjectedTo-next : (read : Part) → to < length parts
@@ -191,12 +208,12 @@ module _ {cycle : ℕ} {parts : List Part} {wires : List (Option Flit)} {handing
             omega (arith, before, one, tick));
       }
 
-  -- Where none is marked from there on, all is done.
-  module _ (marks : List ℕ) (senders : AreSendersMarked cycle parts marks)
-      (none : marked_from marks to ≡ []) where
+  -- Behind the last, all is done.
+  module _ (all : length parts ≤ to) where
     mute : (number : ℕ) (part : Part) → slice_get parts number ≡ Some part → to ≤ number
         → sends_own cycle part ≡ false
-    mute = mute-behind cycle parts marks senders none
+    mute number part at over =
+        let within = slice_get_within parts number part at in absurd (omega (arith, within, over, all))
 
     pub InjectedTo-parts : now_parts ≡ interfaces_driven cycle parts
     InjectedTo-parts = same_list now_parts (interfaces_driven cycle parts) (λ number.

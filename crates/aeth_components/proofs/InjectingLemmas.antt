@@ -1,17 +1,19 @@
--- Which interfaces have an entry for a slot: what events note of it, and that those that send are marked.
-use Rattle.std.proofs.Common.{ℕ, zero, suc, ◌≡◌, ◌≢◌, ◌<◌, ◌%◌, ◌∙◌, refl, sym, ap, arith, inl, inr}
+-- Which interfaces may send in a slot: the entries of tables, what events note of them, and that those that send are marked.
+use Rattle.std.proofs.Common.{ℕ, zero, suc, ◌≡◌, ◌≢◌, ◌<◌, ◌≤◌, ◌+◌, ◌%◌, ◌∙◌, refl, sym, ap, arith, inl, inr}
 use Rattle.std.proofs.Common.{List, [], ◌∷◌, length, map, Option, Some, None, slice_get, true}
-use Rattle.std.proofs.Common.{get_or, is_some, length-set, set, subst}
+use Rattle.std.proofs.Common.{is_some, length-set}
+use Rattle.std.specs.Prelude.{◌⊎◌}
 use Rattle.std.specs.List.{slice_index_or}
 use Rattle.std.proofs.lemmas.Bool.{cases_eq, cases_lt}
-use Rattle.std.proofs.lemmas.List.{get_or-set_other, get_or-set_same, get_or_default, get_or_past}
-use Rattle.std.proofs.lemmas.List.{length-map}
+use Rattle.std.proofs.lemmas.List.{get_or_default, get_or_past, length-map}
 use Rattle.std.proofs.lemmas.Option.{get_or_from_slice_get, same_Some}
+use Rattle.aeth_base.specs.Limits.{max_slots}
 use Rattle.aeth_base.specs.Marks.{bit_of, room_of}
 use Rattle.aeth_base.proofs.Lists.{map-at}
 use Rattle.aeth_ni.specs.Component.{emitted_by}
-use Rattle.aeth_ni.specs.Interface.{InterfaceState}
+use Rattle.aeth_ni.specs.Interface.{InterfaceState, queue_at}
 use Rattle.aeth_ni.specs.Queue.{QueueState}
+use Rattle.aeth_ni.specs.Sending.{emitted}
 use Rattle.aeth_ni.specs.Writes.{addressee, written}
 use Rattle.aeth_ni.specs.declared.write.Write.{Write}
 use Rattle.aeth_ni.specs.declared.write.Write.TheVariants.{ClearSlot, ClearRoute, SetRoute, SetSlot}
@@ -19,54 +21,67 @@ use Rattle.aeth_router.specs.declared.part.Part.{Part}
 use Rattle.aeth_router.specs.declared.part.Part.TheVariants.{Interface, Router, Stage, TableRouter}
 use Rattle.aeth_components.specs.declared.event.Event.{Event}
 use Rattle.aeth_components.specs.declared.event.Event.TheVariants.{Halt, Finish, Change}
+use Rattle.aeth_components.specs.declared.injecting.Injecting.{Injecting}
+use Rattle.aeth_components.specs.declared.lane.ChannelEnd.{ChannelEnd}
 use Rattle.aeth_components.specs.Changes.{event_done, happened, on_interface, with_part}
-use Rattle.aeth_components.specs.Events.{event_part}
-use Rattle.aeth_components.specs.Injecting.{AreInjecting, NotesWrite, entries_of, entry_at, mark_of}
-use Rattle.aeth_components.specs.Injecting.{marks_at, table_at}
-use Rattle.aeth_components.specs.Switching.{SlotWrite, Writes, entry_of, slot_write, slot_written}
+use Rattle.aeth_components.specs.Events.{IsDoable, event_part}
+use Rattle.aeth_components.specs.Frames.{Frame}
+use Rattle.aeth_components.specs.Injecting.{AreEntered, AreInjecting, HasPlaces, IsEntered, MarksMore}
+use Rattle.aeth_components.specs.Injecting.{NotesEvent, entries_of, entry_at, marks_at, may_send}
+use Rattle.aeth_components.specs.Injecting.{table_at}
+use Rattle.aeth_components.specs.Switching.{SlotWrite, Touches, Writes, entry_of, event_end, slot_write}
+use Rattle.aeth_components.specs.Switching.{slot_written}
 use Rattle.aeth_components.specs.Turns.{AreSendersMarked, sends_own}
+use Rattle.aeth_components.specs.View.{queue_in}
 use Rattle.aeth_components.proofs.PartLemmas.{length-with_part}
 use Rattle.aeth_components.proofs.SlotLemmas.{entry_of-happened_other, entry_of-happened_own}
+use Rattle.aeth_components.proofs.SwitchingLemmas.{queue_of-happened_other}
 
--- An event is noted where the marks of the slot that it writes have changed at its interface alone.
-pub NotesWrite-set : (event : Event) (write : SlotWrite) (old : List (List ℕ)) (marks new : List ℕ)
-    → slot_write event ≡ Some write → write.slot < length old
-    → marks ≡ get_or old write.slot marks → room_of new ≡ room_of marks
-    → bit_of new write.ni.0 ≡ mark_of write.entry
-    → ((other : ℕ) → other ≢ write.ni.0 → bit_of new other ≡ bit_of marks other)
-    → NotesWrite event old (set old write.slot new)
-NotesWrite-set event write old marks new writes within read room here away =
-    let before = read ∙ get_or_default old write.slot marks [] within in
-    let now = get_or-set_same old write.slot new [] within in
-    record {
-      size = length-set old write.slot new;
-      room = λ slot. elim (cases_eq slot write.slot) [
-        | inl same ↦
-            ap (λ n. room_of (marks_at (set old write.slot new) n)) same ∙ ap room_of now ∙ room
-            ∙ ap room_of before ∙ ap (λ n. room_of (marks_at old n)) (sym same)
-        | inr apart ↦ ap room_of (get_or-set_other old write.slot slot new [] apart)
-      ];
-      own = λ found is below.
-          subst (λ (some : SlotWrite).
-          bit_of (marks_at (set old write.slot new) some.slot) some.ni.0 ≡ mark_of some.entry)
-          (same_Some write found (sym writes ∙ is))
-          (ap (λ (marks : List ℕ). bit_of marks write.ni.0) now ∙ here);
-      other = λ number slot none. elim (cases_eq slot write.slot) [
-        | inl same ↦
-            ap (λ n. bit_of (marks_at (set old write.slot new) n) number) same
-            ∙ ap (λ (marks : List ℕ). bit_of marks number) now
-            ∙ away number (λ is.
-            none (record { write = write; is = writes; at_ni = sym is; at_slot = sym same }))
-            ∙ ap (λ (marks : List ℕ). bit_of marks number) before
-            ∙ ap (λ n. bit_of (marks_at old n) number) (sym same)
-        | inr apart ↦
-            ap (λ (marks : List ℕ). bit_of marks number)
-            (get_or-set_other old write.slot slot new [] apart)
-      ];
-    }
+-- There are places for fewer components too, and as many once no room has changed.
+pub HasPlaces-fewer : (count fewer : ℕ) (injecting : Injecting) → fewer ≤ count
+    → HasPlaces count injecting → HasPlaces fewer injecting
+HasPlaces-fewer count fewer injecting less places = record {
+  some = places.some;
+  most = places.most;
+  room = λ slot default below. (let room = places.room slot default below in omega (arith, room, less));
+  entries = (let entries = places.entries in omega (arith, entries, less));
+  few = (let few = places.few in omega (arith, few, less));
+}
+
+pub HasPlaces-moved : (count : ℕ) (old new : Injecting) → HasPlaces count old
+    → length new.slots.items ≡ length old.slots.items
+    → ((slot : ℕ) → room_of (marks_at new.slots.items slot) ≡ room_of (marks_at old.slots.items slot))
+    → room_of new.entries ≡ room_of old.entries → HasPlaces count new
+HasPlaces-moved count old new places size room entries = record {
+  some = (let some = places.some in omega (arith, some, size));
+  most = (let most = places.most in omega (arith, most, size));
+  room = λ slot default below.
+      let before = places.room slot [] (omega (arith, size, below)) in
+      let same = room slot in
+      let read = ap room_of (get_or_default new.slots.items slot default [] below) in
+      omega (arith, before, same, read);
+  entries = (let before = places.entries in omega (arith, before, entries));
+  few = places.few;
+}
+
+-- There is one for each component.
+pub HasPlaces-part : (parts : List Part) (number : ℕ) (injecting : Injecting)
+    → AreInjecting parts injecting → number < length parts → HasPlaces (number + 1) injecting
+HasPlaces-part parts number injecting are within =
+    let tables = length-map parts entries_of in
+    HasPlaces-fewer (length (map entries_of parts)) (number + 1) injecting
+    (omega (arith, within, tables)) are.tables.places
+
+-- So there is for that of an event.
+pub HasPlaces-event : {event : Event} {frames : List Frame} (parts : List Part) (injecting : Injecting)
+    → IsDoable frames event → length frames ≡ length parts → AreInjecting parts injecting
+    → HasPlaces (event_part event + 1) injecting
+HasPlaces-event {event} parts injecting doable count are =
+    let part = doable.part in
+    HasPlaces-part parts (event_part event) injecting are (omega (arith, part, count))
 
 -- The entry of a table is that of its component.
-entry_at-parts : (parts : List Part) (ni slot : ℕ)
+pub entry_at-parts : (parts : List Part) (ni slot : ℕ)
     → entry_at (map entries_of parts) ni slot ≡ entry_of parts ni slot
 entry_at-parts [] ni slot = refl
 entry_at-parts (Interface ni ∷ parts) zero slot = refl
@@ -134,9 +149,100 @@ writes-part (Halt end) slot is = absurd (cc is)
 writes-part (Finish end) slot is = absurd (cc is)
 writes-part (Change write) slot is = written-part write slot is
 
+-- An interface that sends has an entry for the slot of the cycle, whose queue has something to send.
+queue-sends : (entry : Option ℕ) (queues : List QueueState) → is_some (emitted_by entry queues) ≡ true
+    → (queue : ℕ) × (entry ≡ Some queue) × (is_some (emitted (queue_at queues queue)) ≡ true)
+queue-sends None queues sends = absurd (cc sends)
+queue-sends (Some queue) queues sends = (queue, refl, sends)
+
+entry-sends : (cycle : ℕ) (part : Part) → sends_own cycle part ≡ true → (queue : ℕ)
+    × (slice_index_or (entries_of part) (cycle % length (entries_of part)) None ≡ Some queue)
+    × (is_some (emitted (queue_in queue (Some part))) ≡ true)
+entry-sends cycle (Interface ni) sends =
+    queue-sends (slice_index_or ni.entries (cycle % length ni.entries) None) ni.queues sends
+entry-sends cycle (Router router) sends = absurd (cc sends)
+entry-sends cycle (TableRouter router) sends = absurd (cc sends)
+entry-sends cycle (Stage stage) sends = absurd (cc sends)
+
+-- One whose entry for the slot names such a queue sends.
+sends-queue : (entry : Option ℕ) (queues : List QueueState) (queue : ℕ) → entry ≡ Some queue
+    → is_some (emitted (queue_at queues queue)) ≡ true → is_some (emitted_by entry queues) ≡ true
+sends-queue None queues queue is some = absurd (cc is)
+sends-queue (Some other) queues queue is some =
+    ap (λ n. is_some (emitted (queue_at queues n))) (same_Some other queue is) ∙ some
+
+pub sends-entry : (cycle slot : ℕ) (part : Part) (queue : ℕ)
+    → (0 < length (entries_of part) → cycle % length (entries_of part) ≡ slot)
+    → slice_index_or (entries_of part) slot None ≡ Some queue
+    → is_some (emitted (queue_in queue (Some part))) ≡ true → sends_own cycle part ≡ true
+sends-entry cycle slot (Interface ni) queue own is some =
+    let within = entry-within ni.entries slot queue is in
+    sends-queue (slice_index_or ni.entries (cycle % length ni.entries) None) ni.queues queue
+    (ap (λ n. slice_index_or ni.entries n None) (own (omega (arith, within))) ∙ is) some
+sends-entry cycle slot (Router router) queue own is some = absurd (cc is)
+sends-entry cycle slot (TableRouter router) queue own is some = absurd (cc is)
+sends-entry cycle slot (Stage stage) queue own is some = absurd (cc is)
+
+-- No mark has come.
+pub MarksMore-none : (number : ℕ) (slots : List (List ℕ)) → MarksMore number slots slots
+MarksMore-none number slots = record {
+  size = refl;
+  room = λ slot. refl;
+  kept = λ other slot bit. bit;
+  below = λ other slot bit. inl bit;
+}
+
+-- Whether an event writes a slot, and whether it changes a queue.
+by-write : {Goal : Type 0} (event : Event) (number slot : ℕ) (found : Option SlotWrite)
+    → slot_write event ≡ found
+    → ((write : SlotWrite) → slot_write event ≡ Some write → number ≡ write.ni.0 → slot ≡ write.slot → Goal)
+    → ((Writes event number slot → ⊥) → Goal) → Goal
+by-write event number slot None is own other = other (λ writes. cc (sym is ∙ writes.is))
+by-write event number slot (Some write) is own other =
+    let same = λ (writes : Writes event number slot). same_Some writes.write write (sym writes.is ∙ is) in
+    elim (cases_eq number write.ni.0) [
+      | inr apart ↦
+          other (λ writes. apart (sym writes.at_ni ∙ ap (λ (some : SlotWrite). some.ni.0) (same writes)))
+      | inl there ↦ elim (cases_eq slot write.slot) [
+        | inr apart ↦
+            other (λ writes. apart (sym writes.at_slot ∙ ap (λ (some : SlotWrite). some.slot) (same writes)))
+        | inl here ↦ own write is there here
+      ]
+    ]
+
+by-end : {Goal : Type 0} (event : Event) (number queue : ℕ) (found : Option ChannelEnd)
+    → event_end event ≡ found
+    → ((end : ChannelEnd) → event_end event ≡ Some end → number ≡ end.ni.0 → queue ≡ end.queue → Goal)
+    → ((Touches event number queue → ⊥) → Goal) → Goal
+by-end event number queue None is own other = other (λ touches. cc (sym is ∙ touches.is))
+by-end event number queue (Some end) is own other =
+    let same = λ (touches : Touches event number queue). same_Some touches.end end (sym touches.is ∙ is) in
+    elim (cases_eq number end.ni.0) [
+      | inr apart ↦
+          other (λ touches. apart (sym touches.at_ni ∙ ap (λ (some : ChannelEnd). some.ni.0) (same touches)))
+      | inl there ↦ elim (cases_eq queue end.queue) [
+        | inr apart ↦
+            other (λ touches. apart (sym touches.at_queue ∙ ap (λ (some : ChannelEnd). some.queue) (same touches)))
+        | inl here ↦ own end is there here
+      ]
+    ]
+
+-- A slot with an entry is one of those that there are, and the entry is noted.
+module _ (parts : List Part) (injecting : Injecting) (are : AreEntered (map entries_of parts) injecting)
+    (number slot queue : ℕ) (is : entry_of parts number slot ≡ Some queue) where
+  pub entry-below : slot < length injecting.slots.items
+  entry-below =
+      let table = table_at (map entries_of parts) number in
+      let within : slot < length table = entry-within table slot queue (entry_at-parts parts number slot ∙ is) in
+      let size = are.size number (omega (arith, within)) in
+      omega (arith, within, size)
+
+  pub entry-noted : IsEntered injecting number queue slot
+  entry-noted = are.entered number slot queue (entry_at-parts parts number slot ∙ is)
+
 -- An event is done and noted.
-module _ (event : Event) (parts : List Part) (old new : List (List ℕ))
-    (notes : NotesWrite event old new) (are : AreInjecting (map entries_of parts) old) where
+module _ (event : Event) (parts : List Part) (old new : Injecting) (notes : NotesEvent event old new)
+    (are : AreInjecting parts old) where
   -- As many tables are there as before.
   count-happened : length (map entries_of (happened parts event)) ≡ length (map entries_of parts)
   count-happened =
@@ -145,136 +251,143 @@ module _ (event : Event) (parts : List Part) (old new : List (List ℕ))
       ∙ sym (length-map parts entries_of)
 
   size-happened : (number : ℕ) → 0 < length (table_at (map entries_of (happened parts event)) number)
-      → length (table_at (map entries_of (happened parts event)) number) ≡ length old
+      → length (table_at (map entries_of (happened parts event)) number) ≡ length old.slots.items
   size-happened number some =
       let same = length-tables (on_interface (event_done event)) (length-done event) parts
       (event_part event) number in
-      same ∙ are.size number (omega (arith, same, some))
+      same ∙ are.tables.size number (omega (arith, same, some))
 
-  -- An entry that it doesn't write, and the one that it does.
-  marked-other : (number slot queue : ℕ) → (Writes event number slot → ⊥)
-      → entry_of (happened parts event) number slot ≡ Some queue
-      → bit_of (marks_at new slot) number ≡ 1
-  marked-other number slot queue none is =
-      notes.other number slot none
-      ∙ are.marked number slot queue (entry_at-parts parts number slot
-      ∙ sym (entry_of-happened_other parts event number slot none) ∙ is)
+  below-happened : (number slot queue : ℕ) → entry_of (happened parts event) number slot ≡ Some queue
+      → slot < length old.slots.items
+  below-happened number slot queue is =
+      let table = table_at (map entries_of (happened parts event)) number in
+      let within : slot < length table =
+      entry-within table slot queue (entry_at-parts (happened parts event) number slot ∙ is) in
+      let size = size-happened number (omega (arith, within)) in
+      omega (arith, within, size)
 
-  marked-own : (write : SlotWrite) (queue : ℕ) → slot_write event ≡ Some write
-      → entry_of (happened parts event) write.ni.0 write.slot ≡ Some queue
-      → bit_of (marks_at new write.slot) write.ni.0 ≡ 1
-  marked-own write queue writes is =
-      let table = table_at (map entries_of (happened parts event)) write.ni.0 in
-      let within : write.slot < length table =
-      entry-within table write.slot queue
-      (entry_at-parts (happened parts event) write.ni.0 write.slot ∙ is) in
-      let size = size-happened write.ni.0 (omega (arith, within)) in
-      notes.own write writes (omega (arith, within, size))
-      ∙ ap mark_of (entry_of-happened_own parts event write queue writes is)
+  -- The entry that it writes, and any other.
+  own-happened : (number slot queue : ℕ) → entry_of (happened parts event) number slot ≡ Some queue
+      → (write : SlotWrite) → slot_write event ≡ Some write → number ≡ write.ni.0 → slot ≡ write.slot
+      → IsEntered new number queue slot × (bit_of (marks_at new.slots.items slot) number ≡ 1)
+  own-happened number slot queue is write writes there here =
+      let within = below-happened number slot queue is in
+      rw (there, here) (notes.written write queue writes
+      (entry_of-happened_own parts event write queue writes (rw (there, here) at is))
+      (omega (arith, within, here)))
 
-  marked-happened : (found : Option SlotWrite) → slot_write event ≡ found → (number slot queue : ℕ)
-      → entry_of (happened parts event) number slot ≡ Some queue
-      → bit_of (marks_at new slot) number ≡ 1
-  marked-happened None none number slot queue is =
-      marked-other number slot queue (λ writes. cc (sym none ∙ writes.is)) is
-  marked-happened (Some write) writes number slot queue is =
-      let same = λ (other : Writes event number slot).
-      same_Some other.write write (sym other.is ∙ writes) in
-      elim (cases_eq number write.ni.0) [
-        | inr apart ↦
-            marked-other number slot queue (λ other. apart (sym other.at_ni
-            ∙ ap (λ (some : SlotWrite). some.ni.0) (same other))) is
-        | inl there ↦ elim (cases_eq slot write.slot) [
-          | inr apart ↦
-              marked-other number slot queue (λ other. apart (sym other.at_slot
-              ∙ ap (λ (some : SlotWrite). some.slot) (same other))) is
-          | inl here ↦
-              rw (there, here) (marked-own write queue writes (rw (sym there, sym here) is))
-        ]
-      ]
+  entered-happened : (number slot queue : ℕ) → entry_of (happened parts event) number slot ≡ Some queue
+      → IsEntered new number queue slot
+  entered-happened number slot queue is =
+      by-write event number slot (slot_write event) refl
+      (λ write writes there here. (own-happened number slot queue is write writes there here).0)
+      (λ none. notes.kept number slot queue (below-happened number slot queue is) none
+      (entry-noted parts old are.tables number slot queue
+      (sym (entry_of-happened_other parts event number slot none) ∙ is)))
 
-  -- A marked number was marked before, or is that of the event's component.
-  below-happened : event_part event < length parts → (number slot : ℕ)
-      → bit_of (marks_at new slot) number ≡ 1 → number < length (map entries_of parts)
-  below-happened within number slot bit = elim (cases_eq number (event_part event)) [
-    | inl own ↦ let count = length-map parts entries_of in omega (arith, own, within, count)
-    | inr apart ↦
-        are.below number slot
-        (sym (notes.other number slot (λ writes.
-        apart (sym writes.at_ni ∙ writes-part event writes.write writes.is))) ∙ bit)
-  ]
+  -- The queue that it changes is woken, and any other is as it was.
+  marked-kept : (number slot queue : ℕ) → entry_of parts number slot ≡ Some queue
+      → may_send (happened parts event) number queue ≡ true
+      → bit_of (marks_at new.slots.items slot) number ≡ 1
+  marked-kept number slot queue is sends =
+      by-end event number queue (event_end event) refl
+      (λ end ends there here.
+      rw there (notes.woken end slot ends (entry-below parts old are.tables number slot queue is)
+      (rw (there, here) at (entry-noted parts old are.tables number slot queue is))))
+      (λ none. notes.more.kept number slot (are.marked number slot queue is
+      (ap (λ (state : QueueState). is_some (emitted state))
+      (sym (queue_of-happened_other parts event number queue none)) ∙ sends)))
 
-  pub AreInjecting-happened : event_part event < length parts
-      → AreInjecting (map entries_of (happened parts event)) new
+  marked-happened : (number slot queue : ℕ) → entry_of (happened parts event) number slot ≡ Some queue
+      → may_send (happened parts event) number queue ≡ true
+      → bit_of (marks_at new.slots.items slot) number ≡ 1
+  marked-happened number slot queue is sends =
+      by-write event number slot (slot_write event) refl
+      (λ write writes there here. (own-happened number slot queue is write writes there here).1)
+      (λ none. marked-kept number slot queue
+      (sym (entry_of-happened_other parts event number slot none) ∙ is) sends)
+
+  pub AreInjecting-happened : event_part event < length parts → AreInjecting (happened parts event) new
   AreInjecting-happened within = record {
-    some = (let some = are.some in let size = notes.size in omega (arith, some, size));
-    room = λ slot default below.
-        let size = notes.size in
-        let room = are.room slot [] (omega (arith, size, below)) in
-        let same = notes.room slot in
-        let read = ap room_of (get_or_default new slot default [] below) in
-        let count = count-happened in
-        omega (arith, room, same, read, count);
-    size = λ number some. size-happened number some ∙ sym notes.size;
-    marked = λ number slot queue is.
-        marked-happened (slot_write event) refl number slot queue
-        (sym (entry_at-parts (happened parts event) number slot) ∙ is);
-    below = λ number slot bit.
-        let below = below-happened within number slot bit in
-        let count = count-happened in
-        omega (arith, below, count);
+    tables = record {
+      places = rw count-happened (HasPlaces-moved (length (map entries_of parts)) old new
+          are.tables.places notes.more.size notes.more.room notes.room);
+      size = λ number some. size-happened number some ∙ sym notes.more.size;
+      entered = λ number slot queue is. entered-happened number slot queue
+          (sym (entry_at-parts (happened parts event) number slot) ∙ is);
+      below = λ number slot bit.
+          let count = count-happened in
+          let size = length-map parts entries_of in
+          elim (notes.more.below number slot bit) [
+            | inl was ↦ (let below = are.tables.below number slot was in omega (arith, below, count))
+            | inr own ↦ omega (arith, own, within, count, size)
+          ];
+    };
+    marked = marked-happened;
   }
 
--- An interface that sends has an entry for the slot of the cycle.
-queue-sends : (entry : Option ℕ) (queues : List QueueState) → is_some (emitted_by entry queues) ≡ true
-    → (queue : ℕ) × (entry ≡ Some queue)
-queue-sends None queues sends = absurd (cc sends)
-queue-sends (Some queue) queues sends = (queue, refl)
-
-entry-sends : (cycle : ℕ) (part : Part) → sends_own cycle part ≡ true → (queue : ℕ)
-    × (slice_index_or (entries_of part) (cycle % length (entries_of part)) None ≡ Some queue)
-entry-sends cycle (Interface ni) sends =
-    queue-sends (slice_index_or ni.entries (cycle % length ni.entries) None) ni.queues sends
-entry-sends cycle (Router router) sends = absurd (cc sends)
-entry-sends cycle (TableRouter router) sends = absurd (cc sends)
-entry-sends cycle (Stage stage) sends = absurd (cc sends)
+-- So an event is noted that clears an entry.
+pub NotesEvent-cleared : (event : Event) (write : SlotWrite) (old new : Injecting)
+    → slot_write event ≡ Some write → event_end event ≡ None
+    → length old.slots.items ≤ max_slots
+    → new.slots ≡ old.slots → room_of new.entries ≡ room_of old.entries → write.entry ≡ None
+    → ((other at queue : ℕ) → at < max_slots → (other ≢ write.ni.0) ⊎ (at ≢ write.slot)
+    → IsEntered old other queue at → IsEntered new other queue at)
+    → NotesEvent event old new
+NotesEvent-cleared event write old new writes none most slots room cleared kept = record {
+  more = rw slots (MarksMore-none (event_part event) old.slots.items);
+  room = room;
+  written = λ found queue is entry below.
+      absurd (cc (sym cleared ∙ ap (λ (some : SlotWrite). some.entry) (same_Some write found (sym writes ∙ is)) ∙ entry));
+  woken = λ end slot is below entered. absurd (cc (sym none ∙ is));
+  kept = λ number slot queue below apart entered. kept number slot queue (omega (arith, below, most))
+      (elim (cases_eq number write.ni.0) [
+        | inr away ↦ inl away
+        | inl there ↦ elim (cases_eq slot write.slot) [
+          | inr away ↦ inr away
+          | inl here ↦
+              absurd (apart (record { write = write; is = writes; at_ni = sym there; at_slot = sym here }))
+        ]
+      ]) entered;
+}
 
 -- The table of a component has as many slots as there are, if it has any.
-pub length-table : (parts : List Part) (slots : List (List ℕ))
-    → AreInjecting (map entries_of parts) slots → (number : ℕ) (part : Part)
-    → slice_get parts number ≡ Some part → 0 < length (entries_of part)
-    → length (entries_of part) ≡ length slots
-length-table parts slots are number part at some =
+pub length-table : (parts : List Part) (injecting : Injecting) → AreInjecting parts injecting
+    → (number : ℕ) (part : Part) → slice_get parts number ≡ Some part → 0 < length (entries_of part)
+    → length (entries_of part) ≡ length injecting.slots.items
+length-table parts injecting are number part at some =
     let size = ap length (table_at-parts parts number part at) in
-    sym size ∙ are.size number (omega (arith, some, size))
+    sym size ∙ are.tables.size number (omega (arith, some, size))
 
 -- So has that of one that sends.
-pub length-sends : (cycle : ℕ) (parts : List Part) (slots : List (List ℕ))
-    → AreInjecting (map entries_of parts) slots → (number : ℕ) (part : Part)
+pub length-sends : (cycle : ℕ) (parts : List Part) (injecting : Injecting)
+    → AreInjecting parts injecting → (number : ℕ) (part : Part)
     → slice_get parts number ≡ Some part → sends_own cycle part ≡ true
-    → length (entries_of part) ≡ length slots
-length-sends cycle parts slots are number part at sends =
+    → length (entries_of part) ≡ length injecting.slots.items
+length-sends cycle parts injecting are number part at sends =
     let entry = entry-sends cycle part sends in
     let within = entry-within (entries_of part) (cycle % length (entries_of part)) entry.0 entry.1 in
-    length-table parts slots are number part at (omega (arith, within))
+    length-table parts injecting are number part at (omega (arith, within))
 
 -- And it is marked.
-pub AreInjecting-sends : (cycle : ℕ) (parts : List Part) (slots : List (List ℕ))
-    → AreInjecting (map entries_of parts) slots
-    → AreSendersMarked cycle parts (marks_at slots (cycle % length slots))
-AreInjecting-sends cycle parts slots are number part at sends =
+pub AreInjecting-sends : (cycle : ℕ) (parts : List Part) (injecting : Injecting)
+    → AreInjecting parts injecting
+    → AreSendersMarked cycle parts (marks_at injecting.slots.items (cycle % length injecting.slots.items))
+AreInjecting-sends cycle parts injecting are number part at sends =
     let entry = entry-sends cycle part sends in
-    let same = length-sends cycle parts slots are number part at sends in
-    are.marked number (cycle % length slots) entry.0
-    (ap (λ (list : List (Option ℕ)). slice_index_or list (cycle % length slots) None)
+    let same = length-sends cycle parts injecting are number part at sends in
+    are.marked number (cycle % length injecting.slots.items) entry.0
+    (sym (entry_at-parts parts number (cycle % length injecting.slots.items))
+    ∙ ap (λ (list : List (Option ℕ)). slice_index_or list (cycle % length injecting.slots.items) None)
     (table_at-parts parts number part at)
     ∙ ap (λ n. slice_index_or (entries_of part) (cycle % n) None) (sym same) ∙ entry.1)
+    (ap (λ (found : Option Part). is_some (emitted (queue_in entry.0 found))) at ∙ entry.2)
 
 -- A marked number is that of a component.
-pub AreInjecting-below : (cycle : ℕ) (parts : List Part) (slots : List (List ℕ))
-    → AreInjecting (map entries_of parts) slots → (number : ℕ)
-    → bit_of (marks_at slots (cycle % length slots)) number ≡ 1 → number < length parts
-AreInjecting-below cycle parts slots are number bit =
-    let below = are.below number (cycle % length slots) bit in
+pub AreInjecting-below : (parts : List Part) (injecting : Injecting) → AreInjecting parts injecting
+    → (number slot : ℕ) → bit_of (marks_at injecting.slots.items slot) number ≡ 1
+    → number < length parts
+AreInjecting-below parts injecting are number slot bit =
+    let below = are.tables.below number slot bit in
     let count = length-map parts entries_of in
     omega (arith, below, count)

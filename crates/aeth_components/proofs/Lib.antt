@@ -55,3 +55,4 @@ mod WaitingLemmas
 mod WakingLemmas
 mod WalkedLemmas
 mod WayLemmas
+mod WokenLemmas

@@ -1,12 +1,13 @@
 -- Which components send something of their own in a cycle, and in cycles whose slots come round again.
 use Rattle.std.proofs.Common.{ℕ, ◌≡◌, ◌<◌, ◌≤◌, ◌+◌, ◌∙◌, ap, arith}
-use Rattle.std.proofs.Common.{is_some, length, List, map, Option, true}
+use Rattle.std.proofs.Common.{is_some, length, List, Option, true}
 use Rattle.aeth_ni.specs.Component.{emitted_by}
 use Rattle.aeth_ni.proofs.RestingLemmas.{queue_at_cycle-round}
 use Rattle.aeth_router.specs.declared.part.Part.{Part}
 use Rattle.aeth_router.specs.declared.part.Part.TheVariants.{Interface, Router, Stage, TableRouter}
 use Rattle.aeth_components.specs.First.{HasSender}
 use Rattle.aeth_components.specs.Injecting.{AreInjecting, entries_of}
+use Rattle.aeth_components.specs.declared.injecting.Injecting.{Injecting}
 use Rattle.aeth_components.specs.Turns.{sends_own}
 use Rattle.aeth_components.proofs.InjectingLemmas.{length-sends}
 
@@ -27,17 +28,16 @@ sends-round from cycle (Router router) some over sends = absurd (cc sends)
 sends-round from cycle (TableRouter router) some over sends = absurd (cc sends)
 sends-round from cycle (Stage stage) some over sends = absurd (cc sends)
 
-module _ (parts : List Part) (slots : List (List ℕ))
-    (are : AreInjecting (map entries_of parts) slots) where
+module _ (parts : List Part) (injecting : Injecting) (are : AreInjecting parts injecting) where
   -- Where none sends in as many cycles as there are slots, none does in any behind them.
   pub none-round : (from cycle : ℕ)
-      → ((other : ℕ) → from ≤ other → other < from + length slots → other ≤ cycle
+      → ((other : ℕ) → from ≤ other → other < from + length injecting.slots.items → other ≤ cycle
       → HasSender parts other → ⊥)
       → from ≤ cycle → HasSender parts cycle → ⊥
   none-round from cycle none over sender =
       let part = sender.part in
-      let size = length-sends cycle parts slots are sender.number part sender.at sender.sends in
-      let some = are.some in
+      let size = length-sends cycle parts injecting are sender.number part sender.at sender.sends in
+      let some = are.tables.places.some in
       let round = sends-round from cycle part (omega (arith, size, some)) over sender.sends in
       none round.0 round.1 (omega (arith, round.2, size)) round.3
       (record { number = sender.number; part = part; at = sender.at; sends = round.4 })

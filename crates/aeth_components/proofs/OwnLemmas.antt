@@ -66,7 +66,7 @@ module _ (cycle : ℕ) where
 -- Where senders are marked, who isn't marked doesn't send.
 module _ (cycle : ℕ) (parts : List Part) (marks : List ℕ)
     (senders : AreSendersMarked cycle parts marks) where
-  mute-unmarked : (number : ℕ) (part : Part) → slice_get parts number ≡ Some part
+  pub mute-unmarked : (number : ℕ) (part : Part) → slice_get parts number ≡ Some part
       → bit_of marks number ≡ 0 → sends_own cycle part ≡ false
   mute-unmarked number part at none =
       elim (cases_Bool (sends_own cycle part)) [

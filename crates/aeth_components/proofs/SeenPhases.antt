@@ -15,7 +15,6 @@ use Rattle.aeth_components.specs.Changes.{event_done, on_interface, switched}
 use Rattle.aeth_components.specs.Components.{Runs, driven_from, latched_from, latched_of, ready_of}
 use Rattle.aeth_components.specs.Components.{switched_from, wires_driven}
 use Rattle.aeth_components.specs.Frames.{frame_of}
-use Rattle.aeth_components.specs.Injecting.{entries_of}
 use Rattle.aeth_components.specs.Phases.{Moment, in_turn, pulled, refilled}
 use Rattle.aeth_components.specs.Passing.{way_of}
 use Rattle.aeth_components.specs.Seen.{all_seen, flits_landed, interfaces_driven, landed, seen}
@@ -165,14 +164,6 @@ module _ {X : Type 0} (view : Part → X)
 pub frames-landed : (wires : List (Option Flit)) (parts : List Part)
     → map frame_of (flits_landed wires parts) ≡ map frame_of parts
 frames-landed = views-landed frame_of frame_of-absorbed
-
-pub tables-driven : (cycle : ℕ) (parts : List Part)
-    → map entries_of (interfaces_driven cycle parts) ≡ map entries_of parts
-tables-driven cycle = views-kept entries_of (λ ni. interface_after ni cycle) (λ ni. refl)
-
-pub tables-landed : (wires : List (Option Flit)) (parts : List Part)
-    → map entries_of (flits_landed wires parts) ≡ map entries_of parts
-tables-landed = views-landed entries_of (λ arrival ni. refl)
 
 -- How components pass flits on stays in every phase.
 way-changed : (queue : ℕ) (change : QueueState → QueueState) (part : Part)

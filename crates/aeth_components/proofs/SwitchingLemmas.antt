@@ -39,7 +39,7 @@ touched-end parts end change event ni queue is none =
     queue_of-at_end_other parts end change ni queue
     (λ uses. none (record { end = end; is = is; at_ni = sym uses.0; at_queue = sym uses.1 }))
 
-queue_of-happened_other : (parts : List Part) (event : Event) (ni queue : ℕ)
+pub queue_of-happened_other : (parts : List Part) (event : Event) (ni queue : ℕ)
     → (Touches event ni queue → ⊥)
     → queue_of (happened parts event) ni queue ≡ queue_of parts ni queue
 queue_of-happened_other parts (Halt end) ni queue none =

@@ -1,14 +1,17 @@
--- The slot tables of components: which phases of a cycle keep them, and what they are at first.
-use Rattle.std.proofs.Common.{ℕ, ◌≡◌, ◌<◌, ◌∙◌, refl, sym, ap, arith, subst, inl, inr}
-use Rattle.std.proofs.Common.{List, [], false, length, map, Option, Some, None, replicate, slice_get}
+-- The slot tables of components: what keeps them, and what they are at first.
+use Rattle.std.proofs.Common.{ℕ, ◌≡◌, ◌∙◌, refl, sym, ap, arith, subst, inl, inr}
+use Rattle.std.proofs.Common.{List, [], false, is_some, length, length-set, map, Option, Some, None}
+use Rattle.std.proofs.Common.{replicate, slice_get, true}
 use Rattle.std.specs.Prelude.{◌⊎◌, slice_set}
-use Rattle.std.specs.List.{All, range_with_len, slice_index_or}
-use Rattle.std.proofs.lemmas.Bool.{cases_lt}
+use Rattle.std.specs.List.{slice_index_or}
+use Rattle.std.proofs.lemmas.Bool.{cases_eq, cases_lt}
 use Rattle.std.proofs.lemmas.List.{get_or_past, length-map, length-replicate}
-use Rattle.aeth_base.specs.Marks.{bit_of, room_of}
-use Rattle.aeth_base.proofs.Lists.{item-at, map-at}
+use Rattle.std.proofs.lemmas.Option.{slice_get_past}
+use Rattle.aeth_base.specs.Marks.{bit_of}
+use Rattle.aeth_base.proofs.Lists.{item-at, map-at, slice_get-slice_set_other, slice_get-slice_set_same}
 use Rattle.aeth_chip.specs.Chip.{ChipData, IsChip}
-use Rattle.aeth_ni.specs.Queue.{QueueState}
+use Rattle.aeth_ni.specs.Queue.{QueueState, empty_queue}
+use Rattle.aeth_ni.specs.Sending.{emitted}
 use Rattle.aeth_router.proofs.TableLemmas.{get_or-same}
 use Rattle.aeth_router.specs.declared.part.Part.{Part}
 use Rattle.aeth_router.specs.declared.part.Part.TheVariants.{Interface, Router, Stage, TableRouter}
@@ -17,37 +20,25 @@ use Rattle.aeth_ni.specs.Interface.{changed}
 use Rattle.aeth_components.specs.Components.{part_count}
 use Rattle.aeth_components.specs.Ends.{is_interface}
 use Rattle.aeth_components.specs.Frames.{frame_of}
-use Rattle.aeth_components.specs.Injecting.{AreInjecting, entries_of, marks_at, table_at}
+use Rattle.aeth_components.specs.Injecting.{AreInjecting, HasPlaces, entries_of, entry_at, marks_at}
+use Rattle.aeth_components.specs.Injecting.{may_send, table_at}
+use Rattle.aeth_components.specs.View.{queue_in}
+use Rattle.aeth_components.specs.declared.injecting.Injecting.{Injecting}
 use Rattle.aeth_components.specs.Making.{new_parts}
-use Rattle.aeth_components.specs.Phases.{Moment, in_turn, pulled, refilled}
 use Rattle.aeth_components.specs.declared.making.RouterKind.TheVariants.{ByHeader}
 use Rattle.aeth_components.proofs.CycleLemmas.{views-slice_set}
 use Rattle.aeth_components.proofs.FrameLemmas.{from-map}
-use Rattle.aeth_components.proofs.InjectingLemmas.{entry-within, table_at-parts}
+use Rattle.aeth_components.proofs.InjectingLemmas.{entry-within, entry_at-parts, table_at-parts}
 use Rattle.aeth_components.proofs.MadeLemmas.{Made, IsInterface, IsRouter, IsStage, length-new_parts}
 use Rattle.aeth_components.proofs.MadeLemmas.{part-at}
-use Rattle.aeth_components.proofs.TurnLemmas.{views-pulled, views-refilled, views-turns}
 
--- A change of a queue changes no table, so refilling and taking don't.
-entries-changed : (queue : ℕ) (change : QueueState → QueueState) (part : Part)
+-- A change of a queue changes no table.
+pub entries-changed : (queue : ℕ) (change : QueueState → QueueState) (part : Part)
     → entries_of (on_interface (changed queue change) part) ≡ entries_of part
 entries-changed queue change (Interface ni) = refl
 entries-changed queue change (Router router) = refl
 entries-changed queue change (TableRouter router) = refl
 entries-changed queue change (Stage stage) = refl
-
-pub tables-refilled : (words : List ℕ) (cycle : ℕ) (moment : Moment)
-    → map entries_of (in_turn (refilled words cycle) moment).parts ≡ map entries_of moment.parts
-tables-refilled words cycle moment =
-    views-turns (refilled words cycle) entries_of
-    (views-refilled entries_of entries-changed words cycle)
-    (range_with_len 0 (length moment.lanes)) moment
-
-pub tables-pulled : (cycle : ℕ) (moment : Moment)
-    → map entries_of (in_turn (pulled cycle) moment).parts ≡ map entries_of moment.parts
-tables-pulled cycle moment =
-    views-turns (pulled cycle) entries_of (views-pulled entries_of entries-changed cycle)
-    (range_with_len 0 (length moment.lanes)) moment
 
 -- Only an interface has one, so another component in place of one keeps the tables.
 entries-other : (part : Part) → is_interface (frame_of part) ≡ false → entries_of part ≡ []
@@ -67,6 +58,36 @@ tables-replaced parts number part other at =
     ∙ ap (λ (table : List (Option ℕ)). Some table)
     (entries-other found.0 (ap is_interface (sym found.2) ∙ other)
     ∙ sym (entries-other part other)))
+
+-- It has no queue, and nothing to send.
+may_send-other : (part : Part) → is_interface (frame_of part) ≡ false → (queue : ℕ)
+    → queue_in queue (Some part) ≡ empty_queue 0
+may_send-other (Interface ni) other queue = absurd (cc other)
+may_send-other (Router router) other queue = refl
+may_send-other (TableRouter router) other queue = refl
+may_send-other (Stage stage) other queue = refl
+
+pub may_send-replaced : (parts : List Part) (number : ℕ) (part : Part)
+    → is_interface (frame_of part) ≡ false → (other queue : ℕ)
+    → may_send (slice_set parts number part) other queue ≡ true → may_send parts other queue ≡ true
+may_send-replaced parts number part isnt other queue may = elim (cases_eq other number) [
+  | inr apart ↦
+      ap (λ (found : Option Part). is_some (emitted (queue_in queue found)))
+      (sym (slice_get-slice_set_other parts number other part apart)) ∙ may
+  | inl same ↦ elim (cases_lt number (length parts)) [
+    | inl within ↦
+        absurd (cc (sym may
+        ∙ ap (λ n. may_send (slice_set parts number part) n queue) same
+        ∙ ap (λ (found : Option Part). is_some (emitted (queue_in queue found)))
+        (slice_get-slice_set_same parts number part within)
+        ∙ ap (λ (state : QueueState). is_some (emitted state)) (may_send-other part isnt queue)))
+    | inr past ↦
+        absurd (cc (sym may
+        ∙ ap (λ (found : Option Part). is_some (emitted (queue_in queue found)))
+        (slice_get_past (slice_set parts number part) other
+        (let size = length-set parts number part in omega (arith, size, past, same)))))
+  ]
+]
 
 -- Before the first cycle each table is empty, or has no entry for any slot.
 module _ (chip : ChipData) (rooms : List ℕ) where
@@ -94,30 +115,38 @@ module _ (chip : ChipData) (rooms : List ℕ) where
       ]
 
   -- So none need be marked.
-  pub AreInjecting-new : IsChip chip → (slots : List (List ℕ)) → length slots ≡ chip.slots
-      → All (λ marks. part_count chip < room_of marks) slots
-      → ((slot number : ℕ) → bit_of (marks_at slots slot) number ≡ 0)
-      → AreInjecting (map entries_of (new_parts chip ByHeader rooms)) slots
-  AreInjecting-new is_chip slots count room unmarked =
-      let tables = map entries_of (new_parts chip ByHeader rooms) in
+  pub AreInjecting-new : IsChip chip → (parts : List Part)
+      → map entries_of parts ≡ map entries_of (new_parts chip ByHeader rooms) → (injecting : Injecting)
+      → length injecting.slots.items ≡ chip.slots → HasPlaces (part_count chip) injecting
+      → ((slot number : ℕ) → bit_of (marks_at injecting.slots.items slot) number ≡ 0)
+      → AreInjecting parts injecting
+  AreInjecting-new is_chip parts same injecting count places unmarked =
+      let made = new_parts chip ByHeader rooms in
+      let tables = map entries_of made in
+      let none : (number slot queue : ℕ) → entry_at tables number slot ≡ Some queue → ⊥ =
+      λ number slot queue is. elim (table-new number) [
+        | inl none ↦
+            let within = entry-within (table_at tables number) slot queue is in
+            let empty = ap length none in
+            omega (arith, within, empty)
+        | inr all ↦
+            cc (sym (ap (λ (table : List (Option ℕ)). slice_index_or table slot None) all
+            ∙ get_or-same None chip.slots slot) ∙ is)
+      ] in
       record {
-        some = (let some = is_chip.some_slots in omega (arith, some, count));
-        room = subst (λ n. All (λ marks. n < room_of marks) slots)
-            (sym (length-map (new_parts chip ByHeader rooms) entries_of
-            ∙ length-new_parts chip rooms)) room;
-        size = λ number some. elim (table-new number) [
-          | inl none ↦ (let empty = ap length none in absurd (omega (arith, some, empty)))
-          | inr all ↦ ap length all ∙ length-replicate chip.slots None ∙ sym count
-        ];
-        marked = λ number slot queue is. elim (table-new number) [
-          | inl none ↦
-              let within = entry-within (table_at tables number) slot queue is in
-              let empty = ap length none in
-              absurd (omega (arith, within, empty))
-          | inr all ↦
-              absurd (cc (sym (ap (λ (table : List (Option ℕ)). slice_index_or table slot None) all
-              ∙ get_or-same None chip.slots slot) ∙ is))
-        ];
-        below = λ number slot bit.
-            let none = unmarked slot number in absurd (omega (arith, bit, none));
+        tables = rw same (record {
+          places = subst (λ n. HasPlaces n injecting)
+              (sym (length-map made entries_of ∙ length-new_parts chip rooms)) places;
+          size = λ number some. elim (table-new number) [
+            | inl none ↦ (let empty = ap length none in absurd (omega (arith, some, empty)))
+            | inr all ↦ ap length all ∙ length-replicate chip.slots None ∙ sym count
+          ];
+          entered = λ number slot queue is. absurd (none number slot queue is);
+          below = λ number slot bit.
+              let none = unmarked slot number in absurd (omega (arith, bit, none));
+        });
+        marked = λ number slot queue is sends.
+            absurd (none number slot queue
+            (ap (λ (tables : List (List (Option ℕ))). entry_at tables number slot) (sym same)
+            ∙ entry_at-parts parts number slot ∙ is));
       }

@@ -1,18 +1,32 @@
--- Which interfaces have an entry for a slot, as marks of their numbers for each slot. The marks follow the writes, and
--- the next cycle in which an interface sends is found by them.
+-- Which interfaces may send in a slot, as marks of their numbers for each slot, and the slots of each queue, as marks too.
+-- An interface is marked in the slots of a queue once words come to it, or credits, or an event, and no more once it is
+-- seen to send nothing in a slot. The next cycle in which an interface sends is found by these marks.
 --
 --   entries_of, table_at, entry_at     the slot tables of components, and one entry
---   marks_at, AreInjecting     the marks of those that have an entry
---   mark_of, NotesWrite        what an event changes of them
+--   marks_at     the marks of a slot
+--   place_of_entry, IsEntered     the mark of a queue's entry for a slot
+--   HasPlaces, AreEntered     that there are marks for all components, and for each entry
+--   may_send, AreInjecting     each interface is marked in the slots in which it may send
+--   MarksMore, WakesQueue, queue_told, WakesTold, NotesEvent     what wakes a queue, and what an event changes of the marks
 --
 -- This project's own.
-use Rattle.std.specs.Prelude.{◌≡◌, ◌<◌, ℕ, List, [], length, All, Option, Some, None}
+use Rattle.std.specs.Prelude.{◌≡◌, ◌<◌, ◌≤◌, ◌+◌, ◌*◌, ◌%◌, ◌^◌, ◌⊎◌, ℕ, List, [], length, All, Bool, Option, Some, None}
+use Rattle.std.specs.Prelude.{is_some, map, option_map, true}
 use Rattle.std.specs.List.{slice_index_or}
+use Rattle.aeth_base.specs.Limits.{max_slots}
 use Rattle.aeth_base.specs.Marks.{bit_of, room_of}
+use Rattle.aeth_clocked.specs.declared.flit.Flit.{Flit}
+use Rattle.aeth_ni.specs.Component.{arrival_of, last_of}
+use Rattle.aeth_ni.specs.Limits.{queues_of_interface}
+use Rattle.aeth_ni.specs.Sending.{emitted}
 use Rattle.aeth_router.specs.declared.part.Part.{Part}
 use Rattle.aeth_router.specs.declared.part.Part.TheVariants.{Interface, Router, Stage, TableRouter}
 use Rattle.aeth_components.specs.declared.event.Event.{Event}
-use Rattle.aeth_components.specs.Switching.{SlotWrite, Writes, slot_write}
+use Rattle.aeth_components.specs.declared.injecting.Injecting.{Injecting}
+use Rattle.aeth_components.specs.declared.lane.ChannelEnd.{ChannelEnd}
+use Rattle.aeth_components.specs.Events.{event_part}
+use Rattle.aeth_components.specs.Switching.{SlotWrite, Writes, entry_of, event_end, slot_write}
+use Rattle.aeth_components.specs.View.{queue_of}
 
 -- The slot table of an interface; a router or a stage has none.
 abbrev pub entries_of : Part → List (Option ℕ)
@@ -32,28 +46,85 @@ entry_at tables number slot = slice_index_or (table_at tables number) slot None
 abbrev pub marks_at : List (List ℕ) → ℕ → List ℕ
 marks_at slots slot = slice_index_or slots slot []
 
--- There are slots, as many as in each table that isn't empty, with marks for every table. Each number
--- whose table has an entry for a slot is marked there, and just numbers of tables are.
-pub record AreInjecting (tables : List (List (Option ℕ))) (slots : List (List ℕ)) : Type 0 where
-  pub some : 0 < length slots
-  pub room : All (λ marks. length tables < room_of marks) slots
+-- The place of a queue's entry for a slot among the marks of entries.
+abbrev pub place_of_entry : ℕ → ℕ → ℕ → ℕ
+place_of_entry number queue slot =
+    max_slots * (queues_of_interface * number + queue % queues_of_interface) + slot
+
+-- A queue of a component is noted to have the entry for a slot.
+abbrev pub IsEntered : Injecting → ℕ → ℕ → ℕ → Type 0
+IsEntered injecting number queue slot =
+    bit_of injecting.entries (place_of_entry number queue slot) ≡ 1
+
+-- There is a mark for the components below a count in each slot, and one for each of their entries.
+pub record HasPlaces (count : ℕ) (injecting : Injecting) : Type 0 where
+  pub some : 0 < length injecting.slots.items
+  pub most : length injecting.slots.items ≤ max_slots
+  pub room : All (λ marks. count < room_of marks) injecting.slots.items
+  pub entries : max_slots * (queues_of_interface * count) < room_of injecting.entries
+  pub few : count < 2 ^ 32
+
+-- There are as many slots as in each table that isn't empty. Each entry is noted, and just numbers of tables are
+-- marked.
+pub record AreEntered (tables : List (List (Option ℕ))) (injecting : Injecting) : Type 0 where
+  pub places : HasPlaces (length tables) injecting
   pub size : (number : ℕ) → 0 < length (table_at tables number)
-      → length (table_at tables number) ≡ length slots
-  pub marked : (number slot queue : ℕ) → entry_at tables number slot ≡ Some queue
-      → bit_of (marks_at slots slot) number ≡ 1
-  pub below : (number slot : ℕ) → bit_of (marks_at slots slot) number ≡ 1 → number < length tables
+      → length (table_at tables number) ≡ length injecting.slots.items
+  pub entered : (number slot queue : ℕ) → entry_at tables number slot ≡ Some queue
+      → IsEntered injecting number queue slot
+  pub below : (number slot : ℕ) → bit_of (marks_at injecting.slots.items slot) number ≡ 1
+      → number < length tables
 
--- The bit that stands for an entry: 1 where there is one.
-abbrev pub mark_of : Option ℕ → ℕ
-mark_of None = 0
-mark_of (Some queue) = 1
+-- Whether a queue of one of the components has something to send.
+abbrev pub may_send : List Part → ℕ → ℕ → Bool
+may_send parts number queue = is_some (emitted (queue_of parts number queue))
 
--- Of the marks that there are those of the slot and the interface that an event writes have changed, and
--- no others.
-pub record NotesWrite (event : Event) (old new : List (List ℕ)) : Type 0 where
+-- So a number is marked in each slot whose entry names a queue that has something to send.
+pub record AreInjecting (parts : List Part) (injecting : Injecting) : Type 0 where
+  pub tables : AreEntered (map entries_of parts) injecting
+  pub marked : (number slot queue : ℕ) → entry_of parts number slot ≡ Some queue
+      → may_send parts number queue ≡ true → bit_of (marks_at injecting.slots.items slot) number ≡ 1
+
+-- Of the marks of slots none is gone, and those that have come are of one number.
+pub record MarksMore (number : ℕ) (old new : List (List ℕ)) : Type 0 where
   pub size : length new ≡ length old
   pub room : (slot : ℕ) → room_of (marks_at new slot) ≡ room_of (marks_at old slot)
-  pub own : (write : SlotWrite) → slot_write event ≡ Some write → write.slot < length old
-      → bit_of (marks_at new write.slot) write.ni.0 ≡ mark_of write.entry
-  pub other : (number slot : ℕ) → (Writes event number slot → ⊥)
-      → bit_of (marks_at new slot) number ≡ bit_of (marks_at old slot) number
+  pub kept : (other slot : ℕ) → bit_of (marks_at old slot) other ≡ 1
+      → bit_of (marks_at new slot) other ≡ 1
+  pub below : (other slot : ℕ) → bit_of (marks_at new slot) other ≡ 1
+      → (bit_of (marks_at old slot) other ≡ 1) ⊎ (other ≡ number)
+
+-- A component is marked in each slot of one of its queues.
+pub record WakesQueue (number queue : ℕ) (old new : Injecting) : Type 0 where
+  pub more : MarksMore number old.slots.items new.slots.items
+  pub entries : new.entries ≡ old.entries
+  pub own : (slot : ℕ) → slot < length old.slots.items → IsEntered old number queue slot
+      → bit_of (marks_at new.slots.items slot) number ≡ 1
+
+-- The queue of a component to which a flit comes; none of a router or a stage.
+abbrev pub queue_told : Flit → Part → Option ℕ
+queue_told flit (Interface ni) = option_map (λ last. last.0) (last_of (arrival_of (Some flit)))
+queue_told flit (Router router) = None
+queue_told flit (TableRouter router) = None
+queue_told flit (Stage stage) = None
+
+-- So it is where a flit has come to one of its queues.
+abbrev pub WakesTold : ℕ → Option ℕ → Injecting → Injecting → Type 0
+WakesTold number None old new = new ≡ old
+WakesTold number (Some queue) old new = WakesQueue number queue old new
+
+-- The entry that an event writes is noted, and its component marked there. So it is in each slot of the queue that an
+-- event changes. Of other entries none is gone.
+pub record NotesEvent (event : Event) (old new : Injecting) : Type 0 where
+  pub more : MarksMore (event_part event) old.slots.items new.slots.items
+  pub room : room_of new.entries ≡ room_of old.entries
+  pub written : (write : SlotWrite) (queue : ℕ) → slot_write event ≡ Some write
+      → write.entry ≡ Some queue → write.slot < length old.slots.items
+      → IsEntered new write.ni.0 queue write.slot
+      × (bit_of (marks_at new.slots.items write.slot) write.ni.0 ≡ 1)
+  pub woken : (end : ChannelEnd) (slot : ℕ) → event_end event ≡ Some end
+      → slot < length old.slots.items → IsEntered old end.ni.0 end.queue slot
+      → bit_of (marks_at new.slots.items slot) end.ni.0 ≡ 1
+  pub kept : (number slot queue : ℕ) → slot < length old.slots.items
+      → (Writes event number slot → ⊥) → IsEntered old number queue slot
+      → IsEntered new number queue slot

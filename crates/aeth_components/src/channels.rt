@@ -10,10 +10,12 @@ ghost use Rattle.aeth_components.specs.Frames.{frame_of};
 ghost use Rattle.aeth_components.specs.Lanes.{IsLane, with_lane};
 ghost use Rattle.aeth_components.specs.Phases.{in_turn, pulled, refilled, turned};
 ghost use Rattle.aeth_components.specs.Handing.{AreHanding};
+ghost use Rattle.aeth_components.specs.Injecting.{AreInjecting};
 
 use crate::counting::{count_one, count_received};
 use crate::handing::Handing;
 use crate::homes::Homes;
+use crate::injecting::Injecting;
 use crate::lane::Lane;
 use crate::noted::Noted;
 use crate::phases::{refill_one, rest, settle, take_one};
@@ -91,9 +93,17 @@ impl Channels {
     }
 
     /// Each channel in its turn hands its accepted words to its source queue.
-    pub(crate) fn refill(&mut self, handing: &mut Handing, parts: &mut [Part], cycle: u32)
+    pub(crate) fn refill(
+        &mut self,
+        handing: &mut Handing,
+        parts: &mut [Part],
+        injecting: &mut Injecting,
+        cycle: u32,
+    )
         requires lanes { All (IsLane (length self.old.words) (length parts.old)) self.old.lanes }
         requires handing { AreHanding parts.old self.old.lanes handing.old }
+        requires injecting { AreInjecting parts.old injecting.old }
+        ensures injecting { AreInjecting parts.new injecting.new }
         ensures turns { record { parts = parts.new; lanes = self.new.lanes }
             ≡ in_turn (refilled self.old.words cycle)
             (record { parts = parts.old; lanes = self.old.lanes }) }
@@ -104,14 +114,16 @@ impl Channels {
     {
         let mut number = self.next_handing(handing, 0);
         'turns: while number < self.len() {
-            self.refill_one(handing, parts, number, cycle);
+            self.refill_one(handing, parts, injecting, number, cycle);
             number = self.next_handing(handing, number + 1);
         }
     }
 
     /// Each receiver in its turn takes.
-    pub(crate) fn take(&mut self, parts: &mut [Part], cycle: u32)
-        requires { All (IsLane (length self.old.words) (length parts.old)) self.old.lanes }
+    pub(crate) fn take(&mut self, parts: &mut [Part], injecting: &mut Injecting, cycle: u32)
+        requires lanes { All (IsLane (length self.old.words) (length parts.old)) self.old.lanes }
+        requires injecting { AreInjecting parts.old injecting.old }
+        ensures injecting { AreInjecting parts.new injecting.new }
         ensures turns { record { parts = parts.new; lanes = self.new.lanes }
             ≡ in_turn (pulled cycle) (record { parts = parts.old; lanes = self.old.lanes }) }
         ensures words { self.new.words ≡ self.old.words }
@@ -120,7 +132,7 @@ impl Channels {
     {
         let mut number = self.next_taking(0);
         'turns: while number < self.len() {
-            self.take_one(parts, number, cycle);
+            self.take_one(parts, injecting, number, cycle);
             number = self.next_taking(number + 1);
         }
     }
@@ -231,30 +243,47 @@ impl Channels {
     }
 
     // One channel hands its accepted words on.
-    fn refill_one(&mut self, handing: &mut Handing, parts: &mut [Part], number: usize, cycle: u32)
+    fn refill_one(
+        &mut self,
+        handing: &mut Handing,
+        parts: &mut [Part],
+        injecting: &mut Injecting,
+        number: usize,
+        cycle: u32,
+    )
         requires number { number < length self.old.lanes }
         requires lanes { All (IsLane (length self.old.words) (length parts.old)) self.old.lanes }
         requires handing { AreHanding parts.old self.old.lanes handing.old }
         requires marked { bit_of handing.old.marks number ≡ 1 }
+        requires injecting { AreInjecting parts.old injecting.old }
+        ensures injecting { AreInjecting parts.new injecting.new }
         ensures turn { record { parts = parts.new; lanes = self.new.lanes }
             ≡ turned (refilled self.old.words cycle)
             (record { parts = parts.old; lanes = self.old.lanes }) number }
         ensures words { self.new.words ≡ self.old.words }
         ensures handing { AreHanding parts.new self.new.lanes handing.new }
     {
-        refill_one(parts, &mut self.lanes[number], &self.words, cycle);
+        refill_one(
+            parts,
+            injecting,
+            &mut self.lanes[number],
+            &self.words,
+            cycle,
+        );
         handing.settle(&self.lanes[number], number, cycle);
     }
 
     // One receiver takes.
-    fn take_one(&mut self, parts: &mut [Part], number: usize, cycle: u32)
+    fn take_one(&mut self, parts: &mut [Part], injecting: &mut Injecting, number: usize, cycle: u32)
         requires number { number < length self.old.lanes }
         requires lanes { All (IsLane (length self.old.words) (length parts.old)) self.old.lanes }
+        requires injecting { AreInjecting parts.old injecting.old }
+        ensures injecting { AreInjecting parts.new injecting.new }
         ensures turn { record { parts = parts.new; lanes = self.new.lanes }
             ≡ turned (pulled cycle) (record { parts = parts.old; lanes = self.old.lanes }) number }
         ensures words { self.new.words ≡ self.old.words }
     {
-        take_one(parts, &mut self.lanes[number], cycle);
+        take_one(parts, injecting, &mut self.lanes[number], cycle);
         settle(&mut self.busy, &self.lanes, number);
         rest(&mut self.taking, &self.lanes, number);
     }

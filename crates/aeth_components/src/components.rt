@@ -16,7 +16,7 @@ ghost use Rattle.aeth_components.specs.Entering.{TakesRows, with_rows};
 ghost use Rattle.aeth_components.specs.Events.{IsDoable};
 ghost use Rattle.aeth_components.specs.First.{HasSender, IsFirst};
 ghost use Rattle.aeth_components.specs.Frames.{IsWired, frame_of};
-ghost use Rattle.aeth_components.specs.Injecting.{AreInjecting, entries_of};
+ghost use Rattle.aeth_components.specs.Injecting.{AreInjecting};
 ghost use Rattle.aeth_components.specs.Lanes.{IsLane, with_lane};
 ghost use Rattle.aeth_components.specs.Handing.{AreHanding};
 ghost use Rattle.aeth_components.specs.Passing.{way_of};
@@ -65,7 +65,7 @@ impl Model for Components {
     ghost use Rattle.aeth_components.specs.Components.{ComponentsState, IsComponents};
     ghost use Rattle.aeth_components.specs.Components.{components_of};
     ghost use Rattle.aeth_components.specs.Frames.{frame_of};
-    ghost use Rattle.aeth_components.specs.Injecting.{AreInjecting, entries_of};
+    ghost use Rattle.aeth_components.specs.Injecting.{AreInjecting};
     ghost use Rattle.aeth_components.specs.Handing.{AreHanding};
     ghost use Rattle.aeth_components.specs.Passing.{way_of};
     ghost use Rattle.aeth_components.specs.Ready.{AreReady};
@@ -80,7 +80,7 @@ impl Model for Components {
     ghost invariant = { λ all. IsComponents (components_of all.parts.items all.wires
         all.channels.lanes all.channels.words all.counts.landings.items all.counts.flits.items)
         × AreReady (map frame_of all.parts.items) (map way_of all.parts.items) all.wires all.turns
-        × AreInjecting (map entries_of all.parts.items) all.turns.injecting.slots.items
+        × AreInjecting all.parts.items all.turns.injecting
         × AreHanding all.parts.items all.channels.lanes all.handing };
 }
 
@@ -361,7 +361,7 @@ fn run<L: Ledger>(
 )
     requires wired { IsWired (map frame_of parts.old) (length wires.old) }
     requires ready { AreReady (map frame_of parts.old) (map way_of parts.old) wires.old turns.old }
-    requires injecting { AreInjecting (map entries_of parts.old) turns.old.injecting.slots.items }
+    requires injecting { AreInjecting parts.old turns.old.injecting }
     requires lanes { All (IsLane (length channels.old.words) (length parts.old)) channels.old.lanes }
     requires events { All (IsDoable (map frame_of parts.old)) events.now }
     requires handing { AreHanding parts.old channels.old.lanes handing.old }
@@ -379,13 +379,13 @@ fn run<L: Ledger>(
       onward = replicate (length wires.old) Nothing;
       injecting = turns.new.injecting;
     } }
-    ensures injecting { AreInjecting (map entries_of parts.new) turns.new.injecting.slots.items }
+    ensures injecting { AreInjecting parts.new turns.new.injecting }
     ensures handing { AreHanding parts.new channels.new.lanes handing.new }
     ensures steps { steps.new ≤ steps.old + flits_on wires.old + flits_on wires.new }
 {
     switch(parts, &mut turns.injecting, events);
     handing.wake_for(events);
-    channels.refill(handing, parts, cycle);
+    channels.refill(handing, parts, &mut turns.injecting, cycle);
     drive(parts, turns, cycle, wires, handing, steps);
-    channels.take(parts, cycle);
+    channels.take(parts, &mut turns.injecting, cycle);
 }

@@ -7,7 +7,7 @@ ghost use Rattle.aeth_components.specs.Components.{wires_driven};
 ghost use Rattle.aeth_components.specs.Ends.{AreEnds};
 ghost use Rattle.aeth_components.specs.Frames.{IsWired, frame_of};
 ghost use Rattle.aeth_components.specs.Handing.{HasWaitingPlaces, Wakes};
-ghost use Rattle.aeth_components.specs.Injecting.{AreInjecting, entries_of};
+ghost use Rattle.aeth_components.specs.Injecting.{AreInjecting};
 ghost use Rattle.aeth_components.specs.Passing.{forwarded_from, passed_from, way_of};
 ghost use Rattle.aeth_components.specs.Ready.{AreReady};
 ghost use Rattle.aeth_components.specs.Seen.{all_seen, interfaces_driven};
@@ -36,13 +36,16 @@ pub(crate) fn drive<L: Ledger>(
 )
     requires wired { IsWired (map frame_of parts.old) (length wires.old) }
     requires ready { AreReady (map frame_of parts.old) (map way_of parts.old) wires.old turns.old }
-    requires injecting { AreInjecting (map entries_of parts.old) turns.old.injecting.slots.items }
+    requires injecting { AreInjecting parts.old turns.old.injecting }
     requires waiting { HasWaitingPlaces handing.old }
     ensures wires { wires.new
         ≡ wires_driven (all_seen wires.old parts.old) (length wires.old) cycle }
     ensures parts { parts.new ≡ interfaces_driven cycle parts.old }
-    ensures turns { turns.new
-        ≡ record turns.old { onward = replicate (length wires.old) Nothing } }
+    ensures turns { turns.new ≡ record turns.old {
+      onward = replicate (length wires.old) Nothing;
+      injecting = turns.new.injecting;
+    } }
+    ensures injecting { AreInjecting parts.new turns.new.injecting }
     ensures handing { Wakes (IsSending cycle parts.old) handing.old handing.new }
     ensures steps { steps.new ≤ steps.old + flits_on wires.old + flits_on wires.new }
 {
@@ -50,7 +53,7 @@ pub(crate) fn drive<L: Ledger>(
         look_up(parts, &turns.ends, wires, cycle, &mut turns.onward, steps);
     }
     turns.onward.settle(wires);
-    inject(parts, &turns.injecting, cycle, wires, handing, steps);
+    inject(parts, &mut turns.injecting, cycle, wires, handing, steps);
 }
 
 // Passes on the flits of wires that end at routers with tables, where all others were passed on before, and

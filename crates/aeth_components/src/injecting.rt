@@ -1,12 +1,17 @@
-// Which interfaces may inject in a slot, and marks of those that do.
+// Which interfaces may send in a slot, and marks of those that do.
 
-ghost use Rattle.std.specs.Prelude.{◌≡◌, ◌<◌, ◌≤◌, ◌+◌, ◌%◌, ◌^◌, ℕ, All, IfOk, count_by, length, map};
+ghost use Rattle.std.specs.Prelude.{◌≡◌, ◌≢◌, ◌<◌, ◌≤◌, ◌+◌, ◌*◌, ◌%◌, ◌^◌, ◌⊎◌, ℕ, All, IfOk, count_by, false};
+ghost use Rattle.std.specs.Prelude.{length, map};
+ghost use Rattle.aeth_base.specs.Limits.{max_slots};
 ghost use Rattle.aeth_base.specs.Marks.{bit_of, room_of};
+ghost use Rattle.aeth_ni.specs.Limits.{queues_of_interface};
 ghost use Rattle.aeth_ni.specs.Writes.{addressee};
 ghost use Rattle.aeth_components.specs.Events.{event_part};
 ghost use Rattle.aeth_components.specs.Frames.{IsWired, frame_of};
 ghost use Rattle.aeth_components.specs.Handing.{HasWaitingPlaces, Wakes};
-ghost use Rattle.aeth_components.specs.Injecting.{AreInjecting, NotesWrite, entries_of, marks_at};
+ghost use Rattle.aeth_components.specs.Injecting.{AreInjecting, HasPlaces, IsEntered, MarksMore};
+ghost use Rattle.aeth_components.specs.Injecting.{NotesEvent, WakesQueue, WakesTold, marks_at};
+ghost use Rattle.aeth_components.specs.Injecting.{place_of_entry};
 ghost use Rattle.aeth_components.specs.Seen.{interfaces_driven};
 ghost use Rattle.aeth_components.specs.Sending.{Injects, IsSending};
 ghost use Rattle.aeth_components.specs.Turns.{sends_own};
@@ -17,31 +22,42 @@ use crate::handing::Handing;
 use crate::parts::sends_in;
 use aeth_base::{Marks, NoMemory, Steps};
 use aeth_clocked::{Clocked, Wires};
-use aeth_ni::Write;
+use aeth_ni::{QUEUES_OF_INTERFACE, Write};
 use aeth_router::Part;
 use std::alloc::Global;
 use std::sync::ledger::Ledger;
 
-// For each slot marks of the interfaces whose tables have an entry for it.
+// The most slots of a table.
+const MOST_SLOTS: usize = 128;
+
+// For each slot marks of the interfaces that may send in it, and for each queue of each interface marks of
+// the slots that have its entry.
 #[derive(Drop)]
 pub(crate) struct Injecting {
     pub slots: Vec<Marks>,
+    pub entries: Marks,
 }
 
 impl Injecting {
     // For so many slots, and among so many components, those whose tables are empty. Later calls take no
     // memory.
     pub(crate) fn none(alloc: Global, slots: u32, parts: u32) -> Result<Injecting, NoMemory>
+        requires some { 0 < slots }
+        requires most { slots ≤ max_slots }
         ensures size { IfOk result (λ made. length made.slots.items ≡ slots) }
-        ensures room { IfOk result (λ made. All (λ marks. parts < room_of marks) made.slots.items) }
+        ensures places { IfOk result (HasPlaces parts) }
         ensures unmarked { IfOk result (λ made. (slot number : ℕ)
             → bit_of (marks_at made.slots.items slot) number ≡ 0) }
     {
+        let entries = parts as usize * QUEUES_OF_INTERFACE * MOST_SLOTS;
         let mut marks = Vec::with_capacity(alloc, slots as usize)?;
         for _ in 0..slots {
             marks.push(Marks::none(alloc, parts as usize)?)?;
         }
-        Ok(Injecting { slots: marks })
+        Ok(Injecting {
+            slots: marks,
+            entries: Marks::none(alloc, entries)?,
+        })
     }
 
     // The slot of a cycle.
@@ -60,64 +76,147 @@ impl Injecting {
         &self.slots[slot]
     }
 
-    // Notes what an event enters in a table, or takes out of one.
+    // Notes what an event enters in a table, or takes out of one, and wakes the queue that it changes.
     pub(crate) fn note(&mut self, event: &Event)
-        requires { All (λ marks. event_part event.now < room_of marks) self.old.slots.items }
-        ensures { NotesWrite event.now self.old.slots.items self.new.slots.items }
+        requires { HasPlaces (event_part event.now + 1) self.old }
+        ensures { NotesEvent event.now self.old self.new }
     {
-        if let Event::Change(write) = event {
-            self.note_write(write);
+        match event {
+            Event::Halt(end) | Event::Finish(end) => self.wake(end.ni.0 as usize, end.queue),
+            Event::Change(write) => self.note_write(write),
         }
     }
 
     // The same of a write.
     fn note_write(&mut self, write: &Write)
-        requires { All (λ marks. (addressee write.now).0 < room_of marks) self.old.slots.items }
-        ensures { NotesWrite (Change write.now) self.old.slots.items self.new.slots.items }
+        requires { HasPlaces ((addressee write.now).0 + 1) self.old }
+        ensures { NotesEvent (Change write.now) self.old self.new }
     {
         match *write {
-            Write::SetSlot { ni, slot, .. } => {
-                if let Some(marks) = self.slots.get_mut(slot as usize) {
-                    marks.mark(ni.0 as usize);
-                }
+            Write::SetSlot { ni, slot, queue } => self.enter(ni.0 as usize, queue, slot as usize),
+            Write::ClearSlot { ni, slot } => self.clear(ni.0 as usize, slot as usize),
+            Write::SetRoute { ni, queue, .. } => self.wake(ni.0 as usize, queue),
+            Write::ClearRoute { ni, queue } => self.wake(ni.0 as usize, queue),
+        }
+    }
+
+    // An interface may send in each slot of one of its queues.
+    pub(crate) fn wake(&mut self, number: usize, queue: u8)
+        requires { HasPlaces (number + 1) self.old }
+        ensures { WakesQueue number queue self.old self.new }
+    {
+        let first = place_of(number, queue, 0);
+        let end = first + self.slots.len();
+        let mut place = self.entries.next(first, end);
+        'places: while place < end {
+            self.slots[place - first].mark(number);
+            place = self.entries.next(place + 1, end);
+        }
+    }
+
+    // So it is where a flit has come to one of its queues.
+    pub(crate) fn wake_told(&mut self, number: usize, told: Option<u8>)
+        requires { HasPlaces (number + 1) self.old }
+        ensures { WakesTold number told self.old self.new }
+    {
+        if let Some(queue) = told {
+            self.wake(number, queue);
+        }
+    }
+
+    // An interface is seen to send nothing in a slot.
+    fn rest(&mut self, number: usize, slot: usize)
+        requires slot { slot < length self.old.slots.items }
+        requires number { All (λ marks. number < room_of marks) self.old.slots.items }
+        ensures entries { self.new.entries ≡ self.old.entries }
+        ensures size { length self.new.slots.items ≡ length self.old.slots.items }
+        ensures room { (other : ℕ) → room_of (marks_at self.new.slots.items other)
+            ≡ room_of (marks_at self.old.slots.items other) }
+        ensures away { (other at : ℕ) → (other ≢ number) ⊎ (at ≢ slot)
+            → bit_of (marks_at self.new.slots.items at) other
+            ≡ bit_of (marks_at self.old.slots.items at) other }
+        ensures gone { (other at : ℕ) → bit_of (marks_at self.new.slots.items at) other ≡ 1
+            → bit_of (marks_at self.old.slots.items at) other ≡ 1 }
+    {
+        self.slots[slot].unmark(number);
+    }
+
+    // A queue of an interface has the entry for a slot, and may send in it.
+    fn enter(&mut self, number: usize, queue: u8, slot: usize)
+        requires { HasPlaces (number + 1) self.old }
+        ensures more { MarksMore number self.old.slots.items self.new.slots.items }
+        ensures room { room_of self.new.entries ≡ room_of self.old.entries }
+        ensures own { slot < length self.old.slots.items → IsEntered self.new number queue slot }
+        ensures marked { slot < length self.old.slots.items
+            → bit_of (marks_at self.new.slots.items slot) number ≡ 1 }
+        ensures kept { (place : ℕ) → bit_of self.old.entries place ≡ 1
+            → bit_of self.new.entries place ≡ 1 }
+    {
+        if slot < self.slots.len() {
+            self.entries.mark(place_of(number, queue, slot));
+            self.slots[slot].mark(number);
+        }
+    }
+
+    // No queue of an interface has the entry for a slot.
+    fn clear(&mut self, number: usize, slot: usize)
+        requires { HasPlaces (number + 1) self.old }
+        ensures slots { self.new.slots ≡ self.old.slots }
+        ensures room { room_of self.new.entries ≡ room_of self.old.entries }
+        ensures kept { (other at queue : ℕ) → at < max_slots → (other ≢ number) ⊎ (at ≢ slot)
+            → IsEntered self.old other queue at → IsEntered self.new other queue at }
+    {
+        if slot < self.slots.len() {
+            for queue in 0..QUEUES_OF_INTERFACE as u8 {
+                self.entries.unmark(place_of(number, queue, slot));
             }
-            Write::ClearSlot { ni, slot } => {
-                if let Some(marks) = self.slots.get_mut(slot as usize) {
-                    marks.unmark(ni.0 as usize);
-                }
-            }
-            _ => {}
         }
     }
 }
 
+// The place of a queue's entry for a slot.
+fn place_of(number: usize, queue: u8, slot: usize) -> usize
+    requires number { number < 2 ^ 32 }
+    requires slot { slot < max_slots }
+    ensures place { result ≡ place_of_entry number queue slot }
+    ensures below { result < max_slots * (queues_of_interface * (number + 1)) }
+{
+    MOST_SLOTS * (QUEUES_OF_INTERFACE * number + queue as usize % QUEUES_OF_INTERFACE) + slot
+}
+
 // Each interface that sends something of its own in a cycle drives it, and the channels that wait for
-// room there may hand words on. Each that sends is marked to have an entry for the slot, and others are
-// passed over. It counts a step for each that sends.
+// room there may hand words on. Each that may send is marked in the slot, and others are passed over. One that sends
+// nothing more there is marked no more. It counts a step for each that sends.
 pub(crate) fn inject<L: Ledger>(
     parts: &mut [Part],
-    injecting: &Injecting,
+    injecting: &mut Injecting,
     cycle: u32,
     wires: &mut Wires,
     handing: &mut Handing,
     steps: &mut Steps<L>,
 )
-    requires few { length parts.old < 2 ^ 32 }
-    requires injecting { AreInjecting (map entries_of parts.old) injecting.now.slots.items }
+    requires injecting { AreInjecting parts.old injecting.old }
     requires wired { IsWired (map frame_of parts.old) (length wires.old) }
     requires waiting { HasWaitingPlaces handing.old }
     ensures parts { parts.new ≡ interfaces_driven cycle parts.old }
+    ensures injecting { AreInjecting parts.new injecting.new }
     ensures wires { Injects cycle parts.old wires.old wires.new }
     ensures handing { Wakes (IsSending cycle parts.old) handing.old handing.new }
     ensures steps { steps.new ≤ steps.old + count_by (sends_own cycle) parts.old }
 {
     let slot = injecting.slot(cycle);
-    for number in injecting.at(slot).iter() {
+    let end = parts.len();
+    let mut number = injecting.at(slot).next(0, end);
+    'numbers: while number < end {
         if sends_in(&parts[number], slot) {
             let part = &mut parts[number];
             part.drive(u64::from(cycle), wires);
             handing.wake(number as u32);
             steps.tick();
         }
+        if !sends_in(&parts[number], slot) {
+            injecting.rest(number, slot);
+        }
+        number = injecting.at(slot).next(number + 1, end);
     }
 }

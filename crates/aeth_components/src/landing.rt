@@ -6,6 +6,7 @@ ghost use Rattle.aeth_components.specs.Changes.{on_interface};
 ghost use Rattle.aeth_components.specs.Counting.{counted, flits_counted, noted};
 ghost use Rattle.aeth_components.specs.Ends.{AreEnds};
 ghost use Rattle.aeth_components.specs.Frames.{IsWired, frame_of};
+ghost use Rattle.aeth_components.specs.Injecting.{AreInjecting, queue_told};
 ghost use Rattle.aeth_components.specs.Lanes.{IsLane};
 ghost use Rattle.aeth_components.specs.Passing.{forwarded_from, way_of};
 ghost use Rattle.aeth_components.specs.Seen.{flits_landed, interfaces_latched, landed};
@@ -15,6 +16,7 @@ ghost use Rattle.aeth_router.specs.Onward.{CameFrom, Nothing, arrival_at};
 
 use crate::channels::Channels;
 use crate::counts::Counts;
+use crate::injecting::Injecting;
 use crate::turns::Turns;
 use aeth_base::{LinkId, Steps};
 use aeth_clocked::{Flit, Wires};
@@ -35,11 +37,13 @@ pub(crate) fn land<L: Ledger>(
     requires wired { IsWired (map frame_of parts.old) (length wires.now) }
     requires ends { AreEnds (map frame_of parts.old) (length wires.now) turns.old.ends }
     requires onward { turns.old.onward ≡ replicate (length wires.now) Nothing }
+    requires injecting { AreInjecting parts.old turns.old.injecting }
     requires lanes { All (IsLane (length counts.old.landings.items) (length parts.old))
         channels.old.lanes }
     requires flits { length counts.old.flits.items ≤ length wires.now }
     requires cycle { cycle + 1 < 2 ^ 32 }
     ensures parts { parts.new ≡ flits_landed wires.now parts.old }
+    ensures injecting { AreInjecting parts.new turns.new.injecting }
     ensures lanes { channels.new.lanes
         ≡ map (counted cycle (interfaces_latched wires.now parts.old)) channels.old.lanes }
     ensures words { channels.new.words ≡ channels.old.words }
@@ -49,6 +53,7 @@ pub(crate) fn land<L: Ledger>(
     ensures flits { counts.new.flits.items ≡ flits_counted wires.now counts.old.flits.items }
     ensures turns { turns.new ≡ record turns.old {
       onward = turns.new.onward;
+      injecting = turns.new.injecting;
       flits = flits_on wires.now;
     } }
     ensures size { length turns.new.onward ≡ length wires.now }
@@ -59,6 +64,7 @@ pub(crate) fn land<L: Ledger>(
 {
     let Turns {
         ends,
+        injecting,
         onward,
         flits,
         ..
@@ -71,7 +77,8 @@ pub(crate) fn land<L: Ledger>(
         let flit = wires.flit(LinkId(wire as u32));
         count_flit(&mut counts.flits, wire);
         if number < interfaces {
-            latch_one(&mut parts[number], flit);
+            let told = latch_one(&mut parts[number], flit);
+            injecting.wake_told(number, told);
             channels.count_at(parts, number, &mut counts.landings, cycle);
         } else {
             parts[number].forward(flit, onward);
@@ -91,14 +98,13 @@ fn count_flit(flits: &mut [u32], wire: usize)
     }
 }
 
-// Has a component latch a flit, where it is an interface.
-fn latch_one(part: &mut Part, flit: Flit)
-    ensures { part.new ≡ on_interface (landed (Some flit)) part.old }
+// Has a component latch a flit, where it is an interface, and gives the queue to which it comes, if to any.
+fn latch_one(part: &mut Part, flit: Flit) -> Option<u8>
+    ensures part { part.new ≡ on_interface (landed (Some flit)) part.old }
+    ensures told { result ≡ queue_told flit part.old }
 {
     match part {
-        Part::Interface(ni) => {
-            let _ = ni.land(flit);
-        }
-        _ => {}
+        Part::Interface(ni) => Some(ni.land(flit)?.0),
+        _ => None,
     }
 }

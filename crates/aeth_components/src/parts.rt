@@ -1,7 +1,8 @@
 // What is done at one queue of a component, where this is an interface, or to the table of one that is
 // a router with a table.
 
-ghost use Rattle.std.specs.Prelude.{◌≡◌, ◌<◌, ◌≤◌, ◌%◌, ◌^◌, ℕ, All, length, true};
+ghost use Rattle.std.specs.Prelude.{◌≡◌, ◌<◌, ◌≤◌, ◌%◌, ◌^◌, ℕ, All, IsTrue, length, true};
+ghost use Rattle.std.specs.List.Sorted.{IsNonDecreasingBy};
 ghost use Rattle.aeth_ni.specs.Interface.{changed};
 ghost use Rattle.aeth_ni.specs.Limits.{queues_of_interface};
 ghost use Rattle.aeth_components.specs.Changes.{event_done, on_interface, told_by};
@@ -15,7 +16,7 @@ ghost use Rattle.aeth_components.specs.Turns.{sends_own};
 
 use crate::event::Event;
 use crate::queues;
-use aeth_router::{Part, RouterRow};
+use aeth_router::{Part, RouterRow, are_by_router};
 
 // Does an event; a router or a stage has none to do.
 pub(crate) fn meet(part: &mut Part, event: &Event)
@@ -29,23 +30,32 @@ pub(crate) fn meet(part: &mut Part, event: &Event)
 }
 
 // Rows enter the table of a component; where it has none it is as it was.
-fn enter(part: &mut Part, rows: &[RouterRow])
-    requires { TakesRows rows.now part.old }
+fn enter(part: &mut Part, rows: &[RouterRow], are_ordered: bool)
+    requires takes { TakesRows rows.now part.old }
+    requires order { IsTrue are_ordered → IsNonDecreasingBy (λ row. row.router.0) rows.now }
     ensures { part.new ≡ entered rows.now part.old }
 {
     match part {
-        Part::TableRouter(router) => router.enter(rows),
+        Part::TableRouter(router) => {
+            if are_ordered {
+                router.enter_ordered(rows);
+            } else {
+                router.enter(rows);
+            }
+        }
         _ => {}
     }
 }
 
-// Rows enter the tables of all components.
+// Rows enter the tables of all components. Where they come in the order of routers, each router looks at its own
+// alone.
 pub(crate) fn enter_all(parts: &mut [Part], rows: &[RouterRow])
     requires { All (TakesRows rows.now) parts.old }
     ensures { parts.new ≡ with_rows rows.now parts.old }
 {
+    let are_ordered = are_by_router(rows);
     for number in 0..parts.len() {
-        enter(&mut parts[number], rows);
+        enter(&mut parts[number], rows, are_ordered);
     }
 }
 

@@ -5,7 +5,7 @@ ghost use Rattle.aeth_components.specs.Busy.{AreMarked, IsIdle, TakesNothing};
 ghost use Rattle.aeth_components.specs.Changes.{switched};
 ghost use Rattle.aeth_components.specs.Events.{IsDoable};
 ghost use Rattle.aeth_components.specs.Frames.{frame_of};
-ghost use Rattle.aeth_components.specs.Injecting.{AreInjecting, entries_of};
+ghost use Rattle.aeth_components.specs.Injecting.{AreInjecting};
 ghost use Rattle.aeth_components.specs.Lanes.{IsEnd, IsLane, is_open};
 ghost use Rattle.aeth_components.specs.Phases.{pulled, refilled};
 ghost use Rattle.aeth_components.specs.Handing.{IsFull};
@@ -20,10 +20,10 @@ use aeth_router::Part;
 // Does the events of a cycle, one after the other, and notes who may inject from then on.
 pub(crate) fn switch(parts: &mut [Part], injecting: &mut Injecting, events: &[Event])
     requires events { All (IsDoable (map frame_of parts.old)) events.now }
-    requires injecting { AreInjecting (map entries_of parts.old) injecting.old.slots.items }
+    requires injecting { AreInjecting parts.old injecting.old }
     ensures parts { parts.new ≡ switched events.now parts.old }
     ensures frames { map frame_of parts.new ≡ map frame_of parts.old }
-    ensures injecting { AreInjecting (map entries_of parts.new) injecting.new.slots.items }
+    ensures injecting { AreInjecting parts.new injecting.new }
 {
     for event in events {
         let part = &mut parts[event.part() as usize];
@@ -33,8 +33,16 @@ pub(crate) fn switch(parts: &mut [Part], injecting: &mut Injecting, events: &[Ev
 }
 
 // One channel hands its accepted words on.
-pub(crate) fn refill_one(parts: &mut [Part], lane: &mut Lane, words: &[u32], cycle: u32)
-    requires { IsLane (length words.now) (length parts.old) lane.old }
+pub(crate) fn refill_one(
+    parts: &mut [Part],
+    injecting: &mut Injecting,
+    lane: &mut Lane,
+    words: &[u32],
+    cycle: u32,
+)
+    requires lane { IsLane (length words.now) (length parts.old) lane.old }
+    requires injecting { AreInjecting parts.old injecting.old }
+    ensures injecting { AreInjecting parts.new injecting.new }
     ensures turn { (parts.new, lane.new) ≡ refilled words.now cycle parts.old lane.old }
     ensures full { is_open lane.new cycle ≡ true → lane.new.handed < lane.new.accepted
         → IsFull parts.new lane.new.sender }
@@ -45,18 +53,22 @@ pub(crate) fn refill_one(parts: &mut [Part], lane: &mut Lane, words: &[u32], cyc
         let left = &words[from..first + lane.accepted as usize];
         let part = &mut parts[lane.sender.ni.0 as usize];
         lane.handed += hand(part, lane.sender.queue, left);
+        injecting.wake(lane.sender.ni.0 as usize, lane.sender.queue);
     }
 }
 
 // One receiver takes.
-pub(crate) fn take_one(parts: &mut [Part], lane: &mut Lane, cycle: u32)
-    requires { IsEnd (length parts.old) lane.old.receiver }
-    ensures { (parts.new, lane.new) ≡ pulled cycle parts.old lane.old }
+pub(crate) fn take_one(parts: &mut [Part], injecting: &mut Injecting, lane: &mut Lane, cycle: u32)
+    requires end { IsEnd (length parts.old) lane.old.receiver }
+    requires injecting { AreInjecting parts.old injecting.old }
+    ensures injecting { AreInjecting parts.new injecting.new }
+    ensures turn { (parts.new, lane.new) ≡ pulled cycle parts.old lane.old }
 {
     if lane.taken < lane.landed && lane.is_open(cycle) {
         let pull = lane.pull.min(lane.landed - lane.taken);
         let part = &mut parts[lane.receiver.ni.0 as usize];
         lane.taken += draw(part, lane.receiver.queue, pull);
+        injecting.wake(lane.receiver.ni.0 as usize, lane.receiver.queue);
     }
 }
 

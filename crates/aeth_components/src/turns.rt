@@ -3,7 +3,7 @@
 ghost use Rattle.std.specs.Prelude.{ℕ, IfOk, List, None, map, replicate};
 ghost use Rattle.aeth_chip.specs.Wires.{wires_of};
 ghost use Rattle.aeth_components.specs.Frames.{frame_of};
-ghost use Rattle.aeth_components.specs.Injecting.{AreInjecting, entries_of};
+ghost use Rattle.aeth_components.specs.Injecting.{AreInjecting};
 ghost use Rattle.aeth_components.specs.Making.{new_parts};
 ghost use Rattle.aeth_components.specs.Passing.{way_of};
 ghost use Rattle.aeth_components.specs.Ready.{AreReady};
@@ -20,7 +20,7 @@ use std::alloc::Global;
 #[derive(Drop)]
 pub(crate) struct Turns {
     pub ends: Ends,
-    // The interfaces that have an entry for a slot.
+    // The interfaces that may send in a slot.
     pub injecting: Injecting,
     // How many flits are on the wires, and where those go on that don't wait for a table.
     pub flits: u32,
@@ -37,7 +37,7 @@ impl Turns {
             (map frame_of (new_parts chip.now kind rooms)) (map way_of (new_parts chip.now kind rooms))
             (replicate (wires_of chip.now.links) None) turns) }
         ensures injecting { IfOk result (λ turns. (rooms : List ℕ) → AreInjecting
-            (map entries_of (new_parts chip.now kind rooms)) turns.injecting.slots.items) }
+            (new_parts chip.now kind rooms) turns.injecting) }
     {
         let slots = chip.slots();
         let ends = Ends::of(alloc, chip)?;

@@ -1,7 +1,7 @@
 -- `check CHIP APP PLAN`: whether a plan is accepted, or the first rule that it breaks.
 -- This project's own.
 use Rattle.std.specs.Prelude.{ℕ, List, [], ◌∷◌, Option, Some, None, codes}
-use Rattle.aeth_playing.specs.declared.inputs.Design.{Design}
+use Rattle.aeth_plan.specs.declared.design.Design.{Design}
 use Rattle.aeth_design_commands.specs.declared.command.DesignCommand.{DesignCommand}
 use Rattle.aeth_design_commands.specs.declared.command.DesignCommand.TheVariants as command
 use Rattle.aeth_files.specs.Files.{design_file}

@@ -11,7 +11,7 @@ use aeth_answers::{Answer, FileName, Stop, ended};
 use aeth_base::NoMemory;
 use aeth_files::{read_accepted, read_design};
 use aeth_io::Shelf;
-use aeth_playing::Design;
+use aeth_plan::Design;
 use std::alloc::Global;
 
 /// The command of the words CHIP APP PLAN.

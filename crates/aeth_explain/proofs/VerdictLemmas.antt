@@ -237,3 +237,13 @@ open-reordered chip trial cuts index same =
     let covered : (path : List LinkId) → is_covered index path ≡ is_covered cuts path =
     λ path. sym (list_any-IsPermutation (λ cut. begins_with cut path) cuts index same) in
     λ i. filter (λ path. may_take chip trial path && not (covered path i)) (leaving_lists chip trial.from)
+
+-- So is the first one, of the same chip and try.
+pub first-reordered : (own chip : ChipData) (tried trial : TrialData) (cuts index : List (List LinkId))
+    (found : Option (List LinkId)) → own ≡ chip → tried ≡ trial → IsPermutation cuts index
+    → found ≡ slice_get (open_paths own tried index) 0
+    → found ≡ slice_get (open_paths chip trial cuts) 0
+first-reordered own chip tried trial cuts index found first second same is =
+    is ∙ ap (λ (c : ChipData). slice_get (open_paths c tried index) 0) first
+    ∙ ap (λ (t : TrialData). slice_get (open_paths chip t index) 0) second
+    ∙ ap (λ (paths : List (List LinkId)). slice_get paths 0) (open-reordered chip trial cuts index same)

@@ -5,6 +5,7 @@ pub mod Cuts
 pub mod Certificate
 pub mod Verdict
 pub mod Masks
+pub mod SlotTables
 pub mod Senders
 pub mod Places
 pub mod Fronts

@@ -31,34 +31,30 @@ fn shortest_cuts(alloc: Global, judge: &TryJudge, listed: &Listed) -> Result<Opt
     Ok(Some(cuts))
 }
 
-/// The certificate of a try with the shortest cuts, in the order of a dictionary, with the least distances of
-/// the chip; `None` exactly where the try has a candidate. `Err` where there was no memory.
+/// The certificate of the try of a judge with the shortest cuts, in the order of a dictionary, with the least
+/// distances of the chip; `None` exactly where the try has a candidate. `Err` where there was no memory.
 pub fn certify_with(
     alloc: Global,
-    chip: &Chip,
     far: &Distances,
-    groups: &Groups,
-    trial: &Trial,
+    judge: &TryJudge,
 ) -> Result<Option<Cuts>, NoMemory>
-    requires far { far.now ≡ chip.now.links }
-    requires trial { IsTrialOf chip.now trial.now }
-    ensures gives { IfOk result (λ cuts. cuts ≡ certificate_of chip.now groups.now trial.now) }
+    requires { far.now ≡ judge.now.chip.links }
+    ensures gives { IfOk result (λ cuts.
+        cuts ≡ certificate_of judge.now.chip judge.now.groups judge.now.trial) }
     // With a certificate there is no candidate.
     ensures is { IfOk result (λ cuts. MatchOption cuts
-        (HasCandidate chip.now groups.now trial.now)
-        (IsCertificate chip.now groups.now trial.now)) }
+        (HasCandidate judge.now.chip judge.now.groups judge.now.trial)
+        (IsCertificate judge.now.chip judge.now.groups judge.now.trial)) }
     ensures order { IfOk result (λ cuts. IfSome cuts Ascend) }
 {
-    let _slots = chip.slots();
-    let judge = TryJudge::new(alloc, chip, groups, trial)?;
     let none = Cuts::new(alloc);
     let listed = Listed {
-        chip,
+        chip: judge.chip(),
         far,
-        trial,
+        trial: judge.trial(),
         cuts: &none,
     };
-    shortest_cuts(alloc, &judge, &listed)
+    shortest_cuts(alloc, judge, &listed)
 }
 
 /// The certificate of a try with the shortest cuts, in the order of a dictionary; `None` exactly where the
@@ -79,5 +75,6 @@ pub fn certify(
     ensures order { IfOk result (λ cuts. IfSome cuts Ascend) }
 {
     let far = Distances::of(alloc, chip)?;
-    certify_with(alloc, chip, &far, groups, trial)
+    let judge = TryJudge::new(alloc, chip, groups, trial)?;
+    certify_with(alloc, &far, &judge)
 }

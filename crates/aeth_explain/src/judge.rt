@@ -17,28 +17,24 @@ use aeth_group::Groups;
 use aeth_paths::Trial;
 use std::alloc::Global;
 
-/// What is found of a certificate for a try, with the least distances of the chip. `Err` where there was no
-/// memory.
+/// What is found of a certificate for the try of a judge, with the least distances of the chip. `Err` where there was
+/// no memory.
 pub fn verify_with(
     alloc: Global,
-    chip: &Chip,
     far: &Distances,
-    groups: &Groups,
-    trial: &Trial,
+    judge: &TryJudge,
     cuts: &Cuts,
 ) -> Result<CutVerdict, NoMemory>
-    requires far { far.now ≡ chip.now.links }
-    requires trial { IsTrialOf chip.now trial.now }
-    requires cuts { All (All (λ link. link.0 < length chip.now.links)) cuts.now }
+    requires far { far.now ≡ judge.now.chip.links }
+    requires cuts { All (All (λ link. link.0 < length judge.now.chip.links)) cuts.now }
     ensures gives { IfOk result (λ verdict.
-        verdict ≡ verdict_of chip.now groups.now trial.now cuts.now) }
+        verdict ≡ verdict_of judge.now.chip judge.now.groups judge.now.trial cuts.now) }
     ensures complete { IfOk result (λ verdict. (verdict ≡ Complete)
-        ↔ IsCertificate chip.now groups.now trial.now cuts.now) }
+        ↔ IsCertificate judge.now.chip judge.now.groups judge.now.trial cuts.now) }
     ensures least { IfOk result (λ verdict. (path : List LinkId) → verdict ≡ Open path
-        → IsLeastOpen chip.now trial.now cuts.now path) }
+        → IsLeastOpen judge.now.chip judge.now.trial cuts.now path) }
 {
-    let _slots = chip.slots();
-    let judge = TryJudge::new(alloc, chip, groups, trial)?;
+    let chip = judge.chip();
     if let Some(place) = judge.first_no_cut(cuts) {
         return Ok(CutVerdict::NotDead { cut: place + 1 });
     }
@@ -46,7 +42,7 @@ pub fn verify_with(
     let listed = Listed {
         chip,
         far,
-        trial,
+        trial: judge.trial(),
         cuts: &index,
     };
     match first_open(alloc, &listed)? {
@@ -75,5 +71,6 @@ pub fn verify(
         → IsLeastOpen chip.now trial.now cuts.now path) }
 {
     let far = Distances::of(alloc, chip)?;
-    verify_with(alloc, chip, &far, groups, trial, cuts)
+    let judge = TryJudge::new(alloc, chip, groups, trial)?;
+    verify_with(alloc, &far, &judge, cuts)
 }

@@ -2,16 +2,19 @@
 ghost use Rattle.std.specs.Prelude.{◌≡◌, ◌<◌, ◌+◌, ◌-◌, All, IfOk, IfSome, length, not, position};
 ghost use Rattle.aeth_base.specs.declared.ids.NiId.{NiId};
 ghost use Rattle.aeth_book.specs.Free.{narrowed};
+ghost use Rattle.aeth_chip.specs.Chip.{IsChip};
 ghost use Rattle.aeth_chip.specs.declared.node.Node.TheVariants.{Ni};
 ghost use Rattle.aeth_explain.specs.Cuts.{are_joined, is_cut};
 ghost use Rattle.aeth_explain.specs.Limits.{max_cuts};
+ghost use Rattle.aeth_explain.specs.SlotTables.{AreTables};
 ghost use Rattle.aeth_explain.specs.TryPaths.{is_dead};
 ghost use Rattle.aeth_paths.specs.Trials.{IsTrialOf, book_of};
 ghost use Rattle.aeth_slots.specs.Choice.{is_suitable};
 ghost use Rattle.std.specs.List.{list_any};
 
 use crate::cuts::Cuts;
-use crate::taken::taken_masks;
+use crate::slot_tables::SlotTables;
+use crate::taken::{taken_beside, taken_masks};
 use aeth_base::{LinkId, NiId, NoMemory, Path};
 use aeth_chip::{Chip, Node};
 use aeth_group::Groups;
@@ -71,6 +74,49 @@ impl<'a> TryJudge<'a> {
             trial,
             taken,
         })
+    }
+
+    /// The same for a try of which slot tables have the first grants, so that only the others are put in. `Err` where
+    /// there was no memory.
+    pub fn beside(
+        alloc: Global,
+        tables: &SlotTables,
+        chip: &'a Chip,
+        groups: &'a Groups,
+        trial: &'a Trial,
+    ) -> Result<TryJudge<'a>, NoMemory>
+        requires trial { IsTrialOf chip.now trial.now }
+        requires tables { AreTables chip.now groups.now trial.now.grants tables.now }
+        ensures { IfOk result (λ judge. judge ≡ record {
+          chip = chip.now;
+          groups = groups.now;
+          trial = trial.now;
+        }) }
+    {
+        let _slots = chip.slots();
+        let taken = taken_beside(alloc, chip, groups, tables, trial)?;
+        Ok(TryJudge {
+            chip,
+            groups,
+            trial,
+            taken,
+        })
+    }
+
+    /// Its chip.
+    pub(crate) fn chip(&self) -> &Chip
+        ensures chip { result.now ≡ self.now.chip }
+        ensures is_chip { IsChip self.now.chip }
+    {
+        self.chip
+    }
+
+    /// Its try.
+    pub(crate) fn trial(&self) -> &Trial
+        ensures trial { result.now ≡ self.now.trial }
+        ensures is_trial { IsTrialOf self.now.chip self.now.trial }
+    {
+        self.trial
     }
 
     // The starts of a set that a link leaves, which a flit enters `after` cycles after its start.

@@ -1,23 +1,27 @@
 -- The text of certificates and their verdicts, try by try.
 use Rattle.std.proofs.Common.{◌≡◌, ◌∙◌, ◌+◌, ◌≤◌, ◌++◌, ◌∷◌, [], ℕ, List, Some, ap}
-use Rattle.std.proofs.Common.{append_assoc, drop, length, map, sym, take}
-use Rattle.std.specs.Prelude.{codes, option_map, slice_get, unwrap_or}
+use Rattle.std.proofs.Common.{append_assoc, arith, drop, get_or, length, map, subst, sym, take}
+use Rattle.std.specs.Prelude.{AllPairs, codes, option_map, slice_get, unwrap_or}
+use Rattle.std.proofs.lemmas.Option.{get_or_from_slice_get, slice_get_within}
 use Rattle.std.proofs.lemmas.Grind.{flat_map-append}
 use Rattle.std.proofs.lemmas.List.{append-nil, drop_all, map-append}
-use Rattle.aeth_alloc.specs.Trials.{refused_of}
+use Rattle.aeth_alloc.specs.Trials.{GoesOn, earlier_count, refused_of}
 use Rattle.aeth_alloc.specs.declared.outcome.Refused.{Refused}
 use Rattle.aeth_app.specs.App.{AppData}
 use Rattle.aeth_base.proofs.Lists.{drop-slice_get, option_map-some, take-slice_get}
 use Rattle.aeth_base.specs.declared.ids.LinkId.{LinkId}
 use Rattle.aeth_explain.specs.CutsText.{block_lines, blocks_lines, cuts_text, line_of}
+use Rattle.aeth_explain.specs.SlotTables.{AreTables, SlotTablesData, is_occupied}
 use Rattle.aeth_explain.specs.Verdict.{verdict_of}
 use Rattle.aeth_explain.specs.declared.try_line.TryLine.{TryLine}
 use Rattle.aeth_group.specs.Members.{groups_of}
+use Rattle.aeth_group.specs.Tables.{IsTable}
+use Rattle.aeth_group.specs.declared.grant.Grant.{Grant}
 use Rattle.aeth_paths.specs.Trials.{TrialData}
-use Rattle.aeth_playing.specs.declared.inputs.Design.{Design}
+use Rattle.aeth_plan.specs.declared.design.Design.{Design}
 use Rattle.aeth_text.specs.Order.{line_after}
 use Rattle.aeth_text.specs.Spelling.{ended_line, text_of_lines}
-use Rattle.aeth_explain_commands.specs.Explain.{flaw_of, verdicts_job}
+use Rattle.aeth_explain_commands.specs.Explain.{AreBehind, flaw_of, verdicts_job}
 
 -- The line of one try more.
 pub lines-more : (tries : List TrialData) (i : ℕ) (refused : Refused)
@@ -82,3 +86,37 @@ verdicts-step design line i tries blocks trial own at its =
     (drop-slice_get tries i trial at)
     ∙ ap (λ (bs : List (List (List LinkId))). verdicts_job design line (trial ∷ drop (i + 1) tries) bs)
     (drop-slice_get blocks i own its)
+
+-- Slot tables without grants are behind all tries.
+pub first-tables : (design : Design) (tries : List TrialData) (tables : SlotTablesData)
+    → tables.count ≡ 0
+    → ((grants : List Grant) → AreTables design.chip (groups_of design.app) grants tables)
+    → AreBehind design tries 0 tables
+first-tables design tries tables none are k trial from at = (
+  omega (arith, none),
+  are trial.grants,
+)
+
+-- Tables with the grants before a try's turn are behind the tries that come later.
+pub behind-next : (design : Design) (tries : List TrialData) (i : ℕ) (trial : TrialData)
+    (tables : SlotTablesData) → AllPairs GoesOn tries → slice_get tries i ≡ Some trial
+    → tables.count ≡ earlier_count trial
+    → AreTables design.chip (groups_of design.app) trial.grants tables
+    → AreBehind design tries (i + 1) tables
+behind-next design tries i trial tables go_on at count are k later from its =
+    let low = slice_get_within tries k later its in
+    let first : get_or tries i trial ≡ trial = get_or_from_slice_get tries i trial trial at in
+    let second : get_or tries k trial ≡ later = get_or_from_slice_get tries k later trial its in
+    let goes : GoesOn trial later =
+    rw (← first, ← second) (go_on i k trial (omega (arith, from)) low) in
+    let more : earlier_count later ≤ length later.grants = omega arith in (
+      omega (arith, count, goes.more),
+      record {
+        within = omega (arith, count, goes.more, more);
+        rows = are.rows;
+        table = subst (λ (grants : List Grant). IsTable design.chip.slots (length design.chip.links)
+            (is_occupied design.chip.links (groups_of design.app) grants) tables.masks)
+            (ap (λ n. take n trial.grants) count ∙ sym goes.same
+            ∙ sym (ap (λ n. take n later.grants) count)) are.table;
+      },
+    )

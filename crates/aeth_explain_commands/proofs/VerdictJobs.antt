@@ -8,7 +8,7 @@ use Rattle.aeth_explain.specs.declared.verdict.CutVerdict.{CutVerdict}
 use Rattle.aeth_explain.specs.declared.verdict.CutVerdict.TheVariants.{Complete, NotDead, Open}
 use Rattle.aeth_group.specs.Members.{groups_of}
 use Rattle.aeth_paths.specs.Trials.{TrialData}
-use Rattle.aeth_playing.specs.declared.inputs.Design.{Design}
+use Rattle.aeth_plan.specs.declared.design.Design.{Design}
 use Rattle.aeth_text.specs.Order.{line_after}
 use Rattle.std.specs.Prelude.{unwrap_or}
 use Rattle.aeth_explain_commands.specs.Explain.{flaw_of, verdicts_job}

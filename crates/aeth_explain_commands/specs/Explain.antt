@@ -1,9 +1,9 @@
 -- `explain CHIP APP`: why channels were refused, by certificates; `explain CHIP APP CERT`: whether the
 -- certificates of a text are complete. This project's own.
-use Rattle.std.specs.Prelude.{ℕ, ◌≡◌, ◌+◌, ◌++◌, List, [], ◌∷◌, All, Contains, Option, Some, None}
-use Rattle.std.specs.Prelude.{codes, decimal, length, map, unwrap_or}
+use Rattle.std.specs.Prelude.{ℕ, ◌≡◌, ◌≤◌, ◌+◌, ◌++◌, List, [], ◌∷◌, All, Contains, Option, Some, None}
+use Rattle.std.specs.Prelude.{codes, decimal, length, map, slice_get, unwrap_or}
 use Rattle.aeth_alloc.specs.Prices.{prices_of}
-use Rattle.aeth_alloc.specs.Trials.{trials_of}
+use Rattle.aeth_alloc.specs.Trials.{earlier_count, trials_of}
 use Rattle.aeth_answers.specs.Files.{judged_file}
 use Rattle.aeth_answers.specs.Job.{Job, done, not_granted}
 use Rattle.aeth_answers.specs.Task.{Judging, Task, ends}
@@ -12,6 +12,7 @@ use Rattle.aeth_base.specs.declared.ids.LinkId.{LinkId}
 use Rattle.aeth_explain.specs.Certificate.{cuts_of}
 use Rattle.aeth_explain.specs.Cuts.{HasCandidate}
 use Rattle.aeth_explain.specs.CutsText.{cuts_of_text, cuts_text, line_of}
+use Rattle.aeth_explain.specs.SlotTables.{AreTables, SlotTablesData}
 use Rattle.aeth_explain.specs.Verdict.{verdict_of}
 use Rattle.aeth_explain.specs.declared.try_line.TryLine.{TryLine}
 use Rattle.aeth_explain.specs.declared.verdict.CutVerdict.{CutVerdict}
@@ -20,7 +21,7 @@ use Rattle.aeth_files.specs.Files.{design_file}
 use Rattle.aeth_files.specs.Plans.{side_text}
 use Rattle.aeth_group.specs.Members.{groups_of}
 use Rattle.aeth_paths.specs.Trials.{IsTrialOf, TrialData}
-use Rattle.aeth_playing.specs.declared.inputs.Design.{Design}
+use Rattle.aeth_plan.specs.declared.design.Design.{Design}
 use Rattle.aeth_text.specs.Order.{line_after}
 use Rattle.aeth_text.specs.Spelling.{links_word}
 use Rattle.aeth_explain_commands.specs.declared.explain.Refusals.{Refusals}
@@ -90,3 +91,9 @@ pub record AreRefusals (design : Design) (refusals : Refusals) : Type 0 where
   pub fit : All (IsTrialOf design.chip) refusals.tries
   pub none : (trial : TrialData) → Contains refusals.tries trial
       → HasCandidate design.chip (groups_of design.app) trial → ⊥
+
+-- Slot tables that have grants of which each try from a place on has these before its unit's turn.
+abbrev pub AreBehind : Design → List TrialData → ℕ → SlotTablesData → Type 0
+AreBehind design tries i tables = (k : ℕ) (trial : TrialData) → i ≤ k
+    → slice_get tries k ≡ Some trial → (tables.count ≤ earlier_count trial)
+    × AreTables design.chip (groups_of design.app) trial.grants tables

@@ -10,17 +10,20 @@ ghost use Rattle.aeth_explain_commands.specs.Explain.{AreRefusals, cert_file, ce
 ghost use Rattle.aeth_explain_commands.specs.Explain.{flaw_of, not_dead_text, open_text, refused_tries};
 ghost use Rattle.aeth_explain_commands.specs.Explain.{verdicts_job};
 ghost use Rattle.aeth_group.specs.Members.{groups_of};
-ghost use Rattle.std.specs.Prelude.{◌≡◌, ◌<◌, All, IfOk, IfSome, codes, length, map, slice_get};
+ghost use Rattle.aeth_explain.specs.SlotTables.{AreTables};
+ghost use Rattle.aeth_paths.specs.Trials.{IsTrialOf, TrialData};
+ghost use Rattle.std.specs.Prelude.{◌≡◌, ◌<◌, All, IfOk, codes, length, map};
 
-use crate::explain::{Refusals, refusals_of};
+use crate::explain::{Refusals, next_trial, refusals_of};
 use aeth_alloc::{Refused, Tries};
 use aeth_answers::{Answer, FileName, Stop, ended, judged, read_file};
 use aeth_app::App;
 use aeth_base::{NoMemory, Path};
-use aeth_explain::{CutVerdict, Cuts, TryLine, read_blocks, verify_with};
+use aeth_explain::{CutVerdict, Cuts, SlotTables, TryJudge, TryLine, read_blocks, verify_with};
 use aeth_files::{push_side_of, read_design};
 use aeth_io::Shelf;
-use aeth_playing::Design;
+use aeth_paths::Trial;
+use aeth_plan::Design;
 use aeth_text::{line_after, push_links};
 use std::alloc::Global;
 
@@ -140,9 +143,13 @@ fn verdicts(
         ≡ verdicts_job design.now 2 refusals.now.tries blocks.now) }
 {
     let mut line = 2;
+    let mut tables = SlotTables::new(alloc, &design.chip, &refusals.groups)?;
     for i in 0..blocks.len() {
         let cuts = &blocks[i];
-        if let Some(answer) = flaw(alloc, design, refusals, i, cuts, line)? {
+        let trial = next_trial(alloc, design, refusals, i, &mut tables)?;
+        let verdict = verdict(alloc, design, refusals, &tables, &trial, cuts)?;
+        let tried = TryLine::of(&trial);
+        if let Some(answer) = flaw(alloc, &design.app, line, &tried, &verdict)? {
             return Ok(answer);
         }
         line = line_after(line, 1 + cuts.len() as usize);
@@ -150,33 +157,46 @@ fn verdicts(
     Ok(Answer::done(Vec::from_slice(alloc, b"complete\n")?))
 }
 
-/// The answer where the lists of a try, whose `try` line has this number, are no certificate.
-fn flaw(
+/// What is found of the lists of a try.
+fn verdict(
     alloc: Global,
     design: &Design,
     refusals: &Refusals,
-    i: usize,
+    tables: &SlotTables,
+    trial: &Trial,
     cuts: &Cuts,
-    line: u32,
-) -> Result<Option<Answer>, NoMemory>
+) -> Result<CutVerdict, NoMemory>
     requires refusals { AreRefusals design.now refusals.now }
-    requires within { i < length refusals.now.tries }
+    requires fits { IsTrialOf design.now.chip trial.now }
+    requires tables { AreTables design.now.chip (groups_of design.now.app) trial.now.grants tables.now }
     requires links { AreLinksOf design.now.chip cuts.now }
-    ensures { IfOk result (λ found. IfSome (slice_get refusals.now.tries i) (λ trial. found
-        ≡ flaw_of design.now.app line trial (verdict_of design.now.chip (groups_of design.now.app)
-        trial cuts.now))) }
+    ensures { IfOk result (λ verdict. verdict
+        ≡ verdict_of design.now.chip (groups_of design.now.app) trial.now cuts.now) }
 {
-    let trial = refusals.tries.trial(alloc, i)?;
-    let tried = TryLine::of(&trial);
     let Refusals { groups, far, .. } = refusals;
-    match verify_with(alloc, &design.chip, far, groups, &trial, cuts)? {
+    let judge = TryJudge::beside(alloc, tables, &design.chip, groups, trial)?;
+    verify_with(alloc, far, &judge, cuts)
+}
+
+/// The answer to a verdict on the lists of a try, whose `try` line has this number, where they are no certificate.
+fn flaw(
+    alloc: Global,
+    app: &App,
+    line: u32,
+    tried: &TryLine,
+    verdict: &CutVerdict,
+) -> Result<Option<Answer>, NoMemory>
+    ensures { IfOk result (λ found. (trial : TrialData) → line_of trial ≡ tried.now
+        → found ≡ flaw_of app.now line trial verdict.now) }
+{
+    match verdict {
         CutVerdict::Complete => Ok(None),
         CutVerdict::NotDead { cut } => {
-            let answer = not_dead(alloc, line_after(line, cut as usize))?;
+            let answer = not_dead(alloc, line_after(line, *cut as usize))?;
             Ok(Some(answer))
         }
         CutVerdict::Open { path } => {
-            let answer = open(alloc, &design.app, &tried, &path)?;
+            let answer = open(alloc, app, tried, path)?;
             Ok(Some(answer))
         }
     }

@@ -5,20 +5,25 @@ ghost use Rattle.aeth_answers.specs.Stop.{Answers};
 ghost use Rattle.aeth_app.specs.App.{IsAppOf};
 ghost use Rattle.aeth_explain.specs.Certificate.{cuts_of};
 ghost use Rattle.aeth_explain.specs.CutsText.{block_lines, line_of};
-ghost use Rattle.aeth_explain_commands.specs.Explain.{AreRefusals, explain_task, explanation};
+ghost use Rattle.aeth_explain_commands.specs.Explain.{AreBehind, AreRefusals, explain_task};
+ghost use Rattle.aeth_explain_commands.specs.Explain.{explanation};
 ghost use Rattle.aeth_group.specs.Members.{groups_of};
 ghost use Rattle.aeth_text.specs.Spelling.{text_of_lines};
-ghost use Rattle.std.specs.Prelude.{◌≡◌, ◌<◌, ◌++◌, IfOk, IfSome, OnOk, length, slice_get};
+ghost use Rattle.aeth_explain.specs.SlotTables.{AreTables};
+ghost use Rattle.aeth_paths.specs.Trials.{IsTrialOf};
+ghost use Rattle.aeth_alloc.specs.Trials.{earlier_count};
+ghost use Rattle.std.specs.Prelude.{◌≡◌, ◌<◌, ◌+◌, ◌++◌, Contains, IfOk, OnOk, Some, length, slice_get};
 
 use aeth_alloc::Tries;
 use aeth_answers::{Answer, FileName, Stop, ended};
-use aeth_base::NoMemory;
+use aeth_base::{NoMemory, Side};
 use aeth_chip::Distances;
-use aeth_explain::{TryLine, certify_with, push_block, push_end, push_head};
+use aeth_explain::{SlotTables, TryJudge, TryLine, certify_with, push_block, push_end, push_head};
 use aeth_files::read_design;
 use aeth_group::Groups;
 use aeth_io::Shelf;
-use aeth_playing::Design;
+use aeth_paths::Trial;
+use aeth_plan::Design;
 use std::alloc::Global;
 
 /// The tries of the channels for which the allocation refuses units, and what they are judged by.
@@ -74,11 +79,48 @@ fn explanation(alloc: Global, design: &Design, refusals: &Refusals) -> Result<Ve
 {
     let mut text = Vec::new(alloc);
     push_head(&mut text)?;
+    let mut tables = SlotTables::new(alloc, &design.chip, &refusals.groups)?;
     for i in 0..refusals.tries.len() {
-        push_certificate(alloc, design, refusals, i, &mut text)?;
+        let trial = next_trial(alloc, design, refusals, i, &mut tables)?;
+        push_certificate(alloc, design, refusals, &tables, &trial, &mut text)?;
     }
     push_end(&mut text)?;
     Ok(text)
+}
+
+/// The try at a place, and its grants before its unit's turn in slot tables that had those of the tries before it.
+pub(crate) fn next_trial(
+    alloc: Global,
+    design: &Design,
+    refusals: &Refusals,
+    i: usize,
+    tables: &mut SlotTables,
+) -> Result<Trial, NoMemory>
+    requires refusals { AreRefusals design.now refusals.now }
+    requires within { i < length refusals.now.tries }
+    requires tables { AreBehind design.now refusals.now.tries i tables.old }
+    ensures trial { IfOk result (λ trial. slice_get refusals.now.tries i ≡ Some trial) }
+    ensures fits { IfOk result (IsTrialOf design.now.chip) }
+    ensures tables { IfOk result (λ trial.
+        AreTables design.now.chip (groups_of design.now.app) trial.grants tables.new) }
+    ensures behind { OnOk result (AreBehind design.now refusals.now.tries (i + 1) tables.new) }
+{
+    let trial = refusals.tries.trial(alloc, i)?;
+    let count = earlier_count(&trial);
+    tables.put_up_to(&design.chip, &refusals.groups, trial.grants(), count);
+    Ok(trial)
+}
+
+/// How many grants of a try were made before its unit's turn: all but the `fwd` grant of the unit, where its `back` channel is
+/// tried.
+fn earlier_count(trial: &Trial) -> usize
+    ensures { result ≡ earlier_count trial.now }
+{
+    let count = trial.grants().len();
+    match trial.ask().side {
+        Side::Fwd => count,
+        Side::Back => count.saturating_sub(1),
+    }
 }
 
 /// Appends the line of a try that was refused and those of its shortest cuts.
@@ -86,18 +128,21 @@ fn push_certificate(
     alloc: Global,
     design: &Design,
     refusals: &Refusals,
-    i: usize,
+    tables: &SlotTables,
+    trial: &Trial,
     text: &mut Vec<u8>,
 ) -> Result<(), NoMemory>
     requires refusals { AreRefusals design.now refusals.now }
-    requires within { i < length refusals.now.tries }
-    ensures { OnOk result (IfSome (slice_get refusals.now.tries i) (λ trial. text.new.items
-        ≡ text.old.items ++ text_of_lines (block_lines design.now.app (line_of trial)
-        (cuts_of design.now.chip (groups_of design.now.app) trial)))) }
+    requires trial { Contains refusals.now.tries trial.now }
+    requires fits { IsTrialOf design.now.chip trial.now }
+    requires tables { AreTables design.now.chip (groups_of design.now.app) trial.now.grants tables.now }
+    ensures { OnOk result (text.new.items
+        ≡ text.old.items ++ text_of_lines (block_lines design.now.app (line_of trial.now)
+        (cuts_of design.now.chip (groups_of design.now.app) trial.now))) }
 {
-    let trial = refusals.tries.trial(alloc, i)?;
-    let line = TryLine::of(&trial);
-    let made = certify_with(alloc, &design.chip, &refusals.far, &refusals.groups, &trial)?;
+    let judge = TryJudge::beside(alloc, tables, &design.chip, &refusals.groups, trial)?;
+    let line = TryLine::of(trial);
+    let made = certify_with(alloc, &refusals.far, &judge)?;
     match made {
         Some(cuts) => push_block(text, &design.app, &line, &cuts),
         // Nothing is a candidate for a try that was refused.

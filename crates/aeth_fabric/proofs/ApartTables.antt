@@ -10,8 +10,8 @@ use Rattle.aeth_app.specs.App.{IsConnection, is_end, position_of}
 use Rattle.aeth_app.specs.declared.connection.Connection.{Connection}
 use Rattle.aeth_app.proofs.AppLemmas.{position_of-few}
 use Rattle.aeth_app.proofs.PositionLemmas.{position_of-apart}
-use Rattle.aeth_check.specs.Channels.{sender}
-use Rattle.aeth_check.specs.Seats.{IsOneSeat}
+use Rattle.aeth_app.specs.Connections.{sender}
+use Rattle.aeth_plan.specs.Seated.{IsOneSeat}
 use Rattle.aeth_group.specs.Members.{group_at, groups_of, has_at}
 use Rattle.aeth_group.specs.declared.grant.SeatLine.{SeatLine}
 use Rattle.aeth_group.proofs.ListLemmas.{all_at}

@@ -2,7 +2,7 @@
 use Rattle.std.proofs.Common.{Ok, Err, refl}
 use Rattle.aeth_app.specs.App.{AppData}
 use Rattle.aeth_chip.specs.Chip.{ChipData}
-use Rattle.aeth_playing.specs.declared.inputs.Design.{Design}
+use Rattle.aeth_plan.specs.declared.design.Design.{Design}
 use Rattle.aeth_answers.specs.declared.answer.Stop.{Stop}
 use Rattle.aeth_answers.specs.Places.{Files}
 use Rattle.aeth_answers.specs.Stop.{Judges}

@@ -8,7 +8,7 @@ ghost use Rattle.std.specs.Prelude.{IfOk};
 use crate::files::{read_app_file, read_chip_file};
 use aeth_answers::{FileName, Stop};
 use aeth_io::Shelf;
-use aeth_playing::Design;
+use aeth_plan::Design;
 use std::alloc::Global;
 
 /// The chip of a file, and the application of another for it.

@@ -6,7 +6,7 @@ ghost use Rattle.aeth_files.specs.Plans.{accepted_file, accepted_plan, broken_te
 ghost use Rattle.aeth_files.specs.Plans.{missing_text, side_text};
 ghost use Rattle.aeth_group.specs.Members.{groups_of};
 ghost use Rattle.aeth_plan.specs.Plan.{IsPlanOf};
-ghost use Rattle.aeth_tables.specs.Reserved.{IsDesign};
+ghost use Rattle.aeth_plan.specs.Design.{IsDesign};
 ghost use Rattle.std.specs.Prelude.{◌≡◌, ◌++◌, IfOk, OnErr, OnOk, length, take};
 
 use crate::files::read_plan_file;
@@ -16,7 +16,7 @@ use aeth_base::{ConnId, NoMemory, Side, Unit};
 use aeth_check::{Verdict, check};
 use aeth_group::Groups;
 use aeth_io::Shelf;
-use aeth_playing::{Design, Planned};
+use aeth_plan::{Design, Planned};
 use aeth_text::push_side;
 use std::alloc::Global;
 

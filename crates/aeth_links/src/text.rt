@@ -10,6 +10,7 @@ use aeth_audit::{LinkRow, push_row};
 use aeth_base::{LinkId, NoMemory};
 use aeth_clocked::{Order, Wires};
 use aeth_network::RoutedNetwork;
+use aeth_scheduling::schedule_of;
 use std::alloc::Global;
 
 /// The log of what the links carry in the run of accepted inputs: a line for each flit, with the cycle in
@@ -17,7 +18,8 @@ use std::alloc::Global;
 pub fn links_text(alloc: Global, inputs: &RunInputs) -> Result<Vec<u8>, NoMemory>
     ensures { IfOk result (λ text. text.items ≡ log_text (carried_rows (run_of inputs.now))) }
 {
-    let mut network = RoutedNetwork::new(alloc, inputs)?;
+    let schedule = schedule_of(alloc, inputs)?;
+    let mut network = RoutedNetwork::new(alloc, inputs, schedule)?;
     text_of(alloc, inputs, &mut network)
 }
 

@@ -1,0 +1,2 @@
+pub mod RunInputs
+pub mod Totals

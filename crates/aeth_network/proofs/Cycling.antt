@@ -14,7 +14,7 @@ use Rattle.aeth_components.specs.Frames.{Frame, frame_of}
 use Rattle.aeth_components.specs.Lanes.{IsLane}
 use Rattle.aeth_components.specs.declared.event.Event.{Event}
 use Rattle.aeth_schedule.specs.declared.going.Going.{Going}
-use Rattle.aeth_events.specs.Events.{events_in}
+use Rattle.aeth_stimuli.specs.Events.{events_in}
 use Rattle.aeth_running.specs.Network.{NetworkState, gone_with, goings_in, offers_in, ready_in}
 use Rattle.aeth_running.specs.Network.{stepped, takes_in, untils_in}
 use Rattle.aeth_running.specs.Routing.{Entering, entered_with, enterings_in, later_rows}

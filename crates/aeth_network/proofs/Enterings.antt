@@ -13,14 +13,17 @@ use Rattle.aeth_trace.specs.Spans.{SpanData}
 use Rattle.aeth_trace.specs.Switches.{is_first_at_zero}
 use Rattle.aeth_trace.specs.declared.switches.SwitchRow.{SwitchRow}
 use Rattle.aeth_components.specs.Entering.{TakesRows, entered, with_rows}
-use Rattle.aeth_accepted.specs.Inputs.{Inputs}
+use Rattle.aeth_accepted.specs.Inputs.{Inputs, run_of}
 use Rattle.aeth_running.proofs.PlayedTables.{later-fit, played-tables, tables-take}
 use Rattle.aeth_running.proofs.RouterTables.{HaveTables}
 use Rattle.aeth_running.specs.Network.{NetworkState}
 use Rattle.aeth_running.specs.Routing.{AreRowsOn, Entering, entered_with}
 use Rattle.aeth_running.specs.Routing.{kind_of, later_rows, rows_before}
 use Rattle.aeth_schedule.specs.Switching.{later_switches, switches_from}
-use Rattle.aeth_network.specs.Routes.{entered_by, entered_use, first_use}
+use Rattle.aeth_schedule.specs.Schedule.{ScheduleData, schedule_of}
+use Rattle.aeth_schedule.specs.Windows.{window_by, windows_over}
+use Rattle.aeth_schedule.specs.declared.windows.Window.{Window}
+use Rattle.aeth_network.specs.Routes.{entered_by, entered_in, entered_use, first_use, later_uses}
 use Rattle.aeth_network.specs.Runs.{IsNetworkOf}
 use Rattle.aeth_network.specs.declared.tables.EnteredUse.{EnteredUse}
 
@@ -92,6 +95,32 @@ later-known spans n [] known = All-nil (λ (one : EnteredUse). one.entered.0 < n
 later-known spans n (first ∷ rows) known =
     uses-known spans n first.to.0 rows (All-tail (λ (one : SwitchRow). one.to.0 < n) first rows known)
 
+-- By the windows of switches the same use cases are entered, in the same cycles.
+uses-by : (spans : SpanData) (u : ℕ) (rows : List SwitchRow)
+    → entered_in (map (window_by spans) (switches_from u rows)) rows
+    ≡ map (entered_by spans) (switches_from u rows)
+uses-by spans u [] = refl
+uses-by spans u (row ∷ rows) =
+    ap (λ (uses : List EnteredUse). entered_by spans (record { leaves = u; row = row }) ∷ uses)
+    (uses-by spans row.to.0 rows)
+
+uses-windowed : (spans : SpanData) (rows : List SwitchRow)
+    → later_uses (windows_over spans rows) rows ≡ map (entered_by spans) (later_switches rows)
+uses-windowed spans [] = refl
+uses-windowed spans (first ∷ rows) = uses-by spans first.to.0 rows
+
+-- So it is by the windows of a schedule.
+pub uses-scheduled : (inputs : Inputs) (schedule : ScheduleData) (windows : List Window)
+    (rows : List SwitchRow) (uses : List EnteredUse) → schedule ≡ schedule_of inputs
+    → windows ≡ schedule.windows → rows ≡ inputs.switches → uses ≡ later_uses windows rows
+    → uses ≡ map (entered_by (run_of inputs).spans) (later_switches inputs.switches)
+uses-scheduled inputs schedule windows rows uses scheduled windows_are rows_are is =
+    is ∙ ap (later_uses windows) rows_are
+    ∙ ap (λ (all : List Window). later_uses all inputs.switches)
+    (windows_are ∙ ap (λ (one : ScheduleData). one.windows) scheduled)
+    ∙ uses-windowed (run_of inputs).spans inputs.switches
+
+-- The use case that is loaded is known.
 pub first-known : (n : ℕ) (rows : List SwitchRow) → is_first_at_zero rows ≡ Ok tt
     → All (λ row. row.to.0 < n) rows → first_use rows < n
 first-known n [] first known = absurd (cc first)

@@ -5,7 +5,7 @@ use Rattle.std.specs.Prelude.{slice_range}
 use Rattle.std.specs.List.Sorted.{IsNonDecreasingBy}
 use Rattle.aeth_schedule.specs.declared.going.Going.{Going}
 use Rattle.aeth_stimuli.specs.Stimuli.{Take}
-use Rattle.aeth_events.specs.Events.{events_in}
+use Rattle.aeth_stimuli.specs.Events.{events_in}
 use Rattle.aeth_running.specs.Network.{NetworkState}
 use Rattle.aeth_running.specs.Routing.{Entering, later_rows}
 use Rattle.aeth_network.specs.Behind.{passed}

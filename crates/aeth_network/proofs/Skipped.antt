@@ -4,7 +4,7 @@ use Rattle.std.proofs.Common.{fold, refl, subst, sym}
 use Rattle.std.specs.Prelude.{slice_range, vec_capacity}
 use Rattle.aeth_components.specs.Components.{ComponentsState}
 use Rattle.aeth_stimuli.specs.Stimuli.{Take}
-use Rattle.aeth_events.specs.Events.{events_in}
+use Rattle.aeth_stimuli.specs.Events.{events_in}
 use Rattle.aeth_running.specs.Network.{NetworkState, goings_in, offers_in, played}
 use Rattle.aeth_running.specs.Network.{stepped, takes_in, taking_with}
 use Rattle.aeth_accepted.specs.Inputs.{Inputs}

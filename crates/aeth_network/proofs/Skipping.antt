@@ -7,7 +7,7 @@ use Rattle.std.proofs.lemmas.List.{length-drop, length-take}
 use Rattle.aeth_components.specs.declared.lane.Lane.{Lane}
 use Rattle.aeth_schedule.specs.declared.going.Going.{Going}
 use Rattle.aeth_stimuli.specs.Stimuli.{Offer, Stimuli, Take}
-use Rattle.aeth_events.specs.Events.{events_in}
+use Rattle.aeth_stimuli.specs.Events.{events_in}
 use Rattle.aeth_running.proofs.KeptLanes.{cycle-behind}
 use Rattle.aeth_running.specs.Network.{NetworkState, goings_in, offers_in, played, ready_in}
 use Rattle.aeth_running.specs.Network.{state_behind, stepped, taking_with}

@@ -13,7 +13,7 @@ use Rattle.aeth_components.specs.Frames.{Frame}
 use Rattle.aeth_components.specs.Lanes.{IsLane}
 use Rattle.aeth_components.proofs.CountingLemmas.{length-flits_counted}
 use Rattle.aeth_schedule.specs.declared.going.Going.{Going}
-use Rattle.aeth_events.specs.Events.{events_in}
+use Rattle.aeth_stimuli.specs.Events.{events_in}
 use Rattle.aeth_running.proofs.OutsideTold.{length-all_outside}
 use Rattle.aeth_running.specs.Network.{NetworkState, goings_in}
 use Rattle.aeth_running.specs.Network.{offers_in, outside_in, ready_in}

@@ -11,7 +11,7 @@ use Rattle.aeth_components.specs.declared.lane.Lane.{Lane}
 use Rattle.aeth_schedule.specs.declared.going.Going.{Going}
 use Rattle.aeth_stimuli.specs.Loaded.{no_lane}
 use Rattle.aeth_stimuli.specs.Stimuli.{Offer, Take}
-use Rattle.aeth_events.specs.Events.{events_in}
+use Rattle.aeth_stimuli.specs.Events.{events_in}
 use Rattle.aeth_running.specs.Network.{NetworkState, accepted_with, gone_with, offers_in, outside_with}
 use Rattle.aeth_running.specs.Network.{ready_in, stepped, taking_with, until_with}
 use Rattle.aeth_running.specs.Routing.{Entering, entered_with}

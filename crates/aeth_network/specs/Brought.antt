@@ -11,7 +11,7 @@ use Rattle.aeth_app.specs.Limits.{max_connections}
 use Rattle.aeth_trace.specs.Channels.{channel_number}
 use Rattle.aeth_components.specs.Lanes.{IsLane}
 use Rattle.aeth_stimuli.specs.Loaded.{no_lane}
-use Rattle.aeth_events.specs.Events.{events_in}
+use Rattle.aeth_stimuli.specs.Events.{events_in}
 use Rattle.aeth_running.specs.Network.{NetworkState, accepted_with, gone_with, goings_in}
 use Rattle.aeth_running.specs.Network.{outside_with, takes_in, taking_with, until_with}
 use Rattle.aeth_running.specs.Routing.{enterings_in}

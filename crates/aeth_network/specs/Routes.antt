@@ -4,6 +4,7 @@
 --   entering_of, tables_as      uses that are entered, with their rows
 --   routing_in      by headers where there are no tables
 --   entered_by      the use case that a switch enters, once what it closes is finished
+--   entered_in, later_uses      those that rows enter, by the windows of their switches
 --   first_use, routing_by      the tables of a list of switches
 --   entered_use      components once a use case is entered
 -- Tables in routers: this project's own.
@@ -16,6 +17,7 @@ use Rattle.aeth_trace.specs.declared.switches.SwitchRow.{SwitchRow}
 use Rattle.aeth_report.specs.Sessions.{Switch, close_by}
 use Rattle.aeth_components.specs.Entering.{with_rows}
 use Rattle.aeth_schedule.specs.Switching.{later_switches}
+use Rattle.aeth_schedule.specs.declared.windows.Window.{Window}
 use Rattle.aeth_running.specs.Routing.{ByHeaders, ByTables, Entering, Routing}
 use Rattle.aeth_network.specs.declared.tables.EnteredUse.{EnteredUse}
 
@@ -42,6 +44,17 @@ entered_by spans switch = record {
   cycle = (close_by spans switch).fin;
   entered = switch.row.to;
 }
+
+-- The use cases that rows enter, of which each switch has a window: from when it writes on.
+abbrev pub entered_in : List Window → List SwitchRow → List EnteredUse
+entered_in (window ∷ windows) (row ∷ rows) =
+    record { cycle = window.fin; entered = row.to } ∷ entered_in windows rows
+entered_in _ _ = []
+
+-- Those of the rows behind the first.
+abbrev pub later_uses : List Window → List SwitchRow → List EnteredUse
+later_uses windows [] = []
+later_uses windows (first ∷ rows) = entered_in windows rows
 
 -- The use case that the first row loads.
 abbrev pub first_use : List SwitchRow → ℕ

@@ -21,7 +21,7 @@ pub(crate) fn log_before(
     requires { stimuli_with given.now ≡ stimuli_of inputs.now }
     ensures { IfOk result (λ log. log ≡ first_log inputs.now) }
 {
-    aeth_events::laws::stimuli_are_stimuli();
+    aeth_stimuli::laws::stimuli_are_stimuli();
     inputs.are_accepted();
     first_log(
         alloc,

@@ -2,8 +2,9 @@
 
 ghost use Rattle.std.specs.Prelude.{◌≡◌, ◌≤◌, ◌⊎◌, ◌+◌, IfOk};
 ghost use Rattle.aeth_components.specs.First.{IsFirst};
-ghost use Rattle.aeth_events.specs.Events.{events_in};
+ghost use Rattle.aeth_stimuli.specs.Events.{events_in};
 ghost use Rattle.aeth_running.specs.Network.{goings_in, offers_in, takes_in};
+ghost use Rattle.aeth_schedule.specs.Schedule.{schedule_of};
 ghost use Rattle.aeth_stimuli.specs.Stimuli.{stimuli_of};
 ghost use Rattle.aeth_running.specs.Routing.{later_rows};
 ghost use Rattle.aeth_network.specs.Behind.{IsBehind, passed};
@@ -60,21 +61,25 @@ pub(crate) struct CycleRows<'a> {
 }
 
 impl Given {
-    // What accepted inputs give, with these tables.
+    // What accepted inputs give, of which this is the schedule, with these tables.
     pub(crate) fn of(
         alloc: Global,
         inputs: &RunInputs,
+        schedule: Schedule,
         tables: Option<UseTables>,
     ) -> Result<Given, NoMemory>
+        requires { schedule ≡ schedule_of inputs.now }
         ensures stimuli { IfOk result (λ given. stimuli_with given ≡ stimuli_of inputs.now) }
         ensures routing { IfOk result (λ given. routing_with given ≡ routing_in tables) }
     {
         inputs.are_accepted();
         let cycles = inputs.cycles();
+        let offers = offers_of(alloc, inputs.words().rows(), cycles)?;
+        let takes = takes_of(alloc, inputs.receivers().rows(), cycles)?;
         Ok(Given {
-            schedule: Schedule::of(alloc, inputs)?,
-            offers: offers_of(alloc, inputs.words().rows(), cycles)?,
-            takes: takes_of(alloc, inputs.receivers().rows(), cycles)?,
+            schedule,
+            offers,
+            takes,
             tables,
         })
     }

@@ -4,6 +4,7 @@ ghost use Rattle.std.specs.Prelude.{◌≡◌, ◌≤◌, ◌<◌, ◌+◌, ◌-
 ghost use Rattle.aeth_report.specs.RunLog.{log_of};
 ghost use Rattle.aeth_components.specs.Turns.{flits_on};
 ghost use Rattle.aeth_accepted.specs.Inputs.{Inputs, run_of};
+ghost use Rattle.aeth_schedule.specs.Schedule.{schedule_of};
 ghost use Rattle.aeth_stimuli.specs.Stimuli.{stimuli_of};
 ghost use Rattle.aeth_running.specs.FirstLog.{first_log};
 ghost use Rattle.aeth_running.specs.Idle.{IsNextBusyOf};
@@ -32,6 +33,7 @@ use aeth_accepted::RunInputs;
 use aeth_base::{NoMemory, Steps};
 use aeth_clocked::{Order, Wires};
 use aeth_report::SimLog;
+use aeth_schedule::Schedule;
 use std::alloc::Global;
 use std::marker::{Brand, Model};
 use std::sync::ledger::{Blank, Ledger};
@@ -68,14 +70,19 @@ impl Model for RoutedNetwork {
 }
 
 impl RoutedNetwork {
-    /// The network of accepted inputs, whose routers read headers, with the tables of the first use case
-    /// in its interfaces, before the first of their cycles. It takes all memory of the run: `Err` where
-    /// there was none.
-    pub fn new(alloc: Global, inputs: &RunInputs) -> Result<RoutedNetwork, NoMemory>
+    /// The network of accepted inputs by their schedule, whose routers read headers, with the tables of the
+    /// first use case in its interfaces, before the first of their cycles. It takes all memory of the run:
+    /// `Err` where there was none.
+    pub fn new(
+        alloc: Global,
+        inputs: &RunInputs,
+        schedule: Schedule,
+    ) -> Result<RoutedNetwork, NoMemory>
+        requires { schedule ≡ schedule_of inputs.now }
         ensures first { IfOk result (λ network. network ≡ first_network inputs.now ByHeaders) }
         ensures run { IfOk result (IsNetworkOf inputs.now) }
     {
-        with_routes(alloc, inputs, None)
+        with_routes(alloc, inputs, schedule, None)
     }
 
     /// The same with routers that have these tables. In the cycle in which rows enter, all of them have
@@ -83,13 +90,15 @@ impl RoutedNetwork {
     pub fn with_tables(
         alloc: Global,
         inputs: &RunInputs,
+        schedule: Schedule,
         tables: UseTables,
     ) -> Result<RoutedNetwork, NoMemory>
-        requires { IsRoutingFor inputs.now tables }
+        requires schedule { schedule ≡ schedule_of inputs.now }
+        requires routed { IsRoutingFor inputs.now tables }
         ensures first { IfOk result (λ network. network ≡ first_network inputs.now tables) }
         ensures run { IfOk result (IsNetworkOf inputs.now) }
     {
-        with_routes(alloc, inputs, Some(tables))
+        with_routes(alloc, inputs, schedule, Some(tables))
     }
 
     /// The number of components.
@@ -337,19 +346,21 @@ impl RoutedNetwork {
     }
 }
 
-// The network of accepted inputs with these tables, or whose routers read headers.
+// The network of accepted inputs by their schedule, with these tables, or whose routers read headers.
 fn with_routes(
     alloc: Global,
     inputs: &RunInputs,
+    schedule: Schedule,
     tables: Option<UseTables>,
 ) -> Result<RoutedNetwork, NoMemory>
-    requires { IsRoutingFor inputs.now (routing_in tables) }
+    requires schedule { schedule ≡ schedule_of inputs.now }
+    requires routed { IsRoutingFor inputs.now (routing_in tables) }
     ensures first { IfOk result (λ network.
         network ≡ first_network inputs.now (routing_in tables)) }
     ensures run { IfOk result (IsNetworkOf inputs.now) }
 {
     inputs.are_accepted();
-    let given = Given::of(alloc, inputs, tables)?;
+    let given = Given::of(alloc, inputs, schedule, tables)?;
     with_given(alloc, inputs, given)
 }
 
@@ -374,7 +385,7 @@ fn begun(inputs: &RunInputs, given: Given, state: State, log: SimLog) -> RoutedN
     requires log { log ≡ first_log inputs.now }
     ensures { result ≡ first_network inputs.now (routing_with given) }
 {
-    aeth_events::laws::stimuli_are_stimuli();
+    aeth_stimuli::laws::stimuli_are_stimuli();
     inputs.are_accepted();
     RoutedNetwork {
         given,

@@ -123,7 +123,7 @@ fn routed_components(
     ensures { IfOk result (λ components. components
         ≡ routed_components inputs.now (routing_in tables.now)) }
 {
-    aeth_events::laws::stimuli_are_stimuli();
+    aeth_stimuli::laws::stimuli_are_stimuli();
     inputs.are_accepted();
     let (chip, app, words) = (inputs.chip(), inputs.app(), inputs.words());
     let mut components = loaded(alloc, chip, app, words, schedule, kind_of(tables))?;

@@ -1,24 +1,24 @@
 // The tables of routers, which change with the use case.
 
-ghost use Rattle.std.specs.Prelude.{◌≡◌, ◌≤◌, ◌<◌, ◌++◌, All, IfOk, OnOk, fold, length, map};
+ghost use Rattle.std.specs.Prelude.{◌≡◌, ◌≤◌, ◌<◌, ◌++◌, All, IfOk, OnOk, fold, length};
 ghost use Rattle.std.specs.Prelude.{slice_range};
 ghost use Rattle.std.specs.List.Sorted.{IsNonDecreasingBy};
 ghost use Rattle.aeth_accepted.specs.Inputs.{run_of};
 ghost use Rattle.aeth_components.specs.Entering.{TakesRows};
 ghost use Rattle.aeth_running.specs.Routing.{entered_first, entered_with, first_rows, kind_of};
 ghost use Rattle.aeth_running.specs.Routing.{later_rows};
-ghost use Rattle.aeth_schedule.specs.Switching.{later_switches, switches_from};
+ghost use Rattle.aeth_schedule.specs.Schedule.{schedule_of};
 ghost use Rattle.aeth_network.specs.Behind.{IsBehind, passed};
-ghost use Rattle.aeth_network.specs.Routes.{entered_by, entered_use, first_use, routing_by, rows_in};
+ghost use Rattle.aeth_network.specs.Routes.{entered_in, entered_use, first_use, later_uses};
+ghost use Rattle.aeth_network.specs.Routes.{routing_by, rows_in};
 
 use crate::places::{behind, quiet_until};
 use aeth_accepted::RunInputs;
 use aeth_base::{NoMemory, UseId};
 use aeth_components::{Components, RouterKind};
-use aeth_reconf::close_by;
 use aeth_router::RouterRow;
-use aeth_tables::spans;
-use aeth_trace::{Spans, SwitchRow};
+use aeth_schedule::{Schedule, Window};
+use aeth_trace::SwitchRow;
 use std::alloc::Global;
 use std::marker::Model;
 
@@ -83,31 +83,26 @@ impl Model for UseTables {
 }
 
 impl UseTables {
-    /// The tables of accepted inputs, where these are the rows of each of their use cases. They have those
-    /// of the first row of switches first. Each later row enters its use case in the cycle in which all has
+    /// The tables of accepted inputs by their schedule, where these are the rows of each of their use cases. They
+    /// have those of the first row of switches first. Each later row enters its use case in the cycle in which all has
     /// landed that it closes. `Err` where there was no memory.
     pub fn of(
         alloc: Global,
         inputs: &RunInputs,
+        schedule: &Schedule,
         tables: Vec<UseRows>,
     ) -> Result<UseTables, NoMemory>
-        requires { length tables.items ≡ length inputs.now.app.uses }
+        requires schedule { schedule.now ≡ schedule_of inputs.now }
+        requires tables { length tables.items ≡ length inputs.now.app.uses }
         ensures { IfOk result (λ made. made
             ≡ routing_by (run_of inputs.now).spans (rows_in tables.items) inputs.now.switches) }
     {
         inputs.are_accepted();
-        let spans = spans(
-            alloc,
-            inputs.chip(),
-            inputs.app(),
-            inputs.groups(),
-            inputs.plan(),
-        )?;
         let rows = inputs.switches().rows();
         Ok(UseTables {
             tables,
             first: first_use(rows),
-            later: later_uses(alloc, &spans, rows)?,
+            later: later_uses(alloc, schedule.windows(), rows)?,
         })
     }
 
@@ -194,47 +189,41 @@ fn first_use(rows: &[SwitchRow]) -> UseId
     }
 }
 
-// The use cases that the switches behind the first row enter.
-fn later_uses(alloc: Global, spans: &Spans, rows: &[SwitchRow]) -> Result<Vec<EnteredUse>, NoMemory>
-    requires { All (λ row. row.to.0 < spans.now.uses) rows.now }
-    ensures { IfOk result (λ uses. uses.items
-        ≡ map (entered_by spans.now) (later_switches rows.now)) }
+// The use cases that the switches behind the first row enter, which have these windows.
+fn later_uses(
+    alloc: Global,
+    windows: &[Window],
+    rows: &[SwitchRow],
+) -> Result<Vec<EnteredUse>, NoMemory>
+    ensures { IfOk result (λ uses. uses.items ≡ later_uses windows.now rows.now) }
 {
-    let mut uses = Vec::new(alloc);
-    if let [first, later @ ..] = rows {
-        push_uses(&mut uses, spans, first.to, later)?;
+    let mut uses = Vec::with_capacity(alloc, windows.len())?;
+    if let [_, later @ ..] = rows {
+        push_uses(&mut uses, windows, later)?;
     }
     Ok(uses)
 }
 
-// Appends the use cases that switches enter, the first of which leaves this one.
+// Appends the use cases that the switches of these windows enter.
 fn push_uses(
     uses: &mut Vec<EnteredUse>,
-    spans: &Spans,
-    first: UseId,
+    windows: &[Window],
     rows: &[SwitchRow],
 ) -> Result<(), NoMemory>
-    requires first { first.0 < spans.now.uses }
-    requires known { All (λ row. row.to.0 < spans.now.uses) rows.now }
-    ensures { OnOk result (uses.new.items ≡ uses.old.items
-        ++ map (entered_by spans.now) (switches_from first.0 rows.now)) }
+    ensures { OnOk result (uses.new.items ≡ uses.old.items ++ entered_in windows.now rows.now) }
 {
-    let mut from = first;
-    for row in rows {
-        uses.push(entered_by(spans, from, row))?;
-        from = row.to;
+    let mut windows_left = windows;
+    let mut rows_left = rows;
+    'switches: while let [window, windows_behind @ ..] = windows_left {
+        let [row, rows_behind @ ..] = rows_left else {
+            return Ok(());
+        };
+        uses.push(EnteredUse {
+            cycle: window.fin,
+            entered: row.to,
+        })?;
+        windows_left = windows_behind;
+        rows_left = rows_behind;
     }
     Ok(())
-}
-
-// The use case that a switch enters, which leaves this one.
-fn entered_by(spans: &Spans, from: UseId, row: &SwitchRow) -> EnteredUse
-    requires from { from.0 < spans.now.uses }
-    requires to { row.now.to.0 < spans.now.uses }
-    ensures { result ≡ entered_by spans.now (record { leaves = from.0; row = row.now }) }
-{
-    EnteredUse {
-        cycle: close_by(spans, from, row).fin,
-        entered: row.to,
-    }
 }

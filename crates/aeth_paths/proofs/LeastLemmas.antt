@@ -1,21 +1,26 @@
 -- Tables of least costs: what an entry tells, and that a further one may be put in.
-use Rattle.std.proofs.Common.{◌≡◌, ◌∙◌, ◌+◌, ◌*◌, ◌/◌, ◌%◌, ◌<◌, ◌≤◌, ◌++◌, ℕ, true, List, [], ◌∷◌}
+use Rattle.std.proofs.Common.{◌≡◌, ◌∙◌, ◌+◌, ◌-◌, ◌*◌, ◌/◌, ◌%◌, ◌<◌, ◌≤◌, ◌++◌, ℕ, true, List, [], ◌∷◌}
+use Rattle.std.proofs.Common.{Contains, Some, slice_get}
 use Rattle.std.proofs.Common.{get_or, get_or-set_other, get_or-set_same, length, length-append, map}
 use Rattle.std.proofs.Common.{replicate, set, refl, sym, ap, subst, inl, inr, arith}
 use Rattle.std.specs.Prelude.{sum_by}
-use Rattle.std.proofs.lemmas.Bool.{and_parts, cases_eq, cases_lt}
+use Rattle.std.proofs.lemmas.Bool.{and_parts, cases_eq, cases_lt, false≢true, or_right}
 use Rattle.std.proofs.lemmas.List.{get_or-replicate, get_or_past, length-replicate}
+use Rattle.std.proofs.lemmas.Option.{slice_get-get_or}
 use Rattle.std.proofs.lemmas.List.Sums.{sum_by-append, sum_by-cons}
 use Rattle.aeth_base.specs.declared.ids.LinkId.{LinkId}
+use Rattle.aeth_base.specs.declared.ids.NiId.{NiId}
 use Rattle.aeth_base.specs.declared.ids.RouterId.{RouterId}
 use Rattle.aeth_chip.specs.Limits.{max_routers}
-use Rattle.aeth_chip.specs.Nodes.{is_router}
+use Rattle.aeth_chip.specs.Nodes.{is_router, same_node}
+use Rattle.aeth_chip.proofs.NodeLemmas.{same_node-refl}
 use Rattle.aeth_chip.specs.declared.node.Node.{Node}
-use Rattle.aeth_chip.specs.declared.node.Node.TheVariants.{Router}
-use Rattle.aeth_paths.specs.Least.{AreLeast, AreWithin, CostsAtLeast, PathsCost}
-use Rattle.aeth_paths.specs.Search.{Field, Walks, turn_of}
+use Rattle.aeth_chip.specs.declared.node.Node.TheVariants.{Ni, Router}
+use Rattle.aeth_paths.specs.Least.{AreLeast, AreWithin, CostsAtLeast, NoneWalks, OverCosts}
+use Rattle.aeth_paths.specs.Least.{PathsCost}
+use Rattle.aeth_paths.specs.Search.{Field, Walks, passes, turn_of}
 use Rattle.aeth_paths.specs.declared.search.Turn.TheVariants.{Goes}
-use Rattle.aeth_paths.proofs.JoinLemmas.{walks-first, walks-none}
+use Rattle.aeth_paths.proofs.JoinLemmas.{passes-push, walks-first, walks-none}
 use Rattle.aeth_paths.proofs.WalkLemmas.{turn-goes}
 
 -- Each entry of a table of one number is this number.
@@ -65,6 +70,19 @@ module _ (f : Field) (table : List ℕ) (are : AreLeast f table) where
         )
   ]
 
+  -- So may that of a router and of a number of links.
+  pub put-router : (r : RouterId) (left own : ℕ) → r.0 < max_routers
+      → left * max_routers + r.0 < length table
+      → ((path : List LinkId) → CostsAtLeast f (Router r) path left own)
+      → AreLeast f (set table (left * max_routers + r.0) own)
+  put-router r left own below within least =
+      let place : ℕ = left * max_routers + r.0 in
+      let router : place % max_routers ≡ r.0 = omega (arith, below) in
+      let row : place / max_routers ≡ left = omega (arith, below) in
+      put-least place own within (λ path rest walks few. least path rest
+      (subst (λ k. Walks f (Router (record { 0 = k })) path rest) router walks)
+      (subst (λ k. length rest ≤ k) row few))
+
   -- The entry of a router and of a number of links.
   pub read-least : (r : RouterId) (left : ℕ) (path : List LinkId) → r.0 < max_routers
       → CostsAtLeast f (Router r) path left (get_or table (left * max_routers + r.0) 0)
@@ -75,12 +93,6 @@ module _ (f : Field) (table : List ℕ) (are : AreLeast f table) where
       are place path rest
       (subst (λ k. Walks f (Router (record { 0 = k })) path rest) (sym router) walks)
       (subst (λ k. length rest ≤ k) (sym row) few)
-
--- No links lead on from a router over none.
-pub none-least : (f : Field) (node : Node) (path : List LinkId) (left cost : ℕ) → left ≡ 0
-    → CostsAtLeast f node path left cost
-none-least f node path left cost none [] walks few = walks-none f node path walks
-none-least f node path left cost none (link ∷ rest) walks few = absurd (omega (arith, none, few))
 
 -- What a link and those that lead on from its end cost.
 pub over-least : (f : Field) (node : Node) (path rest : List LinkId) (link : LinkId)
@@ -103,6 +115,65 @@ over-least f node path rest link left own onward cost walks few ends leads withi
             is,
           )
     ]
+
+-- Interfaces that are one have one number.
+abbrev number-of : Node → ℕ
+number-of (Ni n) = n.0
+number-of (Router r) = 0
+
+-- A link to an interface that isn't the goal leads no further.
+pub over-away : (f : Field) (link : LinkId) (ni goal : NiId) (left cost : ℕ) → f.to link ≡ Ni ni
+    → f.goal ≡ Ni goal → (ni.0 ≡ goal.0 → ⊥) → OverCosts f link left cost
+over-away f link ni goal left cost ends is other node path rest walks few =
+    elim (walks-first f node path link rest walks) [
+      | inl (none, at) ↦ absurd (other (ap number-of (sym ends ∙ at ∙ is)))
+      | inr on ↦ absurd (false≢true (sym (ap is_router ends)
+          ∙ (and_parts (is_router (f.to link)) _ on.new).0))
+    ]
+
+-- A link to a router costs its own cost and what leads on.
+pub over-router : (f : Field) (link : LinkId) (r : RouterId) (goal : NiId) (left own onward cost : ℕ)
+    → f.to link ≡ Router r → f.goal ≡ Ni goal
+    → ((path : List LinkId) → CostsAtLeast f (Router r) path left onward)
+    → own ≤ f.cost link → cost ≤ onward + own → OverCosts f link left cost
+over-router f link r goal left own onward cost ends is leads within sum node path rest walks few =
+    over-least f node path rest link left own onward cost walks few
+    (λ at. let never : Router r ≡ Ni goal = sym ends ∙ at ∙ is in absurd (cc never))
+    (λ router longer. subst (λ (n : Node). CostsAtLeast f n longer left onward) (sym ends)
+    (leads longer))
+    within sum
+
+-- A link to a router from which nothing leads on in time.
+pub over-none : (f : Field) (link : LinkId) (r : RouterId) (goal : NiId) (left cost : ℕ)
+    → f.to link ≡ Router r → f.goal ≡ Ni goal → NoneWalks f (Router r) left
+    → OverCosts f link left cost
+over-none f link r goal left cost ends is none node path rest walks few =
+    elim (walks-first f node path link rest walks) [
+      | inl (nothing, at) ↦
+          let never : Router r ≡ Ni goal = sym ends ∙ at ∙ is in
+          absurd (cc never)
+      | inr on ↦
+          let stands : passes f.to (path ++ link ∷ []) (Router r) ≡ true =
+          passes-push f.to path link (Router r)
+          ∙ or_right (passes f.to path (Router r)) _
+          (subst (λ (n : Node). same_node n (Router r) ≡ true) (sym ends)
+          (same_node-refl (Router r))) in
+          absurd (none (path ++ link ∷ []) rest stands
+          (subst (λ (n : Node). Walks f n (path ++ link ∷ []) rest) ends on.walks) few)
+    ]
+
+-- What leads on from a node over its links.
+pub lowest-over : (f : Field) (node : Node) (links : List LinkId) (left lowest i : ℕ)
+    → f.leaving node ≡ links → length links ≤ i
+    → ((k : ℕ) (link : LinkId) → k < i → slice_get links k ≡ Some link
+    → OverCosts f link (left - 1) lowest)
+    → (path : List LinkId) → CostsAtLeast f node path left lowest
+lowest-over f node links left lowest i leaves all each path [] walks few =
+    walks-none f node path walks
+lowest-over f node links left lowest i leaves all each path (link ∷ rest) walks few =
+    let (k, within, at) = subst (λ (ls : List LinkId). Contains ls link) leaves walks.joined.0 in
+    each k link (omega (arith, within, all)) (slice_get-get_or links k link within ∙ ap Some at) node
+    path rest walks (omega (arith, few))
 
 -- Links by their numbers are the links.
 numbered : (links : List LinkId)

@@ -1,15 +1,14 @@
 // What links cost at least that lead on to an interface: a table for the search, made for each pair.
-ghost use Rattle.std.specs.Prelude.{◌≡◌, ◌<◌, ◌≤◌, ◌*◌, ◌/◌, ◌%◌, ◌∷◌, List, get_or};
-ghost use Rattle.std.specs.Prelude.{length, sum_by, true};
+ghost use Rattle.std.specs.Prelude.{◌≡◌, ◌<◌, ◌≤◌, ◌*◌, ℕ, List, IsTrue, false, get_or};
+ghost use Rattle.std.specs.Prelude.{length, true};
 ghost use Rattle.aeth_base.specs.Limits.{max_path_links};
 ghost use Rattle.aeth_base.specs.declared.ids.LinkId.{LinkId};
-ghost use Rattle.aeth_chip.specs.Limits.{max_routers};
+ghost use Rattle.aeth_chip.specs.Limits.{max_links, max_routers};
 ghost use Rattle.aeth_chip.specs.Chip.{IsNode};
 ghost use Rattle.aeth_chip.specs.Nodes.{is_router};
-ghost use Rattle.aeth_chip.specs.declared.node.Node.{Node};
-ghost use Rattle.aeth_chip.specs.declared.node.Node.TheVariants.{Ni, Router};
-ghost use Rattle.aeth_paths.specs.Least.{AreLeast, AreWithin, CostsAtLeast};
-ghost use Rattle.aeth_paths.specs.Search.{Walks};
+ghost use Rattle.aeth_chip.specs.declared.node.Node.TheVariants.{Router};
+ghost use Rattle.aeth_paths.specs.Least.{AreLeast, AreWithin, CostsAtLeast, NoneWalks, OverCosts};
+ghost use Rattle.aeth_paths.specs.Least.{field_to};
 ghost use Rattle.aeth_paths.specs.Task.{field};
 ghost use Rattle.aeth_paths.specs.Walk.{IsTask, costs_of};
 
@@ -19,6 +18,13 @@ use aeth_chip::{MAX_LINKS, MAX_PORTS, MAX_ROUTERS, Node};
 
 /// How many links may have a cost.
 pub(crate) const COSTS: usize = MAX_LINKS as usize;
+
+/// The interface that paths lead to, and the most links that they may have.
+#[derive(Clone, Copy)]
+pub(crate) struct Target {
+    pub ni: NiId,
+    pub most: u32,
+}
 
 /// How many routers a row of least costs has.
 const ROUTERS: usize = MAX_ROUTERS as usize;
@@ -32,91 +38,122 @@ pub(crate) fn is_weighed(task: &Task) -> bool {
     task.prices.of(1, MAX_SLOTS) > 1 && task.chip.links() >= MAX_PORTS * task.chip.routers()
 }
 
-/// What links cost at least, by their numbers. All are 0 where tables don't pay.
-pub(crate) fn link_costs(task: &Task) -> [u32; COSTS]
-    requires { IsTask task.now }
-    ensures { AreWithin (costs_of task.now) result }
+/// Works out what links cost at least, by their numbers, and what those cost that lead on from a router to an
+/// interface: an entry for each number of links, which they are at most, and each router. An entry on which
+/// the links from a sender don't rest stays 0.
+pub(crate) fn fill(task: &Task, target: &Target, costs: &mut [u32], least: &mut [u32], from: Node)
+    requires task { IsTask task.now }
+    requires most { target.now.most ≤ max_path_links }
+    requires links { length costs.old ≡ max_links }
+    requires costs { AreWithin (costs_of task.now) costs.old }
+    requires size { length least.old ≡ max_path_links * max_routers }
+    requires least { AreLeast (field_to task.now target.now) least.old }
+    requires from { IsNode task.now.chip.now.routers task.now.chip.now.nis from }
+    ensures costs { AreWithin (costs_of task.now) costs.new }
+    ensures least { AreLeast (field_to task.now target.now) least.new }
 {
-    let mut costs = [0; COSTS];
-    if !is_weighed(task) {
-        return costs;
+    if let Node::Ni(ni) = from {
+        let first = task.chip.leaving(ni);
+        over(
+            task,
+            target,
+            costs,
+            least,
+            first,
+            target.most.saturating_sub(1),
+        );
     }
-    for i in 0..task.chip.links() {
-        let link = LinkId(i);
-        let delay = task.chip.link(link).delay;
-        costs[i as usize] = task.prices.of(delay, task.book.used(task.ask.unit, link));
-    }
-    costs
 }
 
-/// What the links cost at least that lead on from a router to an interface: an entry for each number
-/// of links, which they are at most, and each router. All are 0 where tables don't pay.
-pub(crate) fn least_costs(task: &Task, ni: NiId, most: u32, costs: &[u32]) -> [u32; LEAST]
+// What a link costs. It is put into the table, once.
+fn cost_of(task: &Task, costs: &mut [u32], link: LinkId) -> u32
     requires task { IsTask task.now }
-    requires costs { AreWithin (costs_of task.now) costs.now }
-    requires most { most ≤ max_path_links }
-    ensures { AreLeast (field task.now.book.now task.now.prices.now task.now.ask ni most) result }
+    requires links { length costs.old ≡ max_links }
+    requires costs { AreWithin (costs_of task.now) costs.old }
+    requires link { link.0 < length task.now.chip.now.links }
+    ensures links { length costs.new ≡ max_links }
+    ensures costs { AreWithin (costs_of task.now) costs.new }
+    ensures within { result ≤ costs_of task.now link }
 {
-    let mut least = [0; LEAST];
-    if !is_weighed(task) {
-        return least;
+    let _links = task.chip.links();
+    let place = link.0 as usize;
+    let known = costs[place];
+    if known > 0 {
+        return known;
     }
-    for i in 0..most as usize * ROUTERS {
-        least[i] = least_at(task, ni, most, costs, &least, i);
-    }
-    least
-}
-
-// The entry at a place.
-fn least_at(task: &Task, ni: NiId, most: u32, costs: &[u32], least: &[u32], place: usize) -> u32
-    requires task { IsTask task.now }
-    requires costs { AreWithin (costs_of task.now) costs.now }
-    requires least { AreLeast (field task.now.book.now task.now.prices.now task.now.ask ni most)
-        least.now }
-    requires place { place < max_path_links * max_routers }
-    ensures { (path : List LinkId)
-        → CostsAtLeast (field task.now.book.now task.now.prices.now task.now.ask ni most)
-        (Router (record { 0 = place % max_routers })) path (place / max_routers) result }
-{
-    if place < ROUTERS {
-        return u32::MAX;
-    }
-    let links = task.chip.outgoing(RouterId((place % ROUTERS) as u32));
-    let mut lowest = u32::MAX;
-    for i in 0..links.len() {
-        lowest = lowest.min(over(task, ni, most, costs, least, place / ROUTERS - 1, links[i]));
-    }
-    lowest
+    let delay = task.chip.link(link).delay;
+    let cost = task.prices.of(delay, task.book.used(task.ask.unit, link));
+    costs[place] = cost;
+    cost
 }
 
 // What a link and those that lead on from its end cost at least, where the latter are at most so
-// many.
+// many. What this rests on is put into the table, each entry once.
 fn over(
     task: &Task,
-    ni: NiId,
-    most: u32,
-    costs: &[u32],
-    least: &[u32],
-    left: usize,
+    target: &Target,
+    costs: &mut [u32],
+    least: &mut [u32],
     link: LinkId,
+    left: u32,
 ) -> u32
     requires task { IsTask task.now }
-    requires costs { AreWithin (costs_of task.now) costs.now }
-    requires least { AreLeast (field task.now.book.now task.now.prices.now task.now.ask ni most)
-        least.now }
-    requires left { left < max_path_links }
+    requires links { length costs.old ≡ max_links }
+    requires costs { AreWithin (costs_of task.now) costs.old }
+    requires size { length least.old ≡ max_path_links * max_routers }
+    requires least { AreLeast (field_to task.now target.now) least.old }
     requires link { link.0 < length task.now.chip.now.links }
-    ensures { (node : Node) (path rest : List LinkId)
-        → Walks (field task.now.book.now task.now.prices.now task.now.ask ni most) node path
-        (link ∷ rest) → length rest ≤ left → result ≤ sum_by (costs_of task.now) (link ∷ rest) }
+    requires left { left < max_path_links }
+    ensures links { length costs.new ≡ max_links }
+    ensures costs { AreWithin (costs_of task.now) costs.new }
+    ensures size { length least.new ≡ max_path_links * max_routers }
+    ensures least { AreLeast (field_to task.now target.now) least.new }
+    ensures over { OverCosts (field_to task.now target.now) link left result }
 {
-    let end = task.chip.link(link);
-    let onward = least_onward(task, ni, most, least, end.to, left);
-    onward.saturating_add(entry(costs, link.0 as usize))
+    let _routers = task.chip.routers();
+    let router = match task.chip.link(link).to {
+        Node::Ni(ni) => {
+            return if ni.0 == target.ni.0 {
+                cost_of(task, costs, link)
+            } else {
+                u32::MAX
+            };
+        }
+        Node::Router(router) => router,
+    };
+    let place = left as usize * ROUTERS + router.0 as usize;
+    let known = least[place];
+    if known > 0 {
+        return known.saturating_add(cost_of(task, costs, link));
+    }
+    if !may_lead(task, target.ni, router, left) {
+        return u32::MAX;
+    }
+    let links = task.chip.outgoing(router);
+    let mut lowest = u32::MAX;
+    for i in 0..links.len() {
+        lowest = lowest.min(over(task, target, costs, least, links[i], left - 1));
+    }
+    least[place] = lowest;
+    lowest.saturating_add(cost_of(task, costs, link))
+}
+
+// Whether at most so many links may lead on from a router to an interface.
+fn may_lead(task: &Task, ni: NiId, router: RouterId, left: u32) -> bool
+    requires { IsTask task.now }
+    ensures some { IsTrue result → 1 ≤ left }
+    ensures none { result ≡ false → (most : ℕ)
+        → NoneWalks (field task.now.book.now task.now.prices.now task.now.ask ni most)
+        (Router router) left }
+{
+    match task.far.onward(router, ni) {
+        None => false,
+        Some(more) => more <= left,
+    }
 }
 
 /// What the links cost at least that lead on from a node to an interface, where they're at most so
-/// many. Nothing leads on from the interface itself.
+/// many. It is asked for routers.
 pub(crate) fn least_onward(
     task: &Task,
     ni: NiId,
@@ -129,14 +166,13 @@ pub(crate) fn least_onward(
         least.now }
     requires node { IsNode task.now.chip.now.routers task.now.chip.now.nis node }
     requires left { left ≤ max_path_links }
-    ensures ends { node ≡ Ni ni → result ≡ 0 }
-    ensures leads { is_router node ≡ true → (path : List LinkId)
+    ensures { is_router node ≡ true → (path : List LinkId)
         → CostsAtLeast (field task.now.book.now task.now.prices.now task.now.ask ni most) node path
         left result }
 {
     let _routers = task.chip.routers();
     match node {
-        Node::Ni(end) => { if end.0 == ni.0 { 0 } else { u32::MAX } }
+        Node::Ni(_) => 0,
         Node::Router(router) => entry(least, left * ROUTERS + router.0 as usize),
     }
 }

@@ -11,7 +11,7 @@ ghost use Rattle.aeth_chip.specs.Paths.{IsPath, to_of};
 ghost use Rattle.aeth_chip.specs.declared.node.Node.TheVariants.{Ni};
 ghost use Rattle.aeth_paths.specs.declared.request.Found.{Found};
 ghost use Rattle.aeth_paths.specs.Candidates.{IsCandidate, IsFirst, is_live};
-ghost use Rattle.aeth_paths.specs.Least.{AreWithin};
+ghost use Rattle.aeth_paths.specs.Least.{field_to};
 ghost use Rattle.aeth_paths.specs.Open.{all_steps, allowed_steps, each_once, open_steps};
 ghost use Rattle.aeth_paths.specs.Pairs.{IsOffered, OfferedFrom, OfferedTo, Tries};
 ghost use Rattle.aeth_paths.specs.Search.{completions, first_from};
@@ -20,7 +20,7 @@ ghost use Rattle.aeth_paths.specs.Walk.{IsPrefix, IsTask, Stands, costs_of, path
 
 use crate::cost::Cost;
 use crate::ends::found;
-use crate::least::{is_weighed, least_costs, link_costs};
+use crate::least::{COSTS, LEAST, Target, fill, is_weighed};
 use crate::prefix::{Prefix, Task};
 use crate::priced::Priced;
 use crate::request::{Found, Request};
@@ -99,12 +99,10 @@ fn try_pair<L: Ledger>(
     a: NiId,
     b: NiId,
     crowded: &[NiId],
-    costs: &[u32],
     best: Option<Priced>,
     steps: &mut Steps<L>,
 ) -> Option<Priced>
     requires task { IsTask task.now }
-    requires costs { AreWithin (costs_of task.now) costs.now }
     requires best { best ≡ priced (costs_of task.now) (path_in best) }
     ensures best { result ≡ priced (costs_of task.now) (path_in result) }
     ensures tries { Tries (costs_of task.now) (path_in best) (path_in result)
@@ -134,50 +132,49 @@ fn try_pair<L: Ledger>(
     if is_hopeless(task, &bare, &begun, &best) {
         return best;
     }
-    search(task, b, most, &begun, costs, best, steps)
+    let target = Target { ni: b, most };
+    search(task, &target, &begun, best, steps)
 }
 
 // The first of what was best and the paths of a pair, from what is known of the empty one. Least costs
 // are worked out where links have costs.
 fn search<L: Ledger>(
     task: &Task,
-    b: NiId,
-    most: u32,
+    target: &Target,
     begun: &Prefix,
-    costs: &[u32],
     best: Option<Priced>,
     steps: &mut Steps<L>,
 ) -> Option<Priced>
     requires task { IsTask task.now }
-    requires most { most ≤ max_path_links }
+    requires most { target.now.most ≤ max_path_links }
     requires prefix { IsPrefix task.now begun.now }
     requires node { IsNode task.now.chip.now.routers task.now.chip.now.nis begun.now.end }
     requires stands { Stands (to_of task.now.book.now.links) begun.now.end begun.now.path }
     requires empty { begun.now.path ≡ [] }
-    requires costs { AreWithin (costs_of task.now) costs.now }
     requires best { best ≡ priced (costs_of task.now) (path_in best) }
     ensures best { result ≡ priced (costs_of task.now)
-        (first_from (field task.now.book.now task.now.prices.now task.now.ask b most) (path_in best)
-        (completions (field task.now.book.now task.now.prices.now task.now.ask b most)
-        max_path_links begun.now.end begun.now.path)) }
-    ensures steps { steps.new ≤ steps.old
-        + open_steps (field task.now.book.now task.now.prices.now task.now.ask b most)
-        (least_from task.now.chip.now b) max_path_links begun.now.end begun.now.path }
+        (first_from (field_to task.now target.now) (path_in best)
+        (completions (field_to task.now target.now) max_path_links begun.now.end begun.now.path)) }
+    ensures steps { steps.new ≤ steps.old + open_steps (field_to task.now target.now)
+        (least_from task.now.chip.now target.now.ni) max_path_links begun.now.end begun.now.path }
 {
-    if costs.is_empty() {
+    let Target { ni, most } = *target;
+    if !is_weighed(task) {
         let bare = Goal {
-            ni: b,
+            ni,
             most,
-            costs,
+            costs: &[],
             least: &[],
         };
         return extend(task, &bare, begun, best, MAX_PATH_LINKS, steps);
     }
-    let least = least_costs(task, b, most, costs);
+    let mut costs = [0; COSTS];
+    let mut least = [0; LEAST];
+    fill(task, target, &mut costs, &mut least, begun.end);
     let goal = Goal {
-        ni: b,
+        ni,
         most,
-        costs,
+        costs: &costs,
         least: &least,
     };
     extend(task, &goal, begun, best, MAX_PATH_LINKS, steps)
@@ -189,12 +186,10 @@ fn try_to<L: Ledger>(
     a: NiId,
     to: &[NiId],
     crowded: &[NiId],
-    costs: &[u32],
     best: Option<Priced>,
     steps: &mut Steps<L>,
 ) -> Option<Priced>
     requires task { IsTask task.now }
-    requires costs { AreWithin (costs_of task.now) costs.now }
     requires best { best ≡ priced (costs_of task.now) (path_in best) }
     ensures best { result ≡ priced (costs_of task.now) (path_in result) }
     ensures tries { Tries (costs_of task.now) (path_in best) (path_in result)
@@ -207,7 +202,7 @@ fn try_to<L: Ledger>(
     for i in 0..to.len() {
         let b = to[i];
         if !holds_below(&to[..i], below, b) {
-            best = try_pair(task, a, b, crowded, costs, best, steps);
+            best = try_pair(task, a, b, crowded, best, steps);
         }
         below = below.max(b.0 as u64 + 1);
     }
@@ -220,11 +215,9 @@ fn try_senders<L: Ledger>(
     from: &[NiId],
     to: &[NiId],
     crowded: &[NiId],
-    costs: &[u32],
     steps: &mut Steps<L>,
 ) -> Option<Priced>
     requires task { IsTask task.now }
-    requires costs { AreWithin (costs_of task.now) costs.now }
     ensures best { result ≡ priced (costs_of task.now) (path_in result) }
     ensures tries { Tries (costs_of task.now) None (path_in result)
         (OfferedFrom task.now.book.now task.now.ask crowded.now from.now to.now) }
@@ -236,33 +229,11 @@ fn try_senders<L: Ledger>(
     for i in 0..from.len() {
         let a = from[i];
         if !holds_below(&from[..i], below, a) {
-            best = try_to(task, a, to, crowded, costs, best, steps);
+            best = try_to(task, a, to, crowded, best, steps);
         }
         below = below.max(a.0 as u64 + 1);
     }
     best
-}
-
-// The same, with the costs of links where they tell more than their number.
-fn try_from<L: Ledger>(
-    task: &Task,
-    from: &[NiId],
-    to: &[NiId],
-    crowded: &[NiId],
-    steps: &mut Steps<L>,
-) -> Option<Priced>
-    requires { IsTask task.now }
-    ensures best { result ≡ priced (costs_of task.now) (path_in result) }
-    ensures tries { Tries (costs_of task.now) None (path_in result)
-        (OfferedFrom task.now.book.now task.now.ask crowded.now from.now to.now) }
-    ensures steps { steps.new ≤ steps.old + all_steps task.now.chip.now task.now.book.now
-        task.now.prices.now task.now.ask from.now to.now crowded.now }
-{
-    if !is_weighed(task) {
-        return try_senders(task, from, to, crowded, &[], steps);
-    }
-    let costs = link_costs(task);
-    try_senders(task, from, to, crowded, &costs, steps)
 }
 
 // What a search reads.
@@ -314,7 +285,7 @@ pub fn find_counted<F: Fn(u32, u32) -> u32, L: Ledger>(
         to.now crowded.now }
 {
     let task = task_of(chip, far, book, ask, cost);
-    match try_from(&task, from, to, crowded, steps) {
+    match try_senders(&task, from, to, crowded, steps) {
         None => Ok(None),
         Some(best) => Ok(Some(found(&task, &best.path))),
     }

@@ -13,3 +13,4 @@ pub mod Places
 pub mod PlanReading
 pub mod PlanAgain
 pub mod PlanLaws
+pub mod DesignLaws

@@ -8,3 +8,7 @@ pub mod Making
 pub mod Rules
 pub mod Known
 pub mod PlanText
+pub mod Seated
+pub mod UnitGrants
+pub mod Accepted
+pub mod Design

@@ -9,11 +9,12 @@ use Rattle.aeth_audit.specs.declared.verdict.Audit.{Audit}
 use Rattle.aeth_audit.specs.declared.verdict.Audit.TheVariants.{Clean, Fault}
 use Rattle.aeth_audit.specs.declared.row.LinkRow.{LinkRow}
 use Rattle.aeth_base.specs.Limits.{max_cycles}
-use Rattle.aeth_files.specs.Files.{design_file, switches_file}
+use Rattle.aeth_files.specs.Files.{design_file}
+use Rattle.aeth_run_files.specs.TraceFiles.{switches_file}
 use Rattle.aeth_files.specs.Plans.{accepted_file}
 use Rattle.aeth_group.specs.Members.{groups_of}
 use Rattle.aeth_plan.specs.Plan.{PlanData}
-use Rattle.aeth_playing.specs.declared.inputs.Design.{Design}
+use Rattle.aeth_plan.specs.declared.design.Design.{Design}
 use Rattle.aeth_reconf.specs.Timeline.{timeline_of}
 use Rattle.aeth_tables.specs.Switching.{spans_of}
 use Rattle.aeth_trace.specs.declared.switches.SwitchRow.{SwitchRow}

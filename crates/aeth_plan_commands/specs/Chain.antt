@@ -8,7 +8,7 @@ use Rattle.aeth_base.specs.declared.ids.UseId.{UseId}
 use Rattle.aeth_server.specs.declared.shape.ChannelShape.{ChannelShape}
 use Rattle.aeth_group.specs.Members.{groups_of}
 use Rattle.aeth_plan.specs.Plan.{PlanData}
-use Rattle.aeth_playing.specs.declared.inputs.Design.{Design}
+use Rattle.aeth_plan.specs.declared.design.Design.{Design}
 use Rattle.aeth_tables.specs.Tables.{tables_of}
 use Rattle.aeth_trace.specs.declared.receivers.PullRow.{PullRow}
 use Rattle.aeth_trace.specs.declared.words.WordRow.{WordRow}
@@ -16,11 +16,12 @@ use Rattle.aeth_chain.specs.Chain.{bound_of, legs_of}
 use Rattle.aeth_chain.specs.ChainRun.{chain_log}
 use Rattle.aeth_chain.specs.ChainText.{chain_text}
 use Rattle.aeth_chain.specs.declared.item.ChainItem.{ChainItem}
-use Rattle.aeth_chain_items.specs.ChainItems.{items_of}
-use Rattle.aeth_chain_items.specs.ItemNames.{item_names_of}
-use Rattle.aeth_chain_items.specs.Shapes.{shapes_in}
-use Rattle.aeth_chain_items.specs.declared.names.ItemName.{ItemName}
-use Rattle.aeth_files.specs.Files.{design_file, receivers_file, words_file}
+use Rattle.aeth_chain.specs.ChainItems.{items_of}
+use Rattle.aeth_chain.specs.ItemNames.{item_names_of}
+use Rattle.aeth_chain.specs.Shapes.{shapes_in}
+use Rattle.aeth_chain.specs.declared.names.ItemName.{ItemName}
+use Rattle.aeth_files.specs.Files.{design_file}
+use Rattle.aeth_run_files.specs.TraceFiles.{receivers_file, words_file}
 use Rattle.aeth_files.specs.Plans.{accepted_file}
 use Rattle.aeth_files.specs.Uses.{named_use}
 use Rattle.aeth_answers.specs.Files.{judgement}

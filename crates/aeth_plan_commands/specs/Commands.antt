@@ -4,7 +4,7 @@ use Rattle.std.specs.Prelude.{ℕ, ◌≤◌, ⊤, List, Option, None, codes, if
 use Rattle.std.specs.Str.{bytes_eq}
 use Rattle.aeth_answers.specs.Task.{Task}
 use Rattle.aeth_base.specs.Limits.{max_cycles}
-use Rattle.aeth_chain_items.specs.ItemNames.{AreItemNames}
+use Rattle.aeth_chain.specs.ItemNames.{AreItemNames}
 use Rattle.aeth_plan_commands.specs.Audit.{audit_command, audit_task}
 use Rattle.aeth_plan_commands.specs.Chain.{chain_command, chain_task}
 use Rattle.aeth_plan_commands.specs.RouteTables.{route_tables_command, route_tables_task}

@@ -3,25 +3,28 @@ ghost use Rattle.aeth_answers.specs.Places.{Files, files_of};
 ghost use Rattle.aeth_answers.specs.Stop.{Answers, Judges};
 ghost use Rattle.aeth_base.specs.Limits.{max_cycles};
 ghost use Rattle.aeth_chain.specs.Chain.{AreDistinct, IsChain};
-ghost use Rattle.aeth_chain_items.specs.ChainItems.{AreItemsOf};
-ghost use Rattle.aeth_chain_items.specs.ItemNames.{AreItemNames};
+ghost use Rattle.aeth_chain.specs.ChainItems.{AreItemsOf};
+ghost use Rattle.aeth_chain.specs.ItemNames.{AreItemNames};
 ghost use Rattle.aeth_plan_commands.specs.Commands.{HasRanges};
 ghost use Rattle.aeth_plan_commands.specs.Chain.{chain_command, chain_job, chain_task, items_task};
 ghost use Rattle.aeth_plan_commands.specs.Chain.{judged_items, named_task, planned_task};
 ghost use Rattle.aeth_plan_commands.specs.Chain.{pulled_task, shapes_job, words_task};
 ghost use Rattle.aeth_group.specs.Members.{groups_of};
-ghost use Rattle.aeth_tables.specs.Reserved.{IsDesign};
+ghost use Rattle.aeth_plan.specs.Design.{IsDesign};
 ghost use Rattle.std.specs.Prelude.{◌≡◌, ◌<◌, ◌≤◌, IfOk, IfSome, length, map, string_bytes};
 
 use crate::command::PlanCommand;
 use aeth_answers::{Answer, FileName, Stop, ended, judged, number_in};
 use aeth_app::App;
 use aeth_base::{MAX_CYCLES, Name, NoMemory, UseId};
-use aeth_chain::{ChainItem, chain_bound, chain_text, run_chain};
-use aeth_chain_items::{ItemName, ItemNames, chain_items, chain_shapes, item_names};
-use aeth_files::{named_use, read_accepted, read_design, read_receivers_file, read_words_file};
+use aeth_chain::{
+    ChainItem, ItemName, ItemNames, chain_bound, chain_items, chain_shapes, chain_text, item_names,
+    run_chain,
+};
+use aeth_files::{named_use, read_accepted, read_design};
 use aeth_io::Shelf;
-use aeth_playing::{Design, Planned};
+use aeth_plan::{Design, Planned};
+use aeth_run_files::{read_receivers_file, read_words_file};
 use aeth_server::ChannelShape;
 use aeth_trace::{Receivers, Words};
 use std::alloc::Global;

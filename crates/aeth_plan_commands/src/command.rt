@@ -10,7 +10,7 @@ use crate::planned_uses::UseFiles;
 use crate::{audit, chain, route_tables, tables};
 use aeth_answers::{Answer, Stop};
 use aeth_base::Name;
-use aeth_chain_items::ItemNames;
+use aeth_chain::ItemNames;
 use aeth_io::Shelf;
 use std::alloc::Global;
 

@@ -4,14 +4,14 @@ ghost use Rattle.aeth_answers.specs.Stop.{Judges};
 ghost use Rattle.aeth_plan_commands.specs.PlannedUses.{plan_for, planned_use, seen_use};
 ghost use Rattle.aeth_plan_commands.specs.PlannedUses.{use_files_of, use_for};
 ghost use Rattle.aeth_group.specs.Members.{groups_of};
-ghost use Rattle.aeth_tables.specs.Reserved.{IsDesign};
+ghost use Rattle.aeth_plan.specs.Design.{IsDesign};
 ghost use Rattle.std.specs.Prelude.{◌≡◌, ◌<◌, IfOk, length, map, string_bytes};
 
 use aeth_answers::{FileName, Stop};
 use aeth_base::{Name, UseId};
 use aeth_files::{named_use, read_accepted, read_design};
 use aeth_io::Shelf;
-use aeth_playing::{Design, Planned};
+use aeth_plan::{Design, Planned};
 use std::alloc::Global;
 
 /// The files of a use case with its plan, and the name of the use case.

@@ -6,7 +6,7 @@ ghost use Rattle.aeth_plan_commands.specs.RouteTables.{route_tables_command, rou
 ghost use Rattle.aeth_plan_commands.specs.RouteTables.{route_tables_task};
 ghost use Rattle.aeth_plan_commands.specs.PlannedUses.{seen_use};
 ghost use Rattle.aeth_group.specs.Members.{groups_of};
-ghost use Rattle.aeth_tables.specs.Reserved.{IsDesign};
+ghost use Rattle.aeth_plan.specs.Design.{IsDesign};
 ghost use Rattle.std.specs.Prelude.{◌≡◌, ◌<◌, IfOk, IfSome, length, map, string_bytes};
 
 use crate::command::PlanCommand;

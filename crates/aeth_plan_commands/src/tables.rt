@@ -6,7 +6,7 @@ ghost use Rattle.aeth_plan_commands.specs.Tables.{tables_command, tables_job};
 ghost use Rattle.aeth_plan_commands.specs.Tables.{tables_task};
 ghost use Rattle.aeth_plan_commands.specs.PlannedUses.{seen_use};
 ghost use Rattle.aeth_group.specs.Members.{groups_of};
-ghost use Rattle.aeth_tables.specs.Reserved.{IsDesign};
+ghost use Rattle.aeth_plan.specs.Design.{IsDesign};
 ghost use Rattle.std.specs.Prelude.{◌≡◌, ◌<◌, IfOk, IfSome, length, map, string_bytes};
 
 use crate::command::PlanCommand;
@@ -14,7 +14,7 @@ use crate::planned_uses::{PlannedUse, UseFiles, read_planned_use};
 use aeth_answers::{Answer, Stop, ended};
 use aeth_base::NoMemory;
 use aeth_io::Shelf;
-use aeth_playing::Design;
+use aeth_plan::Design;
 use aeth_tables::{table_text, tables};
 use std::alloc::Global;
 

@@ -1,8 +1,8 @@
 // The files of a worked run: one connection over a pair of routers.
 use crate::designs::{ONE, PAIR, PLAN};
 use aeth_answers::FileName;
-use aeth_files::RunFiles;
 use aeth_io::MemShelf;
+use aeth_run_files::RunFiles;
 use std::alloc::Global;
 use std::test::Fail;
 

@@ -5,16 +5,18 @@ ghost use Rattle.aeth_accepted.specs.Inputs.{AreAccepted};
 ghost use Rattle.aeth_app.specs.App.{IsAppOf};
 ghost use Rattle.aeth_base.specs.Limits.{max_cycles};
 ghost use Rattle.aeth_group.specs.Members.{groups_of};
-ghost use Rattle.aeth_playing.specs.RunInputs.{inputs_of};
+ghost use Rattle.aeth_machine.specs.RunInputs.{inputs_of};
 
 use crate::busy_files::{Texts, names, shelf_of};
 use aeth_accepted::RunInputs;
 use aeth_base::NoMemory;
 use aeth_clocked::Order;
-use aeth_files::{Run, RunFiles, read_design, read_run};
+use aeth_files::read_design;
 use aeth_io::MemShelf;
 use aeth_network::RoutedNetwork;
-use aeth_playing::Design;
+use aeth_plan::Design;
+use aeth_run_files::{Run, RunFiles, read_run};
+use aeth_scheduling::schedule_of;
 use std::alloc::Global;
 use std::test::Fail;
 
@@ -92,7 +94,8 @@ fn is_run_busy(
 }
 
 fn is_busy_by(alloc: Global, inputs: &RunInputs, busy: &[u32]) -> Result<bool, NoMemory> {
-    match RoutedNetwork::new(alloc, inputs) {
+    let schedule = schedule_of(alloc, inputs)?;
+    match RoutedNetwork::new(alloc, inputs, schedule) {
         Ok(mut network) => is_network_busy(alloc, &mut network, busy),
         Err(fault) => Err(fault),
     }

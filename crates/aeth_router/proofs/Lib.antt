@@ -8,6 +8,7 @@ pub mod PortLemmas
 pub mod RestingLemmas
 pub mod RouterLemmas
 pub mod RowLemmas
+mod RowOrder
 mod SingleLemmas
 mod SoleLemmas
 mod Steps

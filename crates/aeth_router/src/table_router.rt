@@ -1,6 +1,7 @@
 // A router with a table: what it is made of, and what is set in its table.
 
 ghost use Rattle.std.specs.Prelude.{◌≡◌, ◌<◌, ◌≤◌, ◌↔◌, IfOk, IfSome, IsTrue, Some, false, length, true};
+ghost use Rattle.std.specs.List.Sorted.{IsNonDecreasingBy};
 ghost use Rattle.aeth_chip.specs.Nodes.{receives_on};
 ghost use Rattle.aeth_chip.specs.declared.node.Node.TheVariants.{Router};
 ghost use Rattle.aeth_router.specs.Router.{is_among, numbers_of};
@@ -11,6 +12,7 @@ ghost use Rattle.aeth_router.specs.TableRouter.{new_table_router, with_entry};
 use crate::entries::{enters, entry_at, is_from, no_entries, place_from, set_entry};
 use crate::router::{empty_places, last_wires, sending};
 use crate::router_row::RouterRow;
+use crate::row_order::rows_of;
 use aeth_base::{LinkId, NoMemory, RouterId};
 use aeth_chip::{Chip, Node};
 use aeth_clocked::Flit;
@@ -136,6 +138,15 @@ impl TableRouter {
         for row in rows {
             self.enter_row(row);
         }
+    }
+
+    /// The same of rows in the order of routers. It looks at its own alone.
+    pub fn enter_ordered(&mut self, rows: &[RouterRow])
+        requires rows { AreRowsFor rows.now self.old }
+        requires order { IsNonDecreasingBy (λ row. row.router.0) rows.now }
+        ensures { self.new ≡ with_table rows.now self.old }
+    {
+        self.enter(rows_of(rows, self.number));
     }
 
     // Whether no other port has the wire of an entry for a slot.

@@ -24,7 +24,7 @@ use Rattle.aeth_group.specs.declared.grant.Grant.{Grant}
 use Rattle.aeth_group.proofs.ConflictLemmas.{conflict-sym, conflict_from_held}
 use Rattle.aeth_group.proofs.OccupationLemmas.{occupies-Decides}
 use Rattle.aeth_plan.specs.Plan.{PlanData}
-use Rattle.aeth_check.specs.Accepted.{IsAccepted}
+use Rattle.aeth_plan.specs.Accepted.{IsAccepted}
 use Rattle.aeth_tables.proofs.ApartLaws.{one_item}
 use Rattle.aeth_tables.proofs.FindLaws.{found_is, found_some}
 use Rattle.aeth_accepted.proofs.PathPlaces.{links-once}

@@ -21,11 +21,11 @@ use Rattle.aeth_check.proofs.PlanParts.{are_placed}
 use Rattle.aeth_check.specs.Calls.{IsPlaced}
 use Rattle.aeth_group.specs.Members.{groups_of}
 use Rattle.aeth_plan.specs.Plan.{PlanData}
+use Rattle.aeth_plan.specs.Design.{IsDesign}
 use Rattle.aeth_router.specs.Router.{is_among}
 use Rattle.aeth_router.specs.Rows.{AreRowsFor, IsRowFor, is_for}
 use Rattle.aeth_router.specs.TableRouter.{new_table_router}
 use Rattle.aeth_router.specs.declared.router_row.RouterRow.{RouterRow}
-use Rattle.aeth_tables.specs.Reserved.{IsDesign}
 use Rattle.aeth_tables.proofs.ListLaws.{all_from_places, all_has}
 use Rattle.aeth_rtable.specs.Hops.{hops_in}
 use Rattle.aeth_rtable.specs.Rows.{router_rows}

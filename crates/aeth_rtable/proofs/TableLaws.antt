@@ -16,8 +16,8 @@ use Rattle.aeth_app.specs.App.{AppData}
 use Rattle.aeth_group.specs.Members.{GroupsData, groups_of, has_unit}
 use Rattle.aeth_group.specs.declared.grant.Grant.{Grant}
 use Rattle.aeth_plan.specs.Plan.{IsGrantOf, IsPlanOf, PlanData}
-use Rattle.aeth_check.specs.Accepted.{IsAccepted}
-use Rattle.aeth_tables.specs.Reserved.{IsDesign}
+use Rattle.aeth_plan.specs.Accepted.{IsAccepted}
+use Rattle.aeth_plan.specs.Design.{IsDesign}
 use Rattle.aeth_tables.proofs.ListLaws.{all_has_by}
 use Rattle.aeth_rtable.specs.Hops.{entry_at, grants_in, hops_in, hops_of}
 use Rattle.aeth_rtable.specs.Rows.{router_rows, rows_by}

@@ -6,6 +6,7 @@ ghost use Rattle.aeth_chip.specs.Chip.{ChipData};
 ghost use Rattle.aeth_fabric.specs.Fabric.{fabric_of};
 ghost use Rattle.aeth_group.specs.Members.{groups_of};
 ghost use Rattle.aeth_plan.specs.Plan.{PlanData};
+ghost use Rattle.aeth_plan.specs.Design.{IsDesign};
 ghost use Rattle.aeth_refinement.specs.Tables.{AreEntries};
 ghost use Rattle.aeth_router.specs.Rows.{AreRowsFor};
 ghost use Rattle.aeth_router.specs.TableRouter.{new_table_router};
@@ -13,7 +14,6 @@ ghost use Rattle.aeth_rtable.specs.InForce.{rows_in_force};
 ghost use Rattle.aeth_rtable.specs.RouterTables.{AreTables};
 ghost use Rattle.aeth_rtable.specs.Rows.{router_rows};
 ghost use Rattle.aeth_rtable.specs.Sending.{from_rows};
-ghost use Rattle.aeth_tables.specs.Reserved.{IsDesign};
 ghost use Rattle.std.specs.Prelude.{◌<◌, ℕ};
 
 /// The rows of a use case by an accepted plan are the entries of its grants, each of them, ascending by

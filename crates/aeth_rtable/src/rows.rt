@@ -1,8 +1,8 @@
 // The rows of router tables, in the order of routers, ports and slots.
-ghost use Rattle.aeth_check.specs.Accepted.{IsAccepted};
 ghost use Rattle.aeth_chip.specs.Chip.{IsChip};
 ghost use Rattle.aeth_group.specs.Members.{groups_of};
 ghost use Rattle.aeth_plan.specs.Plan.{IsPlanOf};
+ghost use Rattle.aeth_plan.specs.Accepted.{IsAccepted};
 ghost use Rattle.aeth_rtable.specs.Entries.{HasEntries};
 ghost use Rattle.aeth_rtable.specs.Rows.{router_rows, rows_by, rows_of_port, rows_of_router, rows_with};
 ghost use Rattle.aeth_rtable.specs.RouterTables.{AreTables};

@@ -5,12 +5,12 @@ use Rattle.aeth_alloc.specs.Allocation.{OutcomeData, allocation}
 use Rattle.aeth_alloc.specs.Prices.{prices_of}
 use Rattle.aeth_alloc.specs.declared.outcome.Refused.{Refused}
 use Rattle.aeth_app.specs.App.{AppData, IsApp}
-use Rattle.aeth_check.specs.Accepted.{IsAccepted}
 use Rattle.aeth_chip.specs.Chip.{ChipData, IsChip}
 use Rattle.aeth_group.specs.Members.{GroupsData, groups_of}
 use Rattle.aeth_plan.specs.Plan.{IsPlanOf, PlanData}
-use Rattle.aeth_playing.specs.declared.inputs.Planned.{Planned}
-use Rattle.aeth_tables.specs.Reserved.{IsDesign}
+use Rattle.aeth_plan.specs.Accepted.{IsAccepted}
+use Rattle.aeth_plan.specs.Design.{IsDesign}
+use Rattle.aeth_plan.specs.declared.design.Planned.{Planned}
 use Rattle.aeth_answers.specs.declared.answer.Stop.{Stop}
 use Rattle.aeth_answers.specs.declared.answer.Stop.TheVariants.{Ends}
 use Rattle.aeth_answers.specs.Job.{Job, not_granted}

@@ -15,9 +15,9 @@ use Rattle.aeth_demo.specs.Limits.{demo_cycles, max_demo_number}
 use Rattle.aeth_demo.specs.Texts.{TextsData, texts_of}
 use Rattle.aeth_group.specs.Members.{groups_of}
 use Rattle.aeth_plan.specs.Plan.{PlanData}
-use Rattle.aeth_playing.specs.RunInputs.{inputs_of}
-use Rattle.aeth_playing.specs.declared.inputs.Design.{Design}
-use Rattle.aeth_playing.specs.declared.inputs.Traces.{Traces}
+use Rattle.aeth_machine.specs.RunInputs.{inputs_of}
+use Rattle.aeth_plan.specs.declared.design.Design.{Design}
+use Rattle.aeth_machine.specs.declared.traces.Traces.{Traces}
 use Rattle.aeth_report.specs.Log.{LogData}
 use Rattle.aeth_report.specs.Regular.{landings_in, offered_in}
 use Rattle.aeth_tables.specs.Switching.{spans_of}
@@ -31,7 +31,7 @@ use Rattle.aeth_design_commands.specs.Allocate.{refusals_text}
 use Rattle.aeth_answers.specs.Files.{judgement}
 use Rattle.aeth_answers.specs.Job.{Job, done, not_granted}
 use Rattle.aeth_answers.specs.Task.{Judging, Task, ends}
-use Rattle.aeth_playing.specs.Totals.{late_in}
+use Rattle.aeth_machine.specs.Totals.{late_in}
 use Rattle.aeth_answers.specs.Words.{◌>>=◌, number_within}
 
 -- N a number.

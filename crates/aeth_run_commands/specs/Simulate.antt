@@ -8,7 +8,7 @@ use Rattle.aeth_base.specs.Limits.{max_cycles}
 use Rattle.aeth_report.specs.Log.{LogData}
 use Rattle.aeth_report.specs.LogText.{text_of}
 use Rattle.aeth_run_commands.specs.declared.simulate.SimulatedRun.{SimulatedRun}
-use Rattle.aeth_files.specs.declared.runs.RunFiles.{RunFiles}
+use Rattle.aeth_run_files.specs.declared.runs.RunFiles.{RunFiles}
 use Rattle.aeth_answers.specs.Job.{Job, done}
 use Rattle.aeth_run_commands.specs.Limits.{max_turn}
 use Rattle.aeth_answers.specs.Task.{Task, ends}

@@ -5,10 +5,10 @@ use Rattle.aeth_accepted.specs.Inputs.{Inputs}
 use Rattle.aeth_answers.specs.Task.{Judging}
 use Rattle.aeth_answers.specs.Words.{◌>>=◌, file_name_of}
 use Rattle.aeth_files.specs.Files.{design_file}
-use Rattle.aeth_files.specs.Runs.{RunData, data_of, run_files}
-use Rattle.aeth_files.specs.declared.runs.RunFiles.{RunFiles}
-use Rattle.aeth_playing.specs.RunInputs.{inputs_of}
-use Rattle.aeth_playing.specs.declared.inputs.Design.{Design}
+use Rattle.aeth_run_files.specs.Runs.{RunData, data_of, run_files}
+use Rattle.aeth_run_files.specs.declared.runs.RunFiles.{RunFiles}
+use Rattle.aeth_machine.specs.RunInputs.{inputs_of}
+use Rattle.aeth_plan.specs.declared.design.Design.{Design}
 use Rattle.aeth_run_commands.specs.declared.traced_designs.TracedDesign.{TracedDesign}
 
 -- The files of a run by their names: a chip file, an application file, a plan text, and words,

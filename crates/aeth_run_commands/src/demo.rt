@@ -10,10 +10,10 @@ ghost use Rattle.aeth_run_commands.specs.Demo.{on_refusals, planned_demo, summar
 ghost use Rattle.aeth_run_commands.specs.Demo.{texts_task, traced_demo, traces_texts};
 ghost use Rattle.aeth_demo.specs.Limits.{demo_cycles, max_demo_number};
 ghost use Rattle.aeth_group.specs.Members.{groups_of};
-ghost use Rattle.aeth_playing.specs.RunInputs.{inputs_of};
+ghost use Rattle.aeth_machine.specs.RunInputs.{inputs_of};
 ghost use Rattle.aeth_report.specs.Limits.{max_total};
 ghost use Rattle.aeth_report.specs.Regular.{landings_in, offered_in};
-ghost use Rattle.aeth_tables.specs.Reserved.{IsDesign};
+ghost use Rattle.aeth_plan.specs.Design.{IsDesign};
 ghost use Rattle.aeth_tables.specs.Switching.{spans_of};
 ghost use Rattle.std.specs.Prelude.{◌≡◌, ◌≤◌, ℕ, [], IfOk, IfSome, map, string_bytes, sum, sum_by};
 
@@ -24,12 +24,12 @@ use aeth_app::App;
 use aeth_base::NoMemory;
 use aeth_demo::{DEMO_CYCLES, DemoTexts, MAX_DEMO_NUMBER, demo_texts};
 use aeth_design_commands::refusals;
-use aeth_files::{app_in, chip_in, receivers_in, switches_in, words_in};
+use aeth_files::{app_in, chip_in};
 use aeth_group::Groups;
-use aeth_machine::Machine;
-use aeth_plan::Plan;
-use aeth_playing::{Design, Planned, Traces, flits, landings, late, offered, outside, played};
+use aeth_machine::{Machine, Traces, flits, landings, late, offered, outside, played};
+use aeth_plan::{Design, Plan, Planned};
 use aeth_report::SimLog;
+use aeth_run_files::{receivers_in, switches_in, words_in};
 use std::alloc::Global;
 
 /// The turn of the run.

@@ -12,11 +12,10 @@ ghost use Rattle.std.specs.Prelude.{◌≡◌, ◌≤◌, IfOk, IfSome, map, str
 use crate::traced_designs::{TracedDesign, files_named, read_traced};
 use aeth_answers::{Answer, Stop, ended, number_in};
 use aeth_base::{MAX_CYCLES, NoMemory};
-use aeth_files::RunFiles;
 use aeth_io::Shelf;
-use aeth_machine::Machine;
-use aeth_playing::played;
+use aeth_machine::{Machine, played};
 use aeth_report::sim_text;
+use aeth_run_files::RunFiles;
 use std::alloc::Global;
 
 /// The greatest turn that a command asks for.

@@ -10,9 +10,10 @@ ghost use Rattle.aeth_run_commands.specs.TracedDesigns.{traced_for, traced_input
 ghost use Rattle.std.specs.Prelude.{◌≡◌, ◌≤◌, ℕ, IfOk};
 
 use aeth_answers::{FileName, Stop};
-use aeth_files::{Run, RunFiles, read_design, read_run};
+use aeth_files::read_design;
 use aeth_io::Shelf;
-use aeth_playing::Design;
+use aeth_plan::Design;
+use aeth_run_files::{Run, RunFiles, read_run};
 use std::alloc::Global;
 
 /// The files of a run with these names: a chip file, an application file, a plan text, and traces,

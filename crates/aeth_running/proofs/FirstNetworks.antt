@@ -36,7 +36,7 @@ use Rattle.aeth_invariant.specs.Beginning.{AreEmpty}
 use Rattle.aeth_invariant.specs.Events.{AreEvents}
 use Rattle.aeth_invariant.specs.Routed.{without_table}
 use Rattle.aeth_invariant.specs.Running.{Runs}
-use Rattle.aeth_events.proofs.FittingEvents.{rooms-counted}
+use Rattle.aeth_stimuli.proofs.FittingEvents.{rooms-counted}
 use Rattle.aeth_running.proofs.ChannelNumbers.{channel-within}
 use Rattle.aeth_running.proofs.ChannelRows.{last_pull}
 use Rattle.aeth_running.proofs.ChannelStates.{Unused}

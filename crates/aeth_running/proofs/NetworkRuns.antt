@@ -28,7 +28,7 @@ use Rattle.aeth_running.proofs.NetworkLaws.{BeginningLaws, CycleLaws}
 use Rattle.aeth_running.proofs.NetworkSteps.{Plays, plays-on, then-prepares}
 use Rattle.aeth_running.proofs.Played.{played-time}
 use Rattle.aeth_stimuli.specs.Stimuli.{goings_over}
-use Rattle.aeth_events.specs.Events.{events_in}
+use Rattle.aeth_stimuli.specs.Events.{events_in}
 use Rattle.aeth_running.specs.Network.{NetworkState, first_network, played, ready_in, stepped}
 use Rattle.aeth_stimuli.specs.Loaded.{loaded_components}
 use Rattle.aeth_stimuli.specs.OnChip.{HaveRooms, IsOver}

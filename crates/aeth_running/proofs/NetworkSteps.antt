@@ -38,7 +38,7 @@ use Rattle.aeth_running.proofs.RoutedNetworks.{tables-routed}
 use Rattle.aeth_running.proofs.RouterTables.{HaveTables, tables-behind, tables-ready}
 use Rattle.aeth_running.proofs.RunningCycles.{running-on}
 use Rattle.aeth_running.specs.FirstLog.{first_log}
-use Rattle.aeth_events.specs.Events.{events_in}
+use Rattle.aeth_stimuli.specs.Events.{events_in}
 use Rattle.aeth_running.specs.Network.{NetworkState, ready_in}
 use Rattle.aeth_stimuli.specs.Loaded.{loaded_components}
 use Rattle.aeth_running.specs.Network.{state_behind}

@@ -34,7 +34,7 @@ use Rattle.aeth_accepted.specs.Inputs.{Inputs, run_of}
 use Rattle.aeth_fabric.specs.Fabric.{fabric_of, placed_at}
 use Rattle.aeth_stimuli.specs.Sessions.{channel_of}
 use Rattle.aeth_stimuli.specs.Stimuli.{stimuli_of}
-use Rattle.aeth_events.specs.Events.{events_in}
+use Rattle.aeth_stimuli.specs.Events.{events_in}
 use Rattle.aeth_invariant.specs.Events.{AreEvents}
 use Rattle.aeth_invariant.specs.Following.{Follows}
 use Rattle.aeth_invariant.specs.Framed.{IsFramed}

@@ -25,7 +25,7 @@ use Rattle.aeth_fabric.specs.Fabric.{ended, fabric_of, placed_at}
 use Rattle.aeth_schedule.specs.Windows.{IsWithin}
 use Rattle.aeth_stimuli.specs.Sessions.{channel_of}
 use Rattle.aeth_stimuli.specs.Stimuli.{Stimuli, stimuli_of}
-use Rattle.aeth_events.specs.Events.{events_in}
+use Rattle.aeth_stimuli.specs.Events.{events_in}
 use Rattle.aeth_running.specs.Idle.{IsIdle}
 use Rattle.aeth_running.specs.Network.{NetworkState, first_network, goings_in, offers_in, played}
 use Rattle.aeth_running.specs.Network.{ready_in, stepped}

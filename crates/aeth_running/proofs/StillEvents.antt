@@ -20,9 +20,9 @@ use Rattle.aeth_schedule.specs.Switching.{events_by, later_switches, switches_fr
 use Rattle.aeth_schedule.specs.Windows.{StopsChannels, Writes}
 use Rattle.aeth_schedule.specs.declared.timed.Timed.{Timed}
 use Rattle.aeth_stimuli.specs.Stimuli.{stimuli_of}
-use Rattle.aeth_events.specs.Events.{events_in}
-use Rattle.aeth_events.proofs.RunEvents.{caused, may}
-use Rattle.aeth_events.proofs.SwitchEvents.{IsChange, IsFinish, IsHalt, event-by}
+use Rattle.aeth_stimuli.specs.Events.{events_in}
+use Rattle.aeth_stimuli.proofs.RunEvents.{caused, may}
+use Rattle.aeth_stimuli.proofs.SwitchEvents.{IsChange, IsFinish, IsHalt, event-by}
 use Rattle.aeth_running.proofs.StillRows.{none-kept}
 use Rattle.aeth_running.specs.Idle.{FallsOn}
 

@@ -22,7 +22,7 @@ use Rattle.aeth_accepted.specs.Inputs.{Inputs}
 use Rattle.aeth_schedule.specs.declared.going.Going.{Going}
 use Rattle.aeth_stimuli.specs.Loaded.{loaded_as, no_lane}
 use Rattle.aeth_stimuli.specs.Stimuli.{Offer, Stimuli, Take, stimuli_of}
-use Rattle.aeth_events.specs.Events.{events_in}
+use Rattle.aeth_stimuli.specs.Events.{events_in}
 use Rattle.aeth_running.specs.FirstLog.{first_log}
 use Rattle.aeth_running.specs.Routing.{Routing, entered_first, entered_with, enterings_in, kind_of}
 

@@ -14,7 +14,7 @@ use Rattle.aeth_components.specs.Lanes.{is_open}
 use Rattle.aeth_components.specs.Phases.{asked_of}
 use Rattle.aeth_components.specs.declared.lane.Lane.{Lane}
 use Rattle.aeth_schedule.specs.Windows.{IsWithin}
-use Rattle.aeth_events.specs.Events.{events_in}
+use Rattle.aeth_stimuli.specs.Events.{events_in}
 use Rattle.aeth_running.specs.Network.{NetworkState, goings_in, offers_in, ready_in, stepped}
 use Rattle.aeth_running.specs.Network.{takes_in, taking_with}
 

@@ -34,9 +34,9 @@ pub fn networks_run()
     aeth_stimuli::laws::sessions_go();
     aeth_stimuli::laws::sessions_are_apart();
     aeth_stimuli::laws::words_are_placed();
-    aeth_events::laws::fabrics_are_over_chips();
-    aeth_events::laws::events_are_events();
-    aeth_events::laws::stimuli_are_stimuli();
+    aeth_stimuli::laws::fabrics_are_over_chips();
+    aeth_stimuli::laws::events_are_events();
+    aeth_stimuli::laws::stimuli_are_stimuli();
     aeth_tables::laws::switches();
     aeth_fabric::laws::runs_have_fabrics();
     aeth_invariant::laws::runs_begin();
@@ -60,9 +60,9 @@ pub fn networks_serve()
     aeth_stimuli::laws::sessions_go();
     aeth_stimuli::laws::sessions_are_apart();
     aeth_stimuli::laws::words_are_placed();
-    aeth_events::laws::fabrics_are_over_chips();
-    aeth_events::laws::events_are_events();
-    aeth_events::laws::stimuli_are_stimuli();
+    aeth_stimuli::laws::fabrics_are_over_chips();
+    aeth_stimuli::laws::events_are_events();
+    aeth_stimuli::laws::stimuli_are_stimuli();
     aeth_tables::laws::switches();
     aeth_fabric::laws::runs_have_fabrics();
     aeth_invariant::laws::runs_begin();
@@ -106,7 +106,7 @@ pub fn still_cycles_rest()
     networks_run();
     networks_serve();
     idle_cycles_are_still();
-    aeth_events::laws::events_are_events();
+    aeth_stimuli::laws::events_are_events();
     aeth_fabric::laws::runs_have_fabrics();
     aeth_invariant::laws::switches_are_made();
     aeth_invariant::laws::cycles_are_cycles();
@@ -126,7 +126,7 @@ pub fn quiet_cycles_are_still()
     networks_run();
     networks_serve();
     still_cycles_rest();
-    aeth_events::laws::events_are_events();
+    aeth_stimuli::laws::events_are_events();
     aeth_fabric::laws::runs_have_fabrics();
     aeth_invariant::laws::switches_are_made();
     aeth_invariant::laws::cycles_are_cycles();

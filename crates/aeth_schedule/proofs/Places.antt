@@ -1,40 +1,23 @@
--- How many words channels have.
-use Rattle.std.proofs.Common.{◌≡◌, ◌≤◌, ◌<◌, ◌++◌, ◌+◌, ◌*◌, ◌∙◌, ℕ, zero, suc, List, [], ◌∷◌, arith, ap, length}
-use Rattle.std.proofs.Common.{Some, get_or, map, refl, slice_get, sym, take}
+-- The words of channels, one more at a time.
+use Rattle.std.proofs.Common.{◌≡◌, ◌≤◌, ◌++◌, ◌+◌, ◌∙◌, ℕ, suc, List, [], ◌∷◌, Some, ap, arith, length, map}
+use Rattle.std.proofs.Common.{slice_get, sym, take}
 use Rattle.std.specs.Prelude.{flat_map}
 use Rattle.std.specs.List.{range_with_len}
-use Rattle.std.proofs.lemmas.List.{append_assoc, flat_map_more, length-append, length-map}
-use Rattle.std.proofs.lemmas.List.{map-append}
-use Rattle.aeth_group.proofs.ListLemmas.{take-at}
-use Rattle.std.proofs.lemmas.List.FromFn.{get_or-map-range_with_len}
-use Rattle.std.proofs.lemmas.List.Sums.{length-filter, count_by-le-length}
-use Rattle.aeth_base.proofs.Ranges.{range_with_len-more}
+use Rattle.std.proofs.lemmas.List.{append_assoc, flat_map_more, map-append}
+use Rattle.std.proofs.lemmas.List.Sums.{count_by-le-length, length-filter}
 use Rattle.aeth_base.specs.declared.ids.Channel.{Channel}
-use Rattle.aeth_base.specs.declared.ids.Side.TheVariants.{Back, Fwd}
+use Rattle.aeth_base.proofs.Ranges.{range_with_len-more}
+use Rattle.aeth_group.proofs.ListLemmas.{take-at}
 use Rattle.aeth_trace.specs.Channels.{is_channel}
-use Rattle.aeth_trace.specs.Limits.{max_rows}
 use Rattle.aeth_trace.specs.Words.{words_on}
 use Rattle.aeth_trace.specs.declared.words.WordRow.{WordRow}
-use Rattle.aeth_schedule.specs.Values.{values_of, values_on, values_with}
+use Rattle.aeth_schedule.specs.Values.{values_of, values_with}
 
 -- A channel has no more words than there are.
 pub on-few : (words : List WordRow) (channel : Channel)
     → length (words_on words channel) ≤ length words
 on-few words channel = rw (length-filter (λ row. is_channel channel row.channel) words)
     (count_by-le-length (λ row. is_channel channel row.channel) words)
-
--- The words of a connection's two channels.
-pub with-count : (words : List WordRow) (c : ℕ) → length (values_with words c)
-    ≡ length (words_on words (record { conn = record { 0 = c }; side = Fwd }))
-    + length (words_on words (record { conn = record { 0 = c }; side = Back }))
-with-count words c =
-    let fwd : Channel = record { conn = record { 0 = c }; side = Fwd } in
-    let back : Channel = record { conn = record { 0 = c }; side = Back } in
-    rw (
-      length-append (values_on words fwd) (values_on words back),
-      length-map (words_on words fwd) (λ (row : WordRow). row.value),
-      length-map (words_on words back) (λ (row : WordRow). row.value),
-    ) refl
 
 -- One connection more.
 pub values-more : (words : List WordRow) (n : ℕ)
@@ -45,36 +28,6 @@ values-more words n =
     let split = flat_map_more (values_with words) [] (range_with_len 0 n) n in
     rw next (ap (flat_map (values_with words)) more ∙ sym split)
 
-pub values-count : (words : List WordRow) (n : ℕ) → length (values_of words (n + 1))
-    ≡ length (values_of words n)
-    + (length (words_on words (record { conn = record { 0 = n }; side = Fwd }))
-    + length (words_on words (record { conn = record { 0 = n }; side = Back })))
-values-count words n = rw (
-  values-more words n,
-  length-append (values_of words n) (values_with words n),
-  with-count words n,
-) refl
-
--- The channels of so many connections have no more words than twice so often the most rows.
-pub values-few : (words : List WordRow) (n : ℕ) → length words ≤ max_rows
-    → length (values_of words n) ≤ n * (2 * max_rows)
-values-few words zero few = omega arith
-values-few words (suc n) few =
-    let before = values-few words n few in
-    let fwd = on-few words (record { conn = record { 0 = n }; side = Fwd }) in
-    let back = on-few words (record { conn = record { 0 = n }; side = Back }) in
-    let next : suc n ≡ n + 1 = omega arith in
-    let count = ap (λ (m : ℕ). length (values_of words m)) next ∙ values-count words n in
-    omega arith
-
--- The place of a connection's words among the places of all.
-pub place-at : (words : List WordRow) (starts : List ℕ) (c : ℕ)
-    → starts ≡ map (λ d. length (values_of words d)) (range_with_len 0 (length starts))
-    → c < length starts → get_or starts c 0 ≡ length (values_of words c)
-place-at words starts c same within =
-    ap (λ (xs : List ℕ). get_or xs c 0) same
-    ∙ get_or-map-range_with_len (λ d. length (values_of words d)) 0 (length starts) c c 0 within (omega arith)
-
 -- One element more of a list is mapped.
 pub map-take-more : {X Y : Type 0} (f : X → Y) (olds : List Y) (xs : List X) (k : ℕ) (x : X)
     → slice_get xs k ≡ Some x
@@ -82,8 +35,3 @@ pub map-take-more : {X Y : Type 0} (f : X → Y) (olds : List Y) (xs : List X) (
 map-take-more f olds xs k x at =
     rw (take-at xs k x at, map-append f (take k xs) (x ∷ []))
     (append_assoc olds (map f (take k xs)) (f x ∷ []))
-
--- How many words the channels of one connection more have.
-pub values-next : (words : List WordRow) (n : ℕ) → length (values_of words (n + 1))
-    ≡ length (values_of words n) + length (values_with words n)
-values-next words n = rw (values-more words n) (length-append (values_of words n) (values_with words n))

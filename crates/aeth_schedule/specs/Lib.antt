@@ -1,12 +1,8 @@
-pub mod Entered
 pub mod Goings
 pub mod Lines
-pub mod Made
 pub mod Rooms
 pub mod Schedule
-pub mod Staying
 pub mod Switching
-pub mod Tasks
 pub mod Timed
 pub mod Values
 pub mod Windows

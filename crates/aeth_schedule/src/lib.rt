@@ -1,21 +1,17 @@
-//! What a run does to tables and queues, cycle by cycle, and when its sessions go: made before the
-//! first cycle.
+//! What a run does to tables and queues, cycle by cycle, and its sessions in the order in which they go: a
+//! schedule as a value, and the words of contracts that speak of it.
 #![tactic(auto)]
 
-mod closing;
-mod durations;
-mod entering;
 mod going;
 mod lines;
 mod placing;
-mod rooms;
 mod schedule;
-mod switching;
-mod task;
 mod timed;
 mod windows;
 
 pub use going::Going;
-pub use placing::{number_of, values};
+pub use lines::Line;
+pub use placing::{backward, forward, number_of, values};
 pub use schedule::Schedule;
+pub use timed::{Closing, Timed};
 pub use windows::Window;

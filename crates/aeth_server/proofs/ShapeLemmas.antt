@@ -1,10 +1,10 @@
 -- What a channel's shape gives.
-use Rattle.std.proofs.Common.{ℕ, ◌+◌, ◌-◌, ◌*◌, ◌<◌, ◌≤◌, ◌≡◌, ap, arith}
+use Rattle.std.proofs.Common.{◌*◌, ◌+◌, ◌-◌, ◌<◌, ◌≡◌, ◌≤◌, ap, arith, subst, sym, ℕ}
 use Rattle.aeth_base.specs.Limits.{credits_per_flit, max_path_delay, max_receiver_delay}
 use Rattle.aeth_base.specs.Limits.{max_slots, words_per_flit}
-use Rattle.aeth_slots.specs.SlotSet.{IsSlotSet}
+use Rattle.aeth_slots.specs.SlotSet.{Ascends, IsSlotSet}
 use Rattle.aeth_server.specs.declared.shape.ChannelShape.{ChannelShape}
-use Rattle.aeth_server.specs.ChannelShape.{IsShapeInRange}
+use Rattle.aeth_server.specs.ChannelShape.{IsShapeInRange, shape_of}
 use Rattle.aeth_server.specs.Shape.{Shape, IsGranted, payload_latency, credit_latency, round_trip}
 use Rattle.aeth_server.specs.Shape.{buffer_of}
 use Rattle.aeth_base.proofs.Division.{le-div_ceil, div_ceil-le}
@@ -62,3 +62,18 @@ pub need-most : (shape : ChannelShape) → IsSlotSet shape.slots → IsShapeInRa
 need-most shape set is =
     let few = slots-most shape.slots.size shape.slots.slots set.ascends in
     omega (arith, few, is.capacity)
+
+-- A shape in its range, of slot sets, is granted what it asks for.
+pub shape-granted : (shape : ChannelShape) → IsSlotSet shape.slots → IsSlotSet shape.back
+    → IsShapeInRange shape → IsGranted (shape_of shape)
+shape-granted shape own back is = record {
+  paths = record {
+    path = let some = is.least_links in omega arith;
+    back_path = let some = is.least_back in omega arith;
+  };
+  least_rate = let some = is.least_need in omega arith;
+  ascends = own.ascends;
+  capacity = let few = is.capacity in omega arith;
+  back_ascends = subst (λ n. Ascends 0 n shape.back.slots) (sym is.same_size) back.ascends;
+  back_capacity = is.back_capacity;
+}

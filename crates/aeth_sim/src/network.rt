@@ -23,6 +23,7 @@ use aeth_group::Groups;
 use aeth_network::RoutedNetwork;
 use aeth_plan::Plan;
 use aeth_report::SimLog;
+use aeth_scheduling::schedule_of;
 use aeth_trace::{Receivers, Switches, Words};
 use std::alloc::Global;
 use std::marker::Model;
@@ -89,7 +90,8 @@ impl Network {
         })) }
     {
         let inputs = RunInputs::of(chip, app, groups, plan, words, receivers, switches, cycles);
-        let routed = RoutedNetwork::new(alloc, &inputs)?;
+        let schedule = schedule_of(alloc, &inputs)?;
+        let routed = RoutedNetwork::new(alloc, &inputs, schedule)?;
         Ok(Network { routed })
     }
 

@@ -10,3 +10,16 @@ mod ChannelPlaces
 mod WordPlaces
 mod OfferedWords
 mod StimuliFit
+pub mod OverChips
+pub mod Pairs
+pub mod StaySwitches
+pub mod SwitchEvents
+pub mod SwitchOrder
+pub mod SwitchSessions
+pub mod RunEvents
+pub mod EventsOfSessions
+pub mod SessionEvents
+pub mod CycleEvents
+pub mod LoadedEvents
+pub mod FirstEvents
+pub mod FittingEvents

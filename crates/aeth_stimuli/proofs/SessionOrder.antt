@@ -20,7 +20,7 @@ use Rattle.aeth_reconf.specs.Windows.{clears_from}
 use Rattle.aeth_reconf.proofs.OneWritten.{clears-between, rising}
 use Rattle.aeth_reconf.proofs.StayTurns.{opened_at, stays-turn}
 use Rattle.aeth_accepted.specs.Inputs.{AreAccepted, Inputs, run_of}
-use Rattle.aeth_schedule.proofs.ScheduleLemmas.{rows-are}
+use Rattle.aeth_schedule.proofs.SwitchRows.{rows-known}
 use Rattle.aeth_stimuli.specs.Sessions.{IsBefore}
 
 -- A stay has gone before a switch closes it, and that is done by the time a later one goes.
@@ -87,12 +87,12 @@ module _ (inputs : Inputs) (accepted : AreAccepted inputs) where
       → slice_get (stays_of (groups_of inputs.app) c inputs.switches) j ≡ Some e
       → Precedes (run_of inputs).spans s e
   stays-ordered = stays-apart (groups_of inputs.app) (run_of inputs).spans inputs.switches
-      (rows-are inputs accepted).known accepted.switches.apart
+      (rows-known inputs accepted) accepted.switches.apart
 
   -- And with their sessions.
   pub sessions-ordered : (c i j : ℕ) (one other : Session) → c < length inputs.app.connections
       → i < j → slice_get (sessions_in (run_of inputs) c) i ≡ Some one
       → slice_get (sessions_in (run_of inputs) c) j ≡ Some other → IsBefore one other
   sessions-ordered c i j one other known = sessions-before (groups_of inputs.app)
-      (run_of inputs).spans inputs.switches (rows-are inputs accepted).known
+      (run_of inputs).spans inputs.switches (rows-known inputs accepted)
       accepted.switches.apart c i j one other

@@ -1,3 +1,4 @@
+pub mod Events
 pub mod Loaded
 pub mod OnChip
 pub mod Sessions

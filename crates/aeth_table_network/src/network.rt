@@ -21,6 +21,7 @@ use aeth_group::Groups;
 use aeth_network::RoutedNetwork;
 use aeth_plan::Plan;
 use aeth_report::SimLog;
+use aeth_scheduling::schedule_of;
 use aeth_trace::{Receivers, Switches, Words};
 use std::alloc::Global;
 use std::marker::Model;
@@ -89,8 +90,9 @@ impl TableNetwork {
         let inputs = RunInputs::of(chip, app, groups, plan, words, receivers, switches, cycles);
         inputs.are_accepted();
         laws::tables_route();
-        let tables = tables_of(alloc, &inputs)?;
-        let routed = RoutedNetwork::with_tables(alloc, &inputs, tables)?;
+        let schedule = schedule_of(alloc, &inputs)?;
+        let tables = tables_of(alloc, &inputs, &schedule)?;
+        let routed = RoutedNetwork::with_tables(alloc, &inputs, schedule, tables)?;
         Ok(TableNetwork { routed })
     }
 

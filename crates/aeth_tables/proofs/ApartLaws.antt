@@ -15,15 +15,16 @@ use Rattle.aeth_app.specs.declared.connection.Connection.{Connection}
 use Rattle.aeth_app.specs.Limits.{max_core_connections}
 use Rattle.aeth_app.proofs.AppLemmas.{position_of-few}
 use Rattle.aeth_app.proofs.PositionLemmas.{position_of-apart}
+use Rattle.aeth_app.specs.Connections.{sender}
 use Rattle.aeth_group.specs.declared.grant.SeatLine.{SeatLine}
 use Rattle.aeth_group.proofs.ListLemmas.{all_at}
 use Rattle.aeth_seats.specs.Seats.{queue_of}
 use Rattle.aeth_plan.specs.Plan.{PlanData}
-use Rattle.aeth_check.specs.Channels.{sender}
-use Rattle.aeth_check.specs.Firsts.{NoTwo}
-use Rattle.aeth_check.specs.Seats.{IsOneSeat}
+use Rattle.aeth_plan.specs.Accepted.{NoTwo}
+use Rattle.aeth_plan.specs.Seated.{IsOneSeat}
+use Rattle.aeth_plan.specs.Design.{IsDesign}
 use Rattle.aeth_tables.specs.Granted.{sending_seat}
-use Rattle.aeth_tables.specs.Reserved.{IsDesign, IsPlanned, IsReserved}
+use Rattle.aeth_tables.specs.Reserved.{IsPlanned, IsReserved}
 use Rattle.aeth_tables.specs.Tables.{queue_at}
 use Rattle.aeth_tables.specs.declared.granted.GrantedConnection.{GrantedConnection}
 use Rattle.aeth_tables.proofs.ListLaws.{place_in}

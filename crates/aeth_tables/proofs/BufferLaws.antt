@@ -16,9 +16,9 @@ use Rattle.aeth_group.proofs.ListLemmas.{passes_from_any}
 use Rattle.aeth_group.proofs.MemberLemmas.{connections-groups_of, is_groups-groups_of}
 use Rattle.aeth_group.proofs.MemberLemmas.{length-groups_of}
 use Rattle.aeth_plan.specs.Plan.{PlanData}
+use Rattle.aeth_plan.specs.Design.{IsDesign}
 use Rattle.aeth_tables.specs.Buffers.{buffers_at, buffers_for, buffers_in, buffers_of, buffers_on}
 use Rattle.aeth_tables.specs.Granted.{granted_in, granted_of}
-use Rattle.aeth_tables.specs.Reserved.{IsDesign}
 use Rattle.aeth_tables.specs.declared.buffering.Buffer.{Buffer}
 use Rattle.aeth_tables.specs.declared.granted.GrantedConnection.{GrantedConnection}
 use Rattle.aeth_tables.proofs.UseLaws.{group_below, member_of_use}

@@ -5,9 +5,11 @@ use Rattle.aeth_chip.specs.Chip.{ChipData, IsChip}
 use Rattle.aeth_app.specs.App.{AppData, IsApp}
 use Rattle.aeth_group.specs.Members.{GroupsData, groups_of}
 use Rattle.aeth_plan.specs.Plan.{IsPlanOf, PlanData}
-use Rattle.aeth_check.specs.Accepted.{IsAccepted}
 use Rattle.aeth_tables.specs.Granted.{granted_in}
-use Rattle.aeth_tables.specs.Reserved.{IsDesign, IsReserved}
+use Rattle.aeth_plan.specs.Design.{IsDesign}
+use Rattle.aeth_plan.proofs.DesignLaws.{design_of}
+use Rattle.aeth_plan.specs.Accepted.{IsAccepted}
+use Rattle.aeth_tables.specs.Reserved.{IsReserved}
 use Rattle.aeth_tables.specs.TableText.{IsPrintable}
 use Rattle.aeth_tables.specs.Tables.{TablesData, tables_of}
 use Rattle.aeth_tables.specs.declared.granted.GrantedConnection.{GrantedConnection}
@@ -18,14 +20,8 @@ use Rattle.aeth_tables.proofs.UseLaws.{is_reserved}
 module _ (chip : ChipData) (app : AppData) (groups : GroupsData) (plan : PlanData)
     (is_chip : IsChip chip) (is_app : IsApp app) (of_app : groups ≡ groups_of app)
     (is_plan : IsPlanOf chip app groups plan) (is_accepted : IsAccepted chip app groups plan) where
-  -- The plan is accepted for the chip and the application.
-  pub design_of : IsDesign chip app plan
-  design_of = record {
-    chip_is = is_chip;
-    app_is = is_app;
-    plan_is = subst (λ (g : GroupsData). IsPlanOf chip app g plan) of_app is_plan;
-    accepted = subst (λ (g : GroupsData). IsAccepted chip app g plan) of_app is_accepted;
-  }
+  is_design : IsDesign chip app plan
+  is_design = design_of chip app groups plan is_chip is_app of_app is_plan is_accepted
 
   -- The connections of a use case have the seats and grants that they must.
   pub all_reserved : (u : ℕ) → u < length app.uses → (ones : List GrantedConnection)
@@ -35,7 +31,7 @@ module _ (chip : ChipData) (app : AppData) (groups : GroupsData) (plan : PlanDat
       let same : ones ≡ all = are ∙ ap (λ (g : GroupsData). granted_in app g plan u) of_app in
       subst (λ (list : List GrantedConnection). All (IsReserved chip app) list) (sym same)
       (all_from_places (IsReserved chip app) all (λ place one at.
-      is_reserved chip app plan design_of u within one (has_place all place one at)))
+      is_reserved chip app plan is_design u within one (has_place all place one at)))
 
   -- The tables of a use case can be printed.
   pub are_to_print : (u : UseId) → u.0 < length app.uses → (tables : TablesData)
@@ -43,4 +39,4 @@ module _ (chip : ChipData) (app : AppData) (groups : GroupsData) (plan : PlanDat
   are_to_print u within tables are =
       subst (λ (t : TablesData). IsPrintable chip app t)
       (sym (are ∙ ap (λ (g : GroupsData). tables_of chip app g plan u) of_app))
-      (are_printable chip app plan design_of u within)
+      (are_printable chip app plan is_design u within)

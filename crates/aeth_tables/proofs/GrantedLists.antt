@@ -17,7 +17,7 @@ use Rattle.aeth_app.specs.App.{AppData}
 use Rattle.aeth_group.specs.Members.{GroupsData, group_at, has_at}
 use Rattle.aeth_group.specs.declared.grant.Grant.{Grant}
 use Rattle.aeth_plan.specs.Plan.{IsGrantOf, IsPlanOf, PlanData}
-use Rattle.aeth_check.specs.Channels.{is_for}
+use Rattle.aeth_plan.specs.UnitGrants.{is_for}
 use Rattle.aeth_tables.specs.Changes.{HasLinks}
 use Rattle.aeth_tables.specs.Granted.{grant_of, granted_in, granted_of}
 use Rattle.aeth_tables.proofs.FindLaws.{found_is}

@@ -19,18 +19,18 @@ use Rattle.aeth_chip.specs.Chip.{ChipData}
 use Rattle.aeth_chip.specs.Paths.{IsAdmissible}
 use Rattle.aeth_app.specs.App.{AppData}
 use Rattle.aeth_app.proofs.AppLemmas.{position_of-few}
+use Rattle.aeth_app.specs.Connections.{sender}
 use Rattle.aeth_group.specs.Members.{group_at, groups_of, has_at}
 use Rattle.aeth_group.specs.declared.grant.Grant.{Grant}
 use Rattle.aeth_ni.specs.Limits.{queues_of_interface}
 use Rattle.aeth_ni.specs.declared.row.ChannelRow.{ChannelRow}
 use Rattle.aeth_plan.specs.Plan.{PlanData}
+use Rattle.aeth_plan.specs.Design.{IsDesign}
 use Rattle.aeth_trace.specs.Channels.{side_number}
-use Rattle.aeth_check.specs.Channels.{sender}
 use Rattle.aeth_tables.specs.Granted.{channels_with, grant_on, granted_in, other_side}
 use Rattle.aeth_tables.specs.Granted.{receiving_seat, sending_seat}
 use Rattle.aeth_tables.specs.Promises.{HasNumbers, HasOpposite, HaveOwnQueues}
 use Rattle.aeth_tables.specs.Promises.{HaveOwnSlots, IsMet, KeepPromises, LeadsTo}
-use Rattle.aeth_tables.specs.Reserved.{IsDesign}
 use Rattle.aeth_tables.specs.TableText.{IsPrintable, IsRowOf}
 use Rattle.aeth_tables.specs.Tables.{queue_at, row_on, shape_on, tables_of}
 use Rattle.aeth_tables.specs.declared.granted.GrantedConnection.{GrantedConnection}

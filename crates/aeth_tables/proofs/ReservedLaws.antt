@@ -14,16 +14,18 @@ use Rattle.aeth_base.specs.declared.ids.Unit.{Unit as GroupUnit}
 use Rattle.aeth_chip.specs.Chip.{ChipData}
 use Rattle.aeth_app.specs.App.{AppData}
 use Rattle.aeth_app.specs.declared.connection.Connection.{Connection}
+use Rattle.aeth_app.specs.Connections.{receiver, sender}
 use Rattle.aeth_group.specs.Members.{groups_of}
 use Rattle.aeth_group.specs.declared.grant.Grant.{Grant}
 use Rattle.aeth_group.specs.declared.grant.SeatLine.{SeatLine}
 use Rattle.aeth_plan.specs.Plan.{IsGrantOf, IsSeatOf, PlanData}
+use Rattle.aeth_plan.specs.UnitGrants.{is_for}
+use Rattle.aeth_plan.specs.Seated.{ni_of}
+use Rattle.aeth_plan.specs.Design.{IsDesign}
 use Rattle.aeth_base.proofs.SideLemmas.{same_side-is, same_side-itself}
-use Rattle.aeth_check.specs.Channels.{is_for, receiver, sender}
-use Rattle.aeth_check.specs.Seats.{ni_of}
 use Rattle.aeth_tables.specs.Granted.{grant_of, granted_of, granted_with, line_of}
 use Rattle.aeth_tables.specs.Granted.{unit_in}
-use Rattle.aeth_tables.specs.Reserved.{IsDesign, IsSeated, IsServed}
+use Rattle.aeth_tables.specs.Reserved.{IsSeated, IsServed}
 use Rattle.aeth_tables.specs.declared.granted.GrantedConnection.{GrantedConnection}
 use Rattle.aeth_tables.proofs.FindLaws.{found_is}
 use Rattle.aeth_tables.proofs.ListLaws.{all_has_by}

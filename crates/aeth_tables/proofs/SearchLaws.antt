@@ -18,8 +18,7 @@ use Rattle.aeth_group.specs.declared.grant.SeatLine.{SeatLine}
 use Rattle.aeth_text.specs.Order.{Rises, RisesAfter}
 use Rattle.aeth_plan.specs.Plan.{grant_before, seat_before}
 use Rattle.aeth_plan.proofs.MadePlans.{before_trans, same_number, side_before-itself}
-use Rattle.aeth_check.specs.Channels.{is_before, is_for}
-use Rattle.aeth_check.proofs.Halves.{sought}
+use Rattle.aeth_plan.specs.UnitGrants.{is_before, is_for, sought}
 use Rattle.aeth_tables.specs.Granted.{grant_of, line_of}
 use Rattle.aeth_tables.proofs.FindLaws.{find-at, find-none}
 

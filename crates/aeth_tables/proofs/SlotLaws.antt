@@ -24,8 +24,8 @@ use Rattle.aeth_group.specs.declared.grant.Grant.{Grant}
 use Rattle.aeth_group.proofs.ConflictLemmas.{conflict-sym, conflict_from_held}
 use Rattle.aeth_group.proofs.OccupationLemmas.{occupies-Decides}
 use Rattle.aeth_plan.specs.Plan.{PlanData}
+use Rattle.aeth_plan.specs.Design.{IsDesign}
 use Rattle.aeth_tables.specs.Granted.{unit_in}
-use Rattle.aeth_tables.specs.Reserved.{IsDesign}
 use Rattle.aeth_tables.proofs.ApartLaws.{one_item}
 use Rattle.aeth_tables.proofs.SentLinks.{begins_there, path_links}
 

@@ -22,11 +22,12 @@ use Rattle.aeth_group.proofs.MemberLemmas.{connections-groups_of, is_groups-grou
 use Rattle.aeth_group.proofs.MemberLemmas.{length-groups_of}
 use Rattle.aeth_group.proofs.UnitLemmas.{units_from_unit}
 use Rattle.aeth_plan.specs.Plan.{PlanData}
+use Rattle.aeth_plan.specs.Design.{IsDesign}
+use Rattle.aeth_plan.specs.UnitGrants.{is_for}
 use Rattle.aeth_tables.specs.Granted.{grant_of, granted_in, granted_of, line_of}
 use Rattle.aeth_tables.specs.Granted.{unit_in}
-use Rattle.aeth_tables.specs.Reserved.{IsDesign, IsPlanned, IsReserved}
+use Rattle.aeth_tables.specs.Reserved.{IsPlanned, IsReserved}
 use Rattle.aeth_tables.specs.declared.granted.GrantedConnection.{GrantedConnection}
-use Rattle.aeth_check.specs.Channels.{is_for}
 use Rattle.aeth_tables.proofs.FindLaws.{found_is, found_some}
 use Rattle.aeth_tables.proofs.ListLaws.{all_has, has_place}
 use Rattle.aeth_tables.proofs.PlaceLaws.{keys_of_given}

@@ -20,7 +20,7 @@ use Rattle.aeth_group.specs.Members.{GroupsData, group_at, has_at}
 use Rattle.aeth_group.specs.declared.grant.Grant.{Grant}
 use Rattle.aeth_group.specs.declared.grant.SeatLine.{SeatLine}
 use Rattle.aeth_plan.specs.Plan.{PlanData}
-use Rattle.aeth_check.specs.Channels.{is_for}
+use Rattle.aeth_plan.specs.UnitGrants.{is_for}
 use Rattle.aeth_tables.specs.declared.granted.GrantedConnection.{GrantedConnection}
 
 -- The line that seats a core, if one does.

@@ -1,7 +1,6 @@
 -- What holds of the connections of a use case by an accepted plan: where their cores sit, and what
 -- they are granted.
 --
---   IsDesign      a chip, an application, and an accepted plan for them
 --   IsSeated, IsServed, IsReserved      the seats and grants of a connection
 --   IsPlanned      these are the plan's
 -- Connections with a channel each way: after Æthereal (2005). Seats: this project's own.
@@ -11,27 +10,18 @@ use Rattle.aeth_base.specs.declared.ids.NiId.{NiId}
 use Rattle.aeth_base.specs.declared.ids.Side.{Side}
 use Rattle.aeth_slots.specs.Choice.{IsSuitable}
 use Rattle.aeth_slots.specs.SlotSet.{Ascends}
-use Rattle.aeth_chip.specs.Chip.{ChipData, IsChip}
+use Rattle.aeth_chip.specs.Chip.{ChipData}
 use Rattle.aeth_chip.specs.Paths.{IsAdmissible, path_delay}
-use Rattle.aeth_app.specs.App.{AppData, IsApp, wish_of}
+use Rattle.aeth_app.specs.App.{AppData, wish_of}
 use Rattle.aeth_app.specs.Limits.{seats_per_ni}
 use Rattle.aeth_app.specs.Rates.{need_of}
 use Rattle.aeth_app.specs.declared.connection.Connection.{Connection}
-use Rattle.aeth_group.specs.Members.{groups_of}
+use Rattle.aeth_app.specs.Connections.{receiver, sender}
 use Rattle.aeth_group.specs.declared.grant.Grant.{Grant}
 use Rattle.aeth_group.specs.declared.grant.SeatLine.{SeatLine}
-use Rattle.aeth_plan.specs.Plan.{IsPlanOf, PlanData}
-use Rattle.aeth_check.specs.Accepted.{IsAccepted}
-use Rattle.aeth_check.specs.Channels.{receiver, sender}
+use Rattle.aeth_plan.specs.Plan.{PlanData}
 use Rattle.aeth_tables.specs.Granted.{grant_on, receiving_seat, sending_seat, unit_in}
 use Rattle.aeth_tables.specs.declared.granted.GrantedConnection.{GrantedConnection}
-
--- A chip, an application, and a plan for them that is accepted.
-pub record IsDesign (chip : ChipData) (app : AppData) (plan : PlanData) : Type 0 where
-  pub chip_is : IsChip chip
-  pub app_is : IsApp app
-  pub plan_is : IsPlanOf chip app (groups_of app) plan
-  pub accepted : IsAccepted chip app (groups_of app) plan
 
 -- A line seats this core on a seat of the chip.
 pub record IsSeated (chip : ChipData) (core : CoreId) (line : SeatLine) : Type 0 where

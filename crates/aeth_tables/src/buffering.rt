@@ -1,11 +1,12 @@
 // How many words a queue must have room for, for each channel that a plan grants.
 ghost use Rattle.aeth_app.specs.App.{IsApp};
 ghost use Rattle.aeth_chip.specs.Chip.{IsChip};
-ghost use Rattle.aeth_check.specs.Accepted.{IsAccepted};
 ghost use Rattle.aeth_group.specs.Members.{groups_of};
 ghost use Rattle.aeth_plan.specs.Plan.{IsPlanOf};
+ghost use Rattle.aeth_plan.specs.Accepted.{IsAccepted};
+ghost use Rattle.aeth_plan.specs.Design.{IsDesign};
 ghost use Rattle.aeth_tables.specs.Buffers.{buffer_on, buffers_for, buffers_in, buffers_of, buffers_on};
-ghost use Rattle.aeth_tables.specs.Reserved.{IsDesign, IsReserved};
+ghost use Rattle.aeth_tables.specs.Reserved.{IsReserved};
 ghost use Rattle.std.specs.Prelude.{◌≡◌, ◌<◌, ◌++◌, IfOk, OnOk, length};
 
 use crate::granted::{GrantedConnection, granted_near};

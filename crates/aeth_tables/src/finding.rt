@@ -1,7 +1,7 @@
 // The seats of cores and the grants of units, found in a plan, whose lines are in order.
 ghost use Rattle.aeth_base.specs.declared.ids.Side.TheVariants.{Back, Fwd};
-ghost use Rattle.aeth_check.specs.Channels.{is_before, is_for};
 ghost use Rattle.aeth_plan.specs.Plan.{grant_before, seat_before};
+ghost use Rattle.aeth_plan.specs.UnitGrants.{is_before, is_for};
 ghost use Rattle.aeth_tables.specs.Granted.{grant_of, line_of};
 ghost use Rattle.aeth_text.specs.Order.{Rises};
 ghost use Rattle.std.specs.List.Sorted.{IsPartitionPoint};
@@ -9,8 +9,8 @@ ghost use Rattle.std.specs.Prelude.{◌≡◌, ◌==◌, None, Some, false, if�
 ghost use Rattle.std.specs.Prelude.{option_copied, true};
 
 use aeth_base::{CoreId, Side, Unit};
-use aeth_check::{is_before, is_for};
 use aeth_group::{Grant, SeatLine};
+use aeth_plan::{is_before, is_for};
 
 /// How many lines seat cores before this one. It halves what is left in each step.
 fn seats_before(seats: &[SeatLine], core: CoreId) -> usize

@@ -1,7 +1,7 @@
 // The tables of a use case by a plan.
-ghost use Rattle.aeth_check.specs.Accepted.{IsAccepted};
 ghost use Rattle.aeth_group.specs.Members.{groups_of};
 ghost use Rattle.aeth_plan.specs.Plan.{IsPlanOf};
+ghost use Rattle.aeth_plan.specs.Accepted.{IsAccepted};
 ghost use Rattle.aeth_tables.specs.TableText.{IsPrintable};
 ghost use Rattle.aeth_tables.specs.Tables.{tables_of};
 ghost use Rattle.std.specs.Prelude.{◌≡◌, ◌<◌, IfOk, length};

@@ -3,7 +3,7 @@ use Rattle.std.proofs.Common.{◌≡◌, ◌≤◌, ◌∙◌, ℕ, Bool, true, 
 use Rattle.std.proofs.Common.{take, refl, sym, ap, append_assoc}
 use Rattle.std.specs.Prelude.{flat_map}
 use Rattle.std.specs.List.{join_with_byte}
-use Rattle.std.proofs.lemmas.List.{append-nil, length-take, take-append-le, take-take}
+use Rattle.std.proofs.lemmas.List.{append-nil, length-take, take-append-le}
 use Rattle.aeth_text.specs.Limits.{comma}
 use Rattle.aeth_text.specs.Spelling.{item}
 
@@ -49,10 +49,3 @@ pub front_longer : (old now new more : List ℕ) → take (length old) now ≡ o
 front_longer old now new more front is =
     ap (take (length old)) is
     ∙ take-append-le (length old) now more (front_within old now front) ∙ front
-
--- What stands in front of a text stands in front of each one that this text is in front of.
-pub front_joined : (first next last : List ℕ) → take (length first) next ≡ first
-    → take (length next) last ≡ next → take (length first) last ≡ first
-front_joined first next last front behind =
-    sym (take-take (length first) (length next) last (front_within first next front))
-    ∙ ap (take (length first)) behind ∙ front

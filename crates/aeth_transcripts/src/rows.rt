@@ -1,6 +1,6 @@
 // A row of a transcript: a command, what it writes, and its status.
 use crate::files::{change_file, named_files};
-use aeth_headline::run;
+use aeth_cli::start;
 use aeth_io::{MemShelf, MemSink, Shelf};
 use std::alloc::Global;
 use std::io;
@@ -42,7 +42,7 @@ fn words_of(alloc: Global, line: &str) -> io::Result<Vec<String>> {
 fn said(alloc: Global, row: &str, words: &[String], mut shelf: MemShelf) -> io::Result<Vec<u8>> {
     let mut out = ample_sink(alloc)?;
     let mut err = ample_sink(alloc)?;
-    let status = run(alloc, words, &mut shelf, &mut out, &mut err);
+    let status = start(alloc, words, &mut shelf, &mut out, &mut err);
     let mut lines = format!(in alloc; "$ {row}\n")?.into_bytes();
     lines.extend_from_slice(out.bytes())?;
     if !err.bytes().is_empty() {

@@ -12,10 +12,10 @@ ghost use Rattle.std.specs.Prelude.{◌≡◌, IfOk, IfSome, map, string_bytes};
 use aeth_accepted::RunInputs;
 use aeth_answers::{Answer, Stop, ended, number_in};
 use aeth_base::NoMemory;
-use aeth_files::RunFiles;
 use aeth_io::Shelf;
 use aeth_links::links_text;
 use aeth_run_commands::{TracedDesign, files_named, read_traced};
+use aeth_run_files::RunFiles;
 use std::alloc::Global;
 
 /// The greatest number of cycles of which the command prints what the links carry.

@@ -1,9 +1,9 @@
 use Rattle.std.proofs.Common.{◌≡◌, []}
 use Rattle.std.specs.Prelude.{IfOk, Result, Ok, Err}
-use Rattle.aeth_check.specs.Accepted.{IsAccepted}
 use Rattle.aeth_group.specs.Members.{GroupsData, groups_of}
 use Rattle.aeth_plan.specs.Making.{IsPlanWith}
 use Rattle.aeth_plan.specs.Plan.{IsPlanOf}
+use Rattle.aeth_plan.specs.Accepted.{IsAccepted}
 use Rattle.aeth_alloc.specs.Allocation.{OutcomeData, allocation}
 use Rattle.aeth_alloc.specs.Channels.{Design}
 use Rattle.aeth_alloc.specs.Refusals.{LacksOnlyRefused, RefusesExactly}

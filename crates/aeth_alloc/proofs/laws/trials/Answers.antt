@@ -1,3 +1,4 @@
+use Rattle.aeth_alloc.proofs.EarlierLemmas.{trials-go-on}
 use Rattle.aeth_alloc.proofs.TrialLemmas.{trials-fit, trials-lack, trials-tell}
 use Rattle.aeth_alloc.proofs.laws.trials.Goals as goal
 
@@ -12,3 +13,8 @@ returns-clause-fit c = trials-fit
 -- They have no candidate.
 pub returns-clause-none : goal.returns-clause-none
 returns-clause-none c = trials-lack
+
+-- They go on from each other.
+pub returns-clause-go_on : goal.returns-clause-go_on
+returns-clause-go_on c design groups =
+    trials-go-on design.chip design.app groups design.prices

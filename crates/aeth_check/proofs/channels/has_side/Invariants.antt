@@ -1,6 +1,6 @@
 use Rattle.std.proofs.Common.{◌≡◌, ◌<◌, ◌≤◌, ◌-◌, ℕ, true, false, Some, length, slice_get}
 use Rattle.aeth_group.specs.declared.grant.Grant.{Grant}
-use Rattle.aeth_check.specs.Channels.{is_before}
+use Rattle.aeth_plan.specs.UnitGrants.{is_before}
 use Rattle.aeth_check.proofs.channels.has_side.Given as goal
 
 -- The grants before the part that is left come before the side, and those behind it don't.

@@ -1,5 +1,5 @@
 use Rattle.std.proofs.Common.{◌≡◌, drop}
-use Rattle.aeth_check.specs.Seats.{ni_of}
+use Rattle.aeth_plan.specs.Seated.{ni_of}
 use Rattle.aeth_check.proofs.seats.ni_of.Given as goal
 
 -- The core's seat is among those that are left.

@@ -1,11 +1,11 @@
 use Rattle.std.proofs.Common.{◌≡◌, ◌≢◌, ◌⊎◌, ◌+◌, ◌<◌, ◌^◌, ℕ, length, slice_get}
-use Rattle.aeth_chip.specs.Levels.{HasBit, HasLevel}
+use Rattle.aeth_chip.specs.Levels.{HasBit, HasLevel, half_places}
 use Rattle.aeth_chip.proofs.levels.mark_from.Given as goal
 
 -- The places of the half that are no longer left have got the level, and no others.
 abbrev pub invariant-bits : goal.invariant-bits
 invariant-bits l = record {
-  small : l.rest < 2 ^ 64;
+  small : l.rest < 2 ^ half_places;
   size : length l.levels ≡ length l.initial.levels;
   left : (i : ℕ) → HasBit l.rest i → HasBit l.half i;
   done : (i : ℕ) → HasBit l.half i → HasBit l.rest i ⊎ HasLevel l.levels (l.base + i) l.level;

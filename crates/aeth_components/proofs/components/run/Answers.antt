@@ -6,14 +6,12 @@ use Rattle.aeth_components.proofs.components.run.Goals.{After-refill}
 use Rattle.aeth_components.proofs.ReadyLemmas.{AreReady-noted}
 use Rattle.aeth_components.proofs.RoomLemmas.{IsFull-driven, IsFull-pulled, IsFull-switched}
 use Rattle.aeth_components.proofs.SeenLemmas.{moment_with}
-use Rattle.aeth_components.proofs.SeenPhases.{frames-driven, ready-seen, tables-driven, ways-driven}
+use Rattle.aeth_components.proofs.SeenPhases.{frames-driven, ready-seen, ways-driven}
 use Rattle.aeth_components.proofs.SeenPhases.{ways-pulled, ways-refilled, ways-switched}
-use Rattle.aeth_components.proofs.TableLemmas.{tables-pulled, tables-refilled}
 use Rattle.aeth_components.proofs.WaitingLemmas.{AreHanding-taken, AreHanding-woken}
 use Rattle.aeth_components.specs.Components.{ready_of, wires_driven}
 use Rattle.aeth_components.specs.Frames.{frame_of}
 use Rattle.aeth_components.specs.Handing.{AreHanding, HasEvent}
-use Rattle.aeth_components.specs.Injecting.{AreInjecting, entries_of}
 use Rattle.aeth_components.specs.Passing.{way_of}
 use Rattle.aeth_components.specs.Phases.{Moment, in_turn, pulled, refilled}
 use Rattle.aeth_components.specs.Seen.{interfaces_driven, seen}
@@ -38,15 +36,6 @@ ways-ready g c =
     ∙ ap (map way_of) c.switch.ensures.parts
     ∙ ways-switched c.args.events.now c.args.parts.now
 
--- Refilling keeps the tables.
-injecting : (g : given.Over) (c : goal.After-refill g)
-    → AreInjecting (map entries_of c.refill.new.parts) c.switch.new.injecting.slots.items
-injecting g c =
-    rw (ap (λ (moment : Moment). map entries_of moment.parts) c.refill.ensures.turns
-    ∙ tables-refilled c.args.channels.now.words c.args.cycle
-    (record { parts = c.switch.new.parts; lanes = c.args.channels.now.lanes }))
-    c.switch.ensures.injecting
-
 pub drive-requires : goal.drive-requires
 drive-requires g c =
     let refilled = (goal.at.drive-requires g c).After-refill in
@@ -54,7 +43,7 @@ drive-requires g c =
       wired = rw (c.refill.ensures.frames, c.switch.ensures.frames) c.requires.wired;
       ready = rw (ways-ready g refilled, c.refill.ensures.frames, c.switch.ensures.frames)
           (AreReady-noted c.requires.ready);
-      injecting = injecting g refilled;
+      injecting = c.refill.ensures.injecting;
       waiting = c.refill.ensures.handing.places;
     }
 
@@ -88,7 +77,7 @@ returns-clause-wires g c =
     (record { parts = c.args.parts.now; lanes = c.args.channels.now.lanes })))
     c.drive.ensures.wires
 
--- Driving and taking keep the frames, how flits are passed on, and the tables.
+-- Driving and taking keep the frames, and how flits are passed on.
 pub returns-clause-frames : goal.returns-clause-frames
 returns-clause-frames g c =
     c.take.ensures.frames ∙ ap (map frame_of) c.drive.ensures.parts
@@ -101,16 +90,6 @@ returns-clause-ways g c =
     ∙ ways-pulled c.args.cycle (record { parts = c.drive.new.parts; lanes = c.refill.new.self.lanes })
     ∙ ap (map way_of) c.drive.ensures.parts ∙ ways-driven c.args.cycle c.refill.new.parts
     ∙ ways-ready g ((goal.at.returns-clause-ways g c).After-refill)
-
-pub returns-clause-injecting : goal.returns-clause-injecting
-returns-clause-injecting g c =
-    let tables = ap (λ (moment : Moment). map entries_of moment.parts) c.take.ensures.turns
-    ∙ tables-pulled c.args.cycle
-    (record { parts = c.drive.new.parts; lanes = c.refill.new.self.lanes })
-    ∙ ap (map entries_of) c.drive.ensures.parts
-    ∙ tables-driven c.args.cycle c.refill.new.parts in
-    rw (c.drive.ensures.turns, tables)
-    (injecting g ((goal.at.returns-clause-injecting g c).After-refill))
 
 -- Who waits at an interface that has sent may hand words on. Taking leaves full queues full.
 pub returns-clause-handing : goal.returns-clause-handing

@@ -8,7 +8,6 @@ use Rattle.aeth_components.proofs.DriveLemmas.{sending-seen, wires-driven}
 use Rattle.aeth_components.proofs.LookUpLemmas.{HasCome, passed-without-tables}
 use Rattle.aeth_components.proofs.SeenLemmas.{frames-seen}
 use Rattle.aeth_components.proofs.SendingLemmas.{sending-few}
-use Rattle.aeth_components.specs.Frames.{frame_of}
 use Rattle.aeth_components.specs.Passing.{passed_from}
 use Rattle.aeth_components.specs.Seen.{all_seen}
 use Rattle.aeth_components.specs.Turns.{flits_on}
@@ -44,13 +43,6 @@ counted g c = elim c.if-turns.branch [
   | then-turns w ↦ omega (arith, w.steps-is, w.look_up.ensures.steps)
   | else-turns w ↦ omega (arith, w.steps-is)
 ]
-
--- There are few components.
-pub inject-requires-clause-few : goal.inject-requires-clause-few
-inject-requires-clause-few g c =
-    let few = c.requires.ready.ends.fits.few_parts in
-    let count = c.requires.ready.ends.count ∙ length-map c.args.parts.now frame_of in
-    omega (arith, few, count)
 
 -- There are as many wires as before.
 pub inject-requires-clause-wired : goal.inject-requires-clause-wired

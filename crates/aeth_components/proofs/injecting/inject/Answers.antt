@@ -1,168 +1,197 @@
-use Rattle.std.proofs.Common.{◌≡◌, ◌<◌, ◌+◌, ◌∙◌, ap, arith, get_or, length, Some, slice_get, sym}
-use Rattle.std.proofs.Common.{List, ℕ}
-use Rattle.std.proofs.lemmas.Option.{same_Some}
-use Rattle.aeth_base.specs.Marks.{marked_from}
+use Rattle.std.proofs.Common.{◌≡◌, ◌<◌, ◌+◌, ◌%◌, ◌∙◌, ap, arith, get_or, length, refl, Some, slice_get, sym}
+use Rattle.std.proofs.lemmas.Option.{same_Some, slice_get-get_or}
 use Rattle.aeth_router.specs.Part.{after_of}
 use Rattle.aeth_router.specs.declared.part.Part.{Part}
-use Rattle.aeth_components.specs.Injecting.{marks_at}
-use Rattle.aeth_components.specs.Turns.{AreSendersMarked, sends_own}
+use Rattle.aeth_components.specs.Injecting.{AreInjecting}
+use Rattle.aeth_components.specs.Turns.{sends_own}
 use Rattle.aeth_components.proofs.AskedLemmas.{slot-own, slot-within}
 use Rattle.aeth_components.proofs.InjectLemmas.{InjectedTo, InjectedTo-first, InjectedTo-more}
-use Rattle.aeth_components.proofs.InjectLemmas.{InjectedTo-next, InjectedTo-parts, InjectedTo-until}
-use Rattle.aeth_components.proofs.InjectLemmas.{InjectedTo-wires, InjectedTo-woken}
-use Rattle.aeth_components.proofs.InjectingLemmas.{AreInjecting-below, AreInjecting-sends}
-use Rattle.aeth_components.proofs.MarkLemmas.{NextMarked, next-marked}
-use Rattle.aeth_components.proofs.OwnLemmas.{mute-passed, output-below}
+use Rattle.aeth_components.proofs.InjectLemmas.{InjectedTo-parts, InjectedTo-passed}
+use Rattle.aeth_components.proofs.InjectLemmas.{InjectedTo-until, InjectedTo-wires, InjectedTo-woken}
+use Rattle.aeth_components.proofs.OwnLemmas.{output-below}
+use Rattle.aeth_components.proofs.WokenLemmas.{AreInjecting-driven, AreInjecting-rested}
 use Rattle.aeth_components.proofs.injecting.inject.Given as given
 use Rattle.aeth_components.proofs.injecting.inject.Goals as goal
-use Rattle.aeth_components.proofs.injecting.inject.Goals.{After-at, After-index-parts-number, After-sends_in}
-use Rattle.aeth_components.proofs.injecting.inject.Goals.{In-Some}
+use Rattle.aeth_components.proofs.injecting.inject.Goals.{After-at-in-numbers, After-index-parts-number}
+use Rattle.aeth_components.proofs.injecting.inject.Goals.{After-index-parts-number-in-numbers}
+use Rattle.aeth_components.proofs.injecting.inject.Goals.{After-sends_in, else-not-sends_in, else-sends_in}
+use Rattle.aeth_components.proofs.injecting.inject.Goals.{then-not-sends_in, then-sends_in}
 
 -- None has driven yet.
-pub loop-number-init : goal.loop-number-init
-loop-number-init g c = record {
-  from = 0;
-  left = c.into_iter-number-iterator.ensures.into_iter_gives ∙ c.iter-number-items.ensures
-      ∙ ap (λ (marks : List ℕ). marked_from marks 0) c.at.ensures;
-  injected = InjectedTo-first c.args.cycle c.args.parts.now c.args.wires.now c.args.handing.now
-      c.args.steps.now c.requires.waiting;
-}
+pub numbers-init : goal.numbers-init
+numbers-init g c =
+    let next = c.next-number.ensures in
+    record {
+      injected = InjectedTo-passed
+          (InjectedTo-first c.args.cycle c.args.parts.now c.args.wires.now c.args.handing.now
+          c.args.steps.now c.requires.waiting)
+          c.args.injecting.now c.requires.injecting c.slot-slot.result c.next-number.result
+          c.slot-slot.ensures next.from (rw c.at.ensures at next.none);
+      within = next.end;
+      injecting = c.requires.injecting;
+      size = refl;
+    }
 
--- Who sends is marked in the slot.
-senders : (g : given.Over) (c : goal.After-at g) → AreSendersMarked c.args.cycle c.args.parts.now
-    (marks_at c.args.injecting.now.slots.items c.slot-slot.result)
-senders g c =
-    rw c.slot-slot.ensures (AreInjecting-sends c.args.cycle c.args.parts.now
-    c.args.injecting.now.slots.items c.requires.injecting)
-
--- The next marked number is that of a component.
-next : (g : given.Over) (c : goal.In-Some g)
-    → NextMarked (marks_at c.args.injecting.now.slots.items c.slot-slot.result)
-    c.loop-number.invariant.from c.in-Some.number c.next.new.self
-next g c = next-marked (sym c.loop-number.invariant.left ∙ c.in-Some.ensures.steps)
-
-within : (g : given.Over) (c : goal.In-Some g) → c.in-Some.number < length c.args.parts.now
+-- The marked component is as it was, and is asked for a slot of its own.
+within : (g : given.Over) (c : goal.After-index-parts-number g)
+    → c.numbers.number < length c.numbers.parts
 within g c =
-    AreInjecting-below c.args.cycle c.args.parts.now c.args.injecting.now.slots.items
-    c.requires.injecting c.in-Some.number (rw c.slot-slot.ensures at (next g c).is)
+    let size : length c.numbers.parts ≡ length c.args.parts.now = c.numbers.auto.parts in
+    omega (arith, c.numbers-test.true, size)
 
--- None of those up to it sends.
-upto : (g : given.Over) (c : goal.In-Some g) → InjectedTo c.args.cycle c.args.parts.now
-    c.args.wires.now c.args.handing.now c.args.steps.now c.in-Some.number c.loop-number.parts
-    c.loop-number.wires c.loop-number.handing c.loop-number.steps
-upto g c =
-    InjectedTo-until c.loop-number.invariant.injected c.in-Some.number (next g c).after
-    (mute-passed c.args.cycle c.args.parts.now
-    (marks_at c.args.injecting.now.slots.items c.slot-slot.result)
-    (senders g ((goal.at-In-Some g c).After-at)) (next g c))
+there : (g : given.Over) (c : goal.After-index-parts-number g) (default : Part)
+    → slice_get c.numbers.parts c.numbers.number ≡ Some (get_or c.numbers.parts c.numbers.number default)
+there g c default = slice_get-get_or c.numbers.parts c.numbers.number default (within g c)
 
-pub offset_bounds-parts-number : goal.offset_bounds-parts-number
-offset_bounds-parts-number g c =
-    omega (arith, within g ((goal.at.offset_bounds-parts-number g c).In-Some), c.requires.few)
+own : (g : given.Over) (c : goal.After-index-parts-number g)
+    → c.slot-slot.result ≡ c.args.cycle % length c.numbers.injecting.slots.items
+own g c = c.slot-slot.ensures ∙ ap (λ n. c.args.cycle % n) (sym c.numbers.invariant.size)
 
-pub bounds-parts-number : goal.bounds-parts-number
-bounds-parts-number g c =
-    rw c.loop-number.auto.parts (within g ((goal.at.bounds-parts-number g c).In-Some))
+pub sends_in-requires : goal.sends_in-requires
+sends_in-requires g c =
+    let index = (goal.at.sends_in-requires g c).After-index-parts-number in
+    slot-within c.args.cycle c.slot-slot.result c.numbers.parts c.numbers.injecting
+    c.numbers.invariant.injecting (own g index) c.numbers.number _
+    (there g index c.index-parts-number.result)
 
-pub offset_bounds-parts-number-then-sends_in : goal.offset_bounds-parts-number-then-sends_in
-offset_bounds-parts-number-then-sends_in g c =
-    let some = (goal.at.offset_bounds-parts-number-then-sends_in g c).In-Some in
-    omega (arith, within g some, c.requires.few)
-
-pub bounds-parts-number-then-sends_in : goal.bounds-parts-number-then-sends_in
-bounds-parts-number-then-sends_in g c =
-    rw c.loop-number.auto.parts (within g ((goal.at.bounds-parts-number-then-sends_in g c).In-Some))
-
-pub overflow_cast-number : goal.overflow_cast-number
-overflow_cast-number g c =
-    omega (arith, within g ((goal.at.overflow_cast-number g c).In-Some), c.requires.few)
+-- What it says is what it sends in the cycle.
+asked : (g : given.Over) (c : goal.After-sends_in g) (part : Part)
+    → slice_get c.numbers.parts c.numbers.number ≡ Some part
+    → sends_own c.args.cycle part ≡ c.sends_in.result
+asked g c part has =
+    let index = (goal.at-After-sends_in g c).After-index-parts-number in
+    let at = there g index c.index-parts-number.result in
+    ap (sends_own c.args.cycle) (same_Some part _ (sym has ∙ at))
+    ∙ sym (c.sends_in.ensures c.args.cycle (slot-own c.args.cycle c.slot-slot.result c.numbers.parts
+    c.numbers.injecting c.numbers.invariant.injecting (own g index) c.numbers.number _ at))
 
 -- Its outputs are wires.
 pub drive-requires : goal.drive-requires
 drive-requires g c = λ wire is.
-    let some = (goal.at.drive-requires g c).In-Some in
-    rw (upto g some).links (output-below c.args.parts.now (length c.args.wires.now) c.requires.wired
-    c.in-Some.number _
-    (InjectedTo-next (upto g some) c.index-parts-number-then-sends_in.result (within g some)) wire is)
+    let index = (goal.at.drive-requires g c).After-index-parts-number in
+    let injected = c.numbers.invariant.injected in
+    rw injected.links (output-below c.args.parts.now (length c.args.wires.now) c.requires.wired
+    c.numbers.number _
+    (sym (injected.behind c.numbers.number (omega arith))
+    ∙ there g index c.index-parts-number-then-sends_in.result) wire is)
 
--- It is as it was, and is asked for a slot of its own.
-same : (g : given.Over) (c : goal.After-index-parts-number g)
-    → slice_get c.args.parts.now c.in-Some.number
-    ≡ Some (get_or c.loop-number.parts c.in-Some.number c.index-parts-number.result)
-same g c =
-    let some = (goal.at-After-index-parts-number g c).In-Some in
-    InjectedTo-next (upto g some) c.index-parts-number.result (within g some)
-
-pub sends_in-requires : goal.sends_in-requires
-sends_in-requires g c =
-    slot-within c.args.cycle c.slot-slot.result c.args.parts.now c.args.injecting.now.slots.items
-    c.requires.injecting c.slot-slot.ensures c.in-Some.number _
-    (same g ((goal.at.sends_in-requires g c).After-index-parts-number))
-
--- What it says is what it sends in the cycle.
-asked : (g : given.Over) (c : goal.After-sends_in g) (part : Part)
-    → slice_get c.args.parts.now c.in-Some.number ≡ Some part
-    → sends_own c.args.cycle part ≡ c.sends_in.result
-asked g c part there =
-    let read = get_or c.loop-number.parts c.in-Some.number c.index-parts-number.result in
-    let same = same g ((goal.at-After-sends_in g c).After-index-parts-number) in
-    ap (sends_own c.args.cycle) (same_Some part read (sym there ∙ same))
-    ∙ sym (c.sends_in.ensures c.args.cycle (slot-own c.args.cycle c.slot-slot.result c.args.parts.now
-    c.args.injecting.now.slots.items c.requires.injecting c.slot-slot.ensures c.in-Some.number read same))
-
--- One more, which drives what it sends.
-pub loop-number-preserved-then-sends_in : goal.loop-number-preserved-then-sends_in
-loop-number-preserved-then-sends_in g c =
-    let number = c.in-Some.number in
-    let some = (goal.at.loop-number-preserved-then-sends_in g c).In-Some in
-    let after = (goal.at.loop-number-preserved-then-sends_in g c).After-sends_in in
-    let injected = upto g some in
-    let read = c.index-parts-number-then-sends_in.result in
-    let part = get_or c.loop-number.parts number read in
-    let at = InjectedTo-next injected read (within g some) in
-    record {
-      from = number + 1;
-      left = (next g some).behind;
-      injected = InjectedTo-more injected c.requires.wired at
-          (asked g after part at ∙ c.if-sends_in.true)
-          (c.drive.ensures.after ∙ ap (after_of part) c.from.ensures)
-          (rw c.from.ensures at c.drive.ensures.wires) c.wake.ensures c.tick.ensures;
-    }
-
--- One more, which sends nothing.
-pub loop-number-preserved : goal.loop-number-preserved
-loop-number-preserved g c =
-    let number = c.in-Some.number in
-    let some = (goal.at.loop-number-preserved g c).In-Some in
-    let after = (goal.at.loop-number-preserved g c).After-sends_in in
-    record {
-      from = number + 1;
-      left = (next g some).behind;
-      injected = InjectedTo-until (upto g some) (number + 1) (omega arith)
-          (λ other part there over below.
+-- It drives what it sends, or sends nothing.
+stepped : (g : given.Over) (c : goal.After-index-parts-number-in-numbers g)
+    → InjectedTo c.args.cycle c.args.parts.now c.args.wires.now c.args.handing.now c.args.steps.now
+    (c.numbers.number + 1) c.if-sends_in.parts c.if-sends_in.wires c.if-sends_in.handing
+    c.if-sends_in.steps
+stepped g c =
+    let number = c.numbers.number in
+    let asks = (goal.at-After-index-parts-number-in-numbers g c).After-sends_in in
+    let index = (goal.at-After-index-parts-number-in-numbers g c).After-index-parts-number in
+    let injected = c.numbers.invariant.injected in
+    let before = sym (injected.behind number (omega arith)) in
+    elim c.if-sends_in.branch [
+      | then-sends_in w ↦
+          let default = w.index-parts-number-then-sends_in.result in
+          let part = get_or c.numbers.parts number default in
+          rw (w.parts-is, w.wires-is, w.handing-is, w.steps-is) (InjectedTo-more injected
+          c.requires.wired (before ∙ there g index default)
+          (asked g asks part (there g index default) ∙ w.if-sends_in.true)
+          (w.drive.ensures.after ∙ ap (after_of part) w.from.ensures)
+          (rw w.from.ensures at w.drive.ensures.wires) w.wake.ensures w.tick.ensures)
+      | else-sends_in w ↦
+          rw (w.parts-is, w.wires-is, w.handing-is, w.steps-is) (InjectedTo-until injected
+          (number + 1) (omega arith)
+          (λ other found has over below.
           let same : other ≡ number = omega (arith, over, below) in
-          asked g after part (sym (ap (slice_get c.args.parts.now) same) ∙ there)
-          ∙ c.if-sends_in.false);
+          asked g asks found (injected.behind number (omega arith)
+          ∙ ap (slice_get c.args.parts.now) (sym same) ∙ has)
+          ∙ w.if-sends_in.false))
+    ]
+
+-- Each that may send is marked then.
+held : (g : given.Over) (c : goal.After-index-parts-number-in-numbers g)
+    → AreInjecting c.if-sends_in.parts c.numbers.injecting
+held g c =
+    let asks = (goal.at-After-index-parts-number-in-numbers g c).After-sends_in in
+    let index = (goal.at-After-index-parts-number-in-numbers g c).After-index-parts-number in
+    elim c.if-sends_in.branch [
+      | then-sends_in w ↦
+          let default = w.index-parts-number-then-sends_in.result in
+          let part = get_or c.numbers.parts c.numbers.number default in
+          rw w.parts-is (AreInjecting-driven c.args.cycle c.numbers.number part _ c.numbers.parts
+          c.numbers.injecting c.numbers.invariant.injecting (there g index default)
+          (asked g asks part (there g index default) ∙ w.if-sends_in.true)
+          (w.drive.ensures.after ∙ ap (after_of part) w.from.ensures))
+      | else-sends_in w ↦ rw w.parts-is c.numbers.invariant.injecting
+    ]
+
+-- It is asked once more.
+again : (g : given.Over) (c : goal.After-index-parts-number-in-numbers g)
+    → slice_get c.if-sends_in.parts c.numbers.number
+    ≡ Some (get_or c.if-sends_in.parts c.numbers.number c.index-parts-number-in-numbers.result)
+again g c =
+    let size : length c.if-sends_in.parts ≡ length c.numbers.parts = c.if-sends_in.auto.parts in
+    let below = within g ((goal.at-After-index-parts-number-in-numbers g c).After-index-parts-number) in
+    slice_get-get_or c.if-sends_in.parts c.numbers.number c.index-parts-number-in-numbers.result
+    (omega (arith, size, below))
+
+pub sends_in-requires-in-numbers : goal.sends_in-requires-in-numbers
+sends_in-requires-in-numbers g c =
+    let after = (goal.at.sends_in-requires-in-numbers g c).After-index-parts-number-in-numbers in
+    let index = (goal.at.sends_in-requires-in-numbers g c).After-index-parts-number in
+    slot-within c.args.cycle c.slot-slot.result c.if-sends_in.parts c.numbers.injecting (held g after)
+    (own g index) c.numbers.number _ (again g after)
+
+-- One that sends nothing more is marked no more.
+rested : (g : given.Over) (c : goal.After-at-in-numbers g)
+    → AreInjecting c.if-sends_in.parts c.if-not-sends_in.injecting
+rested g c =
+    let after = (goal.at-After-at-in-numbers g c).After-index-parts-number-in-numbers in
+    let index = (goal.at-After-at-in-numbers g c).After-index-parts-number in
+    let held = held g after in
+    let again = again g after in
+    let told = c.sends_in-in-numbers.ensures c.args.cycle (slot-own c.args.cycle c.slot-slot.result
+    c.if-sends_in.parts c.numbers.injecting held (own g index) c.numbers.number _ again) in
+    elim c.if-not-sends_in.branch [
+      | then-not-sends_in w ↦
+          let rest = w.rest.ensures in
+          rw w.injecting-is (AreInjecting-rested c.args.cycle c.slot-slot.result c.numbers.number _
+          c.if-sends_in.parts c.numbers.injecting w.rest.new.self held (own g index) again
+          (sym told ∙ w.if-not-sends_in.true) rest.entries rest.size rest.room rest.away rest.gone)
+      | else-not-sends_in w ↦ rw w.injecting-is held
+    ]
+
+sized : (g : given.Over) (c : goal.After-at-in-numbers g)
+    → length c.if-not-sends_in.injecting.slots.items ≡ length c.args.injecting.now.slots.items
+sized g c = elim c.if-not-sends_in.branch [
+  | then-not-sends_in w ↦ rw w.injecting-is (w.rest.ensures.size ∙ c.numbers.invariant.size)
+  | else-not-sends_in w ↦ rw w.injecting-is c.numbers.invariant.size
+]
+
+-- One more, and none up to the next that is marked sends.
+pub numbers-preserved : goal.numbers-preserved
+numbers-preserved g c =
+    let at = (goal.at.numbers-preserved g c).After-at-in-numbers in
+    let after = (goal.at.numbers-preserved g c).After-index-parts-number-in-numbers in
+    let next = c.next-number-in-numbers.ensures in
+    let injecting = rested g at in
+    let size = sized g at in
+    record {
+      injected = InjectedTo-passed (stepped g after) c.if-not-sends_in.injecting injecting
+          c.slot-slot.result c.next-number-in-numbers.result
+          (c.slot-slot.ensures ∙ ap (λ n. c.args.cycle % n) (sym size)) next.from
+          (rw c.at-in-numbers.ensures at next.none);
+      within = next.end;
+      injecting = injecting;
+      size = size;
     }
 
 -- All have, and no other component sends.
 pub returns-clause-parts : goal.returns-clause-parts
 returns-clause-parts g c =
-    let done = c.loop-number.invariant in
-    InjectedTo-parts done.injected (marks_at c.args.injecting.now.slots.items c.slot-slot.result)
-    (senders g ((goal.at.returns-clause-parts g c).After-at))
-    (sym done.left ∙ c.in-None.ensures.steps.0)
+    InjectedTo-parts c.numbers.invariant.injected (omega (arith, c.numbers-test.false))
 
 pub returns-clause-wires : goal.returns-clause-wires
 returns-clause-wires g c =
-    let done = c.loop-number.invariant in
-    InjectedTo-wires done.injected (marks_at c.args.injecting.now.slots.items c.slot-slot.result)
-    (senders g ((goal.at.returns-clause-wires g c).After-at))
-    (sym done.left ∙ c.in-None.ensures.steps.0)
+    InjectedTo-wires c.numbers.invariant.injected (omega (arith, c.numbers-test.false))
 
 pub returns-clause-handing : goal.returns-clause-handing
 returns-clause-handing g c =
-    let done = c.loop-number.invariant in
-    InjectedTo-woken done.injected (marks_at c.args.injecting.now.slots.items c.slot-slot.result)
-    (senders g ((goal.at.returns-clause-handing g c).After-at))
-    (sym done.left ∙ c.in-None.ensures.steps.0)
+    InjectedTo-woken c.numbers.invariant.injected (omega (arith, c.numbers-test.false))

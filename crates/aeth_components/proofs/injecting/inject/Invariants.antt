@@ -1,14 +1,17 @@
-use Rattle.std.proofs.Common.{◌≡◌, ℕ}
-use Rattle.aeth_base.specs.Marks.{marked_from}
-use Rattle.aeth_components.specs.Injecting.{marks_at}
+use Rattle.std.proofs.Common.{◌≡◌, ◌≤◌, ◌-◌, length}
+use Rattle.aeth_components.specs.Injecting.{AreInjecting}
 use Rattle.aeth_components.proofs.InjectLemmas.{InjectedTo}
 use Rattle.aeth_components.proofs.injecting.inject.Given as goal
 
--- The marked components so far have driven what they send, and who waits there is woken.
-abbrev pub invariant-loop-number : goal.invariant-loop-number
-invariant-loop-number g l = record {
-  from : ℕ;
-  left : l.number-iterator ≡ marked_from (marks_at l.fn.injecting.slots.items l.slot) from;
-  injected : InjectedTo l.cycle l.fn.parts l.fn.wires l.fn.handing l.fn.steps from l.parts l.wires
+-- The components so far have driven what they send, and who waits there is woken.
+abbrev pub invariant-numbers : goal.invariant-numbers
+invariant-numbers g l = record {
+  injected : InjectedTo l.cycle l.fn.parts l.fn.wires l.fn.handing l.fn.steps l.number l.parts l.wires
       l.handing l.steps;
+  within : l.number ≤ length l.fn.parts;
+  injecting : AreInjecting l.parts l.injecting;
+  size : length l.injecting.slots.items ≡ length l.fn.injecting.slots.items;
 }
+
+abbrev pub decreases-numbers : goal.decreases-numbers
+decreases-numbers g l = l.end - l.number

@@ -17,7 +17,9 @@ use Rattle.aeth_components.proofs.ForwardedLemmas.{ForwardedTo-kept, ForwardedTo
 use Rattle.aeth_components.proofs.ForwardedLemmas.{ForwardedTo-passed, ForwardedTo-until}
 use Rattle.aeth_components.proofs.LandedLemmas.{Lands, counts-more, counts-past, flits_landed-more}
 use Rattle.aeth_components.proofs.LandedLemmas.{flits_landed-past, notes-more, notes-past, receiver-at}
+use Rattle.aeth_components.proofs.InjectingLemmas.{HasPlaces-part}
 use Rattle.aeth_components.proofs.LandedLemmas.{receiver-stays}
+use Rattle.aeth_components.proofs.WokenLemmas.{AreInjecting-latched}
 use Rattle.aeth_components.proofs.OwnLemmas.{output-below}
 use Rattle.aeth_components.proofs.TakenLemmas.{OneMore-next, flit_on-all, flits_counted-next}
 use Rattle.aeth_components.proofs.TakenLemmas.{flits_on-all, flits_on-few, flits_on-next}
@@ -72,6 +74,7 @@ loop-wire-init g c =
       left = c.into_iter-wire-iterator.ensures.into_iter_gives ∙ c.used-wire-items.ensures;
       within = omega arith;
       parts = flits_landed-none parts;
+      injecting = c.requires.injecting;
       lanes = counts-none parts latched c.args.cycle lanes;
       words = refl;
       landings = notes-none parts latched c.args.cycle lanes c.args.counts.now.landings.items;
@@ -119,11 +122,21 @@ offset_bounds-parts-number-else-number-interfaces g c =
     let some = (goal.at.offset_bounds-parts-number-else-number-interfaces g c).In-Some in
     omega (arith, within g some, few g some)
 
+there : (g : given.Over) (c : In-Some g)
+    → get_or c.deref-receivers.result.now c.in-Some.wire 0 < length c.loop-wire.parts
+there g c = rw c.loop-wire.auto.parts (within g c)
+
+pub wake_told-requires : goal.wake_told-requires
+wake_told-requires g c =
+    HasPlaces-part c.loop-wire.parts (get_or c.deref-receivers.result.now c.in-Some.wire 0)
+    c.loop-wire.injecting c.loop-wire.invariant.injecting
+    (there g ((goal.at.wake_told-requires g c).In-Some))
+
 pub count_at-requires-clause-number : goal.count_at-requires-clause-number
 count_at-requires-clause-number g c =
     rw (
       length-set c.loop-wire.parts (get_or c.deref-receivers.result.now c.in-Some.wire 0)
-          c.latch_one.new.part,
+          c.latch_one-told.new.part,
       c.loop-wire.auto.parts,
     )
     (within g ((goal.at.count_at-requires-clause-number g c).In-Some))
@@ -132,7 +145,7 @@ pub count_at-requires-clause-few : goal.count_at-requires-clause-few
 count_at-requires-clause-few g c =
     rw (
       length-set c.loop-wire.parts (get_or c.deref-receivers.result.now c.in-Some.wire 0)
-          c.latch_one.new.part,
+          c.latch_one-told.new.part,
       c.loop-wire.auto.parts,
     )
     (few g ((goal.at.count_at-requires-clause-few g c).In-Some))
@@ -151,8 +164,8 @@ count_at-requires-clause-lanes g c =
     ∙ length-notes_among c.args.cycle latched before c.args.channels.now.lanes
     c.args.counts.now.landings.items in
     let number = get_or c.deref-receivers.result.now c.in-Some.wire 0 in
-    let count : length (set c.loop-wire.parts number c.latch_one.new.part) ≡ length parts =
-    length-set c.loop-wire.parts number c.latch_one.new.part ∙ c.loop-wire.auto.parts in
+    let count : length (set c.loop-wire.parts number c.latch_one-told.new.part) ≡ length parts =
+    length-set c.loop-wire.parts number c.latch_one-told.new.part ∙ c.loop-wire.auto.parts in
     rw (size, count, done.lanes)
     (All-map (IsLane words (length parts)) (counted_among before c.args.cycle latched)
     c.args.channels.now.lanes
@@ -236,9 +249,9 @@ loop-wire-preserved g c =
     elim c.if-number-interfaces.branch [
       | then-number-interfaces w ↦
           let less = w.if-number-interfaces.true in
-          let now = set c.loop-wire.parts number w.latch_one.new.part in
+          let now = set c.loop-wire.parts number w.latch_one-told.new.part in
           let more = flits_landed-more lands less w.index-parts-number.result done.parts
-          w.latch_one.ensures in
+          w.latch_one-told.ensures.part in
           let list = c.loop-wire.counts.landings in
           let read = w.deref_mut-then-number-interfaces.ensures.value in
           record {
@@ -246,6 +259,11 @@ loop-wire-preserved g c =
             left = next.behind;
             within = omega (arith, below);
             parts = w.parts-is ∙ more;
+            injecting = rw (w.parts-is, w.injecting-is) (AreInjecting-latched c.loop-wire.parts number
+                c.flit-flit.result w.index-parts-number.result w.latch_one-told.new.part
+                w.latch_one-told.result c.loop-wire.injecting w.wake_told.new.self (there g some)
+                w.latch_one-told.ensures.part w.latch_one-told.ensures.told done.injecting
+                w.wake_told.ensures);
             lanes = ap (λ (channels : ChannelsState). channels.lanes) w.channels-is
                 ∙ w.count_at.ensures.lanes
                 ∙ ap (map (counted_among (λ i. i == number) cycle now)) done.lanes
@@ -272,6 +290,7 @@ loop-wire-preserved g c =
             left = next.behind;
             within = omega (arith, below);
             parts = w.parts-is ∙ done.parts ∙ flits_landed-past lands over;
+            injecting = rw (w.parts-is, w.injecting-is) done.injecting;
             lanes = ap (λ (channels : ChannelsState). channels.lanes) w.channels-is ∙ done.lanes
                 ∙ counts-past lands over cycle lanes;
             words = ap (λ (channels : ChannelsState). channels.words) w.channels-is ∙ done.words;
@@ -325,7 +344,11 @@ returns-clause-flits g c =
 pub returns-clause-turns : goal.returns-clause-turns
 returns-clause-turns g c =
     let done = c.loop-wire.invariant in
-    ap (λ flits. record c.args.turns.now { onward = c.loop-wire.onward; flits = flits })
+    ap (λ flits. record c.args.turns.now {
+      onward = c.loop-wire.onward;
+      injecting = c.loop-wire.injecting;
+      flits = flits;
+    })
     (done.all ∙ flits_on-all c.args.wires.now done.from done.within (all g c))
 
 pub returns-clause-forwarded : goal.returns-clause-forwarded

@@ -2,6 +2,7 @@ use Rattle.std.proofs.Common.{◌≡◌, ◌≤◌, ◌<◌, ◌+◌, ℕ, fold,
 use Rattle.aeth_clocked.specs.Wires.{used_from}
 use Rattle.aeth_router.specs.Onward.{CameFrom, arrival_at}
 use Rattle.aeth_components.specs.Counting.{counted_among, flits_counted, noted_among}
+use Rattle.aeth_components.specs.Injecting.{AreInjecting}
 use Rattle.aeth_components.specs.Passing.{forwarded_from, way_of}
 use Rattle.aeth_components.specs.Seen.{flits_landed, interfaces_latched}
 use Rattle.aeth_components.specs.Turns.{flits_on}
@@ -18,6 +19,7 @@ invariant-loop-wire g l =
       left : l.wire-iterator ≡ used_from wires from;
       within : from ≤ length wires;
       parts : l.parts ≡ flits_landed (take from wires) l.fn.parts;
+      injecting : AreInjecting l.parts l.injecting;
       lanes : l.channels.lanes
           ≡ map (counted_among (came_to (take from wires) l.fn.parts) l.cycle latched)
           l.fn.channels.lanes;

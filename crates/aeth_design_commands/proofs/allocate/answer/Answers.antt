@@ -2,7 +2,7 @@ use Rattle.std.proofs.lemmas.Result.{err_from_is_err_and}
 use Rattle.aeth_alloc.specs.Allocation.{allocation}
 use Rattle.aeth_alloc.specs.Prices.{prices_of}
 use Rattle.aeth_group.specs.Members.{groups_of}
-use Rattle.aeth_playing.specs.declared.inputs.Design.{Design}
+use Rattle.aeth_plan.specs.declared.design.Design.{Design}
 use Rattle.aeth_answers.specs.Places.{files_of}
 use Rattle.aeth_answers.specs.Task.{Task, ends}
 use Rattle.aeth_answers.proofs.FileLemmas.{Answers-ended, Answers-stopped, Answers-then}

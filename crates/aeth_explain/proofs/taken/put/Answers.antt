@@ -1,4 +1,4 @@
-use Rattle.std.proofs.Common.{◌≡◌, ◌<◌, ◌+◌, ◌*◌, ◌∙◌, get_or, length, true, sym, ap, subst, arith}
+use Rattle.std.proofs.Common.{◌<◌, ◌+◌, ◌*◌, ◌∙◌, length, true, sym, ap, arith}
 use Rattle.aeth_base.specs.declared.ids.LinkId.{LinkId}
 use Rattle.aeth_slots.specs.SlotSet.{Slots, joined}
 use Rattle.aeth_group.proofs.ListLemmas.{all_at}
@@ -12,22 +12,23 @@ join-requires c =
     let k = c.link-link.result.0 in
     let low : k < length links =
     all_at (λ (k : LinkId). k.0 < length links) _ _ _ c.requires.grant.path c.link-link.ensures in
-    let place : 0 * length links + k ≡ k = omega arith in
-    let within : 0 * length links + k < length c.loop-i.masks =
-    omega (arith, place, low, c.requires.count, c.loop-i.auto.masks) in
-    rw place at (mask_size c.args.chip.now.slots (length links) c.loop-i.masks 0 k
-    c.index-masks-at.result
+    let within : c.args.row * length links + k < length c.loop-i.masks =
+    omega (arith, low, c.requires.row, c.loop-i.auto.masks) in
+    rw c.links.ensures.links (mask_size c.args.chip.now.slots (length links) c.loop-i.masks c.args.row
+    k c.index-masks-at.result
     (still_table c.args.chip.now.slots (length links) _ true c.args.masks.now c.loop-i.masks
     c.loop-i.invariant c.requires.table) low within)
     ∙ sym c.requires.grant.slots ∙ sym (ap (λ (s : Slots). s.size) c.rotate-slots.ensures)
 
--- There is a mask for the link.
+-- The row lies within the table.
 pub bounds-masks-at-in-loop-i : goal.bounds-masks-at-in-loop-i
 bounds-masks-at-in-loop-i c =
-    let low : c.link-link.result.0 < length c.args.chip.now.links =
-    all_at (λ (k : LinkId). k.0 < length c.args.chip.now.links) _ _ _ c.requires.grant.path
-    c.link-link.ensures in
-    omega (arith, low, c.requires.count, c.loop-i.auto.masks)
+    let links = c.args.chip.now.links in
+    let low : c.link-link.result.0 < length links =
+    all_at (λ (k : LinkId). k.0 < length links) _ _ _ c.requires.grant.path c.link-link.ensures in
+    let within : c.args.row * length links + c.link-link.result.0 < length c.loop-i.masks =
+    omega (arith, low, c.requires.row, c.loop-i.auto.masks) in
+    rw c.links.ensures.links within
 
 -- The mask has the slots.
 pub loop-i-preserved : goal.loop-i-preserved
@@ -36,14 +37,13 @@ loop-i-preserved c =
     let k = c.link-link.result.0 in
     let low : k < length links =
     all_at (λ (k : LinkId). k.0 < length links) _ _ _ c.requires.grant.path c.link-link.ensures in
-    let place : 0 * length links + k ≡ k = omega arith in
-    let within : 0 * length links + k < length c.loop-i.masks =
-    omega (arith, place, low, c.requires.count, c.loop-i.auto.masks) in
-    let at = subst (λ n. c.index-masks-at.result ≡ get_or c.loop-i.masks n c.index-masks-at.result)
-    (sym place) c.index-masks-at.is in
-    rw place at (row_step c.args.chip.now.slots c.args.grant.now.slots links 0
+    let within : c.args.row * length links + k < length c.loop-i.masks =
+    omega (arith, low, c.requires.row, c.loop-i.auto.masks) in
+    let at = rw c.links.ensures.links at c.index-masks-at.is in
+    rw c.links.ensures.links (row_step c.args.chip.now.slots c.args.grant.now.slots links c.args.row
     c.args.grant.now.path c.loop-i.i c.link-link.result c.offset.result true c.args.masks.now
     c.loop-i.masks c.index-masks-at.result c.rotate-slots.result c.join.result c.link-link.ensures
     c.offset.ensures.offset low within at c.rotate-slots.ensures
-    (c.join.ensures ∙ ap (λ m. joined m c.rotate-slots.result) (sym c.index-masks-at.is))
+    (rw c.links.ensures.links at c.join.ensures
+    ∙ ap (λ m. joined m c.rotate-slots.result) (sym at))
     c.loop-i.invariant)

@@ -6,4 +6,4 @@ use Rattle.aeth_explain.proofs.taken.put.Given as goal
 abbrev pub invariant-loop-i : goal.invariant-loop-i
 invariant-loop-i l =
     Changes l.chip.slots (length l.chip.links)
-    (hits_row l.grant.slots l.chip.links 0 (take l.i l.grant.path)) true l.fn.masks l.masks
+    (hits_row l.grant.slots l.chip.links l.row (take l.i l.grant.path)) true l.fn.masks l.masks

@@ -8,7 +8,7 @@ use Rattle.aeth_answers.specs.Task.{Task, ends}
 use Rattle.aeth_answers.proofs.FileLemmas.{Answers-ended, Answers-stopped, Answers-then}
 use Rattle.aeth_base.specs.declared.ids.LinkId.{LinkId}
 use Rattle.aeth_paths.specs.Trials.{TrialData}
-use Rattle.aeth_playing.specs.declared.inputs.Design.{Design}
+use Rattle.aeth_plan.specs.declared.design.Design.{Design}
 use Rattle.aeth_explain_commands.specs.Explain.{cert_file, refused_tries, verdicts_job}
 use Rattle.aeth_explain_commands.proofs.VerdictJobs.{verdicts_job-is}
 use Rattle.aeth_explain_commands.proofs.confirm.judged_answer.Goals as goal

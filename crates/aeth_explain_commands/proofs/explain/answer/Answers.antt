@@ -4,7 +4,7 @@ use Rattle.aeth_answers.specs.Places.{files_of}
 use Rattle.aeth_answers.specs.Task.{Task, ends}
 use Rattle.aeth_answers.proofs.FileLemmas.{Answers-done, Answers-stopped, Answers-then}
 use Rattle.aeth_files.specs.Files.{design_file}
-use Rattle.aeth_playing.specs.declared.inputs.Design.{Design}
+use Rattle.aeth_plan.specs.declared.design.Design.{Design}
 use Rattle.aeth_explain_commands.specs.Explain.{explanation}
 use Rattle.aeth_explain_commands.proofs.explain.answer.Goals as goal
 

@@ -1,7 +1,7 @@
 use Rattle.std.proofs.Common.{refl}
 use Rattle.std.proofs.lemmas.Result.{err_from_is_err_and}
 use Rattle.aeth_plan.specs.Plan.{PlanData}
-use Rattle.aeth_playing.specs.declared.inputs.Planned.{Planned}
+use Rattle.aeth_plan.specs.declared.design.Planned.{Planned}
 use Rattle.aeth_answers.specs.Places.{files_of}
 use Rattle.aeth_answers.specs.Task.{Judging}
 use Rattle.aeth_answers.proofs.FileLemmas.{Judges-made, Judges-stopped, Judges-then}

@@ -22,4 +22,4 @@ returns-clause-run c =
     let routing = routing_in c.args.tables in
     IfOk-weaker c.with_given.result
     (λ (network : NetworkState). network ≡ first_network inputs routing) (IsNetworkOf inputs)
-    (first-of inputs c.are_accepted.ensures routing c.requires) (returns-clause-first c)
+    (first-of inputs c.are_accepted.ensures routing c.requires.routed) (returns-clause-first c)

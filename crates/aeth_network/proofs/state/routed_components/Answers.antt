@@ -11,7 +11,7 @@ use Rattle.aeth_running.proofs.PlayedTables.{first-fit, tables-take}
 use Rattle.aeth_running.proofs.RouterTables.{tables-loaded}
 use Rattle.aeth_running.specs.Routing.{entered_first, first_rows, kind_of}
 use Rattle.aeth_stimuli.specs.Loaded.{loaded_as}
-use Rattle.aeth_events.proofs.FittingEvents.{rooms-counted}
+use Rattle.aeth_stimuli.proofs.FittingEvents.{rooms-counted}
 use Rattle.aeth_network.specs.Routes.{routing_in}
 use Rattle.aeth_network.proofs.FirstNetwork.{loaded-doable}
 use Rattle.aeth_network.proofs.state.routed_components.Goals as goal

@@ -1,12 +1,13 @@
-use Rattle.std.proofs.Common.{◌≡◌, ◌<◌, ◌++◌, drop, map}
-use Rattle.aeth_schedule.specs.Switching.{switches_from}
-use Rattle.aeth_network.specs.Routes.{entered_by}
+use Rattle.std.proofs.Common.{◌≡◌, ◌++◌, length}
+use Rattle.aeth_network.specs.Routes.{entered_in}
 use Rattle.aeth_network.proofs.tables.push_uses.Given as goal
 
 -- The use cases of the switches that are left are still to be appended.
-abbrev pub invariant-loop-row : goal.invariant-loop-row
-invariant-loop-row l = record {
-  from : l.from.0 < l.spans.uses;
-  uses : l.uses.items ++ map (entered_by l.spans) (switches_from l.from.0 (drop l.row-index l.rows))
-      ≡ l.fn.uses.items ++ map (entered_by l.spans) (switches_from l.fn.first.0 l.rows);
-}
+abbrev pub invariant-switches : goal.invariant-switches
+invariant-switches l =
+    l.uses.items ++ entered_in l.windows_left l.rows_left
+    ≡ l.fn.uses.items ++ entered_in l.windows l.rows
+
+-- Fewer are left.
+abbrev pub decreases-switches : goal.decreases-switches
+decreases-switches l = length l.windows_left

@@ -8,8 +8,8 @@ use Rattle.aeth_paths.proofs.LeastLemmas.{read-least}
 use Rattle.aeth_paths.proofs.least.least_onward.Goals as goal
 
 -- The entry of a router.
-pub returns-in-Router-clause-leads : goal.returns-in-Router-clause-leads
-returns-in-Router-clause-leads c router path =
+pub returns-in-Router : goal.returns-in-Router
+returns-in-Router c router path =
     let task = c.args.task.now in
     let chip = task.chip.now in
     let f : Field = field task.book.now task.prices.now task.ask c.args.ni c.args.most in

@@ -31,5 +31,5 @@ returns c =
     (omega (arith, c.entry.ensures, c.requires.goal.costs c.args.link.0))
     (omega (arith, c.saturating_sub-left.ensures, c.len.ensures.len))
     (subst (λ (n : Node). is_router n ≡ true → (longer : List LinkId)
-    → CostsAtLeast f n longer c.saturating_sub-left.result told.result) ends told.ensures.leads)
+    → CostsAtLeast f n longer c.saturating_sub-left.result told.result) ends told.ensures)
     (omega arith)

@@ -6,7 +6,7 @@ use Rattle.aeth_trace.specs.declared.switches.SwitchRow.{SwitchRow}
 use Rattle.aeth_answers.specs.Places.{files_of}
 use Rattle.aeth_answers.proofs.FileLemmas.{Answers-stopped, Answers-then}
 use Rattle.aeth_plan_commands.specs.Audit.{log_task}
-use Rattle.aeth_files.specs.Files.{switches_file}
+use Rattle.aeth_run_files.specs.TraceFiles.{switches_file}
 use Rattle.aeth_plan_commands.proofs.audit.switched_answer.Goals as goal
 
 -- There are no switches.

@@ -1,5 +1,5 @@
 use Rattle.std.proofs.lemmas.Result.{err_from_is_err_and}
-use Rattle.aeth_playing.specs.declared.inputs.Design.{Design}
+use Rattle.aeth_plan.specs.declared.design.Design.{Design}
 use Rattle.aeth_answers.specs.Places.{files_of}
 use Rattle.aeth_answers.proofs.FileLemmas.{Answers-stopped, Answers-then}
 use Rattle.aeth_files.specs.Files.{design_file}

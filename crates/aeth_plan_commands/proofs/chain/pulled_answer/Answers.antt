@@ -6,11 +6,11 @@ use Rattle.aeth_trace.specs.declared.receivers.PullRow.{PullRow}
 use Rattle.aeth_chain.specs.Chain.{bound_of, legs_of}
 use Rattle.aeth_chain.specs.ChainRun.{chain_log}
 use Rattle.aeth_chain.specs.ChainText.{chain_text}
-use Rattle.aeth_chain_items.specs.Shapes.{shapes_in}
+use Rattle.aeth_chain.specs.Shapes.{shapes_in}
 use Rattle.aeth_answers.specs.Places.{files_of}
 use Rattle.aeth_answers.specs.Task.{ends}
 use Rattle.aeth_answers.proofs.FileLemmas.{Answers-done, Answers-stopped, Answers-then}
-use Rattle.aeth_files.specs.Files.{receivers_file}
+use Rattle.aeth_run_files.specs.TraceFiles.{receivers_file}
 use Rattle.aeth_plan_commands.specs.Chain.{chain_job}
 use Rattle.aeth_plan_commands.proofs.chain.pulled_answer.Goals as goal
 

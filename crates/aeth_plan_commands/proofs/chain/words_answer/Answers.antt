@@ -3,7 +3,7 @@ use Rattle.std.proofs.lemmas.Result.{err_from_is_err_and}
 use Rattle.aeth_trace.specs.declared.words.WordRow.{WordRow}
 use Rattle.aeth_answers.specs.Places.{files_of}
 use Rattle.aeth_answers.proofs.FileLemmas.{Answers-stopped, Answers-then}
-use Rattle.aeth_files.specs.Files.{words_file}
+use Rattle.aeth_run_files.specs.TraceFiles.{words_file}
 use Rattle.aeth_plan_commands.specs.Chain.{pulled_task}
 use Rattle.aeth_plan_commands.proofs.chain.words_answer.Goals as goal
 

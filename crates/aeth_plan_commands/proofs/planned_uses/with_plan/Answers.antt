@@ -2,8 +2,8 @@ use Rattle.std.proofs.Common.{refl}
 use Rattle.std.proofs.lemmas.Result.{err_from_is_err_and}
 use Rattle.aeth_base.specs.declared.ids.UseId.{UseId}
 use Rattle.aeth_plan.specs.Plan.{PlanData}
-use Rattle.aeth_playing.specs.declared.inputs.Design.{Design}
-use Rattle.aeth_playing.specs.declared.inputs.Planned.{Planned}
+use Rattle.aeth_plan.specs.declared.design.Design.{Design}
+use Rattle.aeth_plan.specs.declared.design.Planned.{Planned}
 use Rattle.aeth_answers.specs.Places.{files_of}
 use Rattle.aeth_answers.proofs.FileLemmas.{Judges-made, Judges-stopped}
 use Rattle.aeth_files.specs.Plans.{accepted_file}

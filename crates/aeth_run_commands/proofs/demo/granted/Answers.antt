@@ -1,7 +1,7 @@
 use Rattle.std.proofs.Common.{subst}
 use Rattle.aeth_alloc.specs.Allocation.{OutcomeData}
 use Rattle.aeth_alloc.specs.Prices.{prices_of}
-use Rattle.aeth_playing.specs.declared.inputs.Planned.{Planned}
+use Rattle.aeth_plan.specs.declared.design.Planned.{Planned}
 use Rattle.aeth_answers.specs.Stop.{Judges}
 use Rattle.aeth_run_commands.specs.Demo.{on_refusals}
 use Rattle.aeth_run_commands.proofs.DemoLemmas.{granted_groups, granted_design, outcome_is}

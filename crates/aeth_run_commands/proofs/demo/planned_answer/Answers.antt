@@ -1,5 +1,5 @@
 use Rattle.std.proofs.lemmas.Result.{err_from_is_err_and}
-use Rattle.aeth_playing.specs.declared.inputs.Planned.{Planned}
+use Rattle.aeth_plan.specs.declared.design.Planned.{Planned}
 use Rattle.aeth_answers.proofs.FileLemmas.{Answers-stopped, Answers-then}
 use Rattle.aeth_run_commands.specs.Demo.{granted_plan, traced_demo}
 use Rattle.aeth_run_commands.proofs.demo.planned_answer.Goals as goal

@@ -8,9 +8,9 @@ use Rattle.aeth_trace.specs.Receivers.{receivers_of}
 use Rattle.aeth_trace.specs.Switches.{switches_of}
 use Rattle.aeth_trace.specs.Words.{words_of}
 use Rattle.aeth_answers.specs.Files.{judgement}
-use Rattle.aeth_files.proofs.RunLemmas.{are_accepted}
-use Rattle.aeth_files.proofs.TraceLemmas.{all_three-given, all_three-no_pulls, all_three-no_switches}
-use Rattle.aeth_files.proofs.TraceLemmas.{all_three-no_words}
+use Rattle.aeth_run_files.proofs.RunLemmas.{are_accepted}
+use Rattle.aeth_run_files.proofs.TraceLemmas.{all_three-given, all_three-no_pulls, all_three-no_switches}
+use Rattle.aeth_run_files.proofs.TraceLemmas.{all_three-no_words}
 use Rattle.aeth_run_commands.proofs.demo.traces_in.Goals as goal
 
 -- There are no words.

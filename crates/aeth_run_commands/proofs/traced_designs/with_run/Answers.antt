@@ -1,9 +1,9 @@
 use Rattle.std.proofs.Common.{refl}
 use Rattle.std.proofs.lemmas.Result.{err_from_is_err_and}
-use Rattle.aeth_playing.specs.declared.inputs.Design.{Design}
+use Rattle.aeth_plan.specs.declared.design.Design.{Design}
 use Rattle.aeth_answers.specs.Places.{files_of}
 use Rattle.aeth_answers.proofs.FileLemmas.{Judges-made, Judges-stopped}
-use Rattle.aeth_files.specs.Runs.{RunData, data_of, run_files}
+use Rattle.aeth_run_files.specs.Runs.{RunData, data_of, run_files}
 use Rattle.aeth_run_commands.specs.TracedDesigns.{TracedData, seen_traced}
 use Rattle.aeth_run_commands.proofs.traced_designs.with_run.Goals as goal
 

@@ -10,8 +10,8 @@ use Rattle.aeth_table_network.proofs.Tables.{tables-listed}
 use Rattle.aeth_table_network.proofs.rows.tables_of.Goals as goal
 
 -- There are rows of each use case.
-pub of-requires : goal.of-requires
-of-requires c =
+pub of-requires-clause-tables : goal.of-requires-clause-tables
+of-requires-clause-tables c =
     let inputs = c.args.inputs.now in
     ap length c.in_ok-all.ensures
     ∙ length-map-range_with_len (rows_of_use inputs) 0 (length inputs.app.uses)

@@ -2,7 +2,7 @@ use Rattle.std.proofs.Common.{◌∙◌, ◌++◌, ap, arith, sym}
 use Rattle.std.specs.Prelude.{flat_map}
 use Rattle.std.specs.List.{range_with_len}
 use Rattle.aeth_tables.specs.Buffers.{buffers_in, buffers_of}
-use Rattle.aeth_tables.proofs.DesignLaws.{design_of}
+use Rattle.aeth_plan.proofs.DesignLaws.{design_of}
 use Rattle.aeth_tables.proofs.TextLaws.{flat_map-more}
 use Rattle.aeth_tables.proofs.buffering.buffers.Goals as goal
 

@@ -1,7 +1,7 @@
 use Rattle.std.proofs.Common.{◌≡◌, ◌∙◌, Some, slice_get, true, sym, ap, subst}
 use Rattle.std.proofs.lemmas.Option.{same_Some, slice_get-get_or}
 use Rattle.aeth_group.specs.declared.grant.Grant.{Grant}
-use Rattle.aeth_check.specs.Channels.{is_for}
+use Rattle.aeth_plan.specs.UnitGrants.{is_for}
 use Rattle.aeth_tables.proofs.SearchLaws.{grant-only}
 use Rattle.aeth_tables.proofs.finding.grant_near.Goals as goal
 

@@ -30,6 +30,7 @@ turns-init c =
       words = refl;
       within = next.end;
       handing = c.requires.handing;
+      injecting = c.requires.injecting;
       marked = next.found;
     }
 
@@ -54,6 +55,7 @@ turns-preserved c =
       words = c.refill_one.ensures.words ∙ c.turns.invariant.words;
       within = next.end;
       handing = c.refill_one.ensures.handing;
+      injecting = c.refill_one.ensures.injecting;
       marked = next.found;
     }
 

@@ -4,6 +4,7 @@ use Rattle.aeth_components.proofs.channels.Channels.refill.Given as goal
 use Rattle.aeth_components.proofs.SkipLemmas.{HaveTurned}
 use Rattle.aeth_components.specs.Phases.{refilled}
 use Rattle.aeth_components.specs.Handing.{AreHanding}
+use Rattle.aeth_components.specs.Injecting.{AreInjecting}
 
 -- The channels so far have had their turns.
 abbrev pub invariant-turns : goal.invariant-turns
@@ -13,6 +14,7 @@ invariant-turns l = record {
   words : l.self.words ≡ l.fn.self.words;
   within : l.number ≤ length l.self.lanes;
   handing : AreHanding l.parts l.self.lanes l.handing;
+  injecting : AreInjecting l.parts l.injecting;
   marked : l.number < length l.self.lanes → bit_of l.handing.marks l.number ≡ 1;
 }
 

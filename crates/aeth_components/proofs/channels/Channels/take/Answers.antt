@@ -23,13 +23,14 @@ turns-init c =
           c.next_taking-number.result next.still);
       words = refl;
       within = next.end;
+      injecting = c.requires.injecting;
     }
 
 -- What holds of each channel before the first turn, still holds.
 pub take_one-requires-clause-lanes : goal.take_one-requires-clause-lanes
 take_one-requires-clause-lanes c =
     rw (c.turns.invariant.words, c.turns.auto.parts) (HaveTurned-sound c.turns.invariant.turns
-    (IsLane-pulled (length c.args.self.now.words) c.args.cycle (length c.args.parts.now)) c.requires)
+    (IsLane-pulled (length c.args.self.now.words) c.args.cycle (length c.args.parts.now)) c.requires.lanes)
 
 -- One channel more has had its turn, and the receivers of those up to the next one that is
 -- marked take nothing.
@@ -43,6 +44,7 @@ turns-preserved c =
           (c.turns.number + 1) c.next_taking-number-in-turns.result next.still);
       words = c.take_one.ensures.words ∙ c.turns.invariant.words;
       within = next.end;
+      injecting = c.take_one.ensures.injecting;
     }
 
 -- All have.
@@ -53,7 +55,7 @@ returns-clause-turns c =
 pub returns-clause-lanes : goal.returns-clause-lanes
 returns-clause-lanes c =
     rw (c.turns.invariant.words, c.turns.auto.parts) (HaveTurned-sound c.turns.invariant.turns
-    (IsLane-pulled (length c.args.self.now.words) c.args.cycle (length c.args.parts.now)) c.requires)
+    (IsLane-pulled (length c.args.self.now.words) c.args.cycle (length c.args.parts.now)) c.requires.lanes)
 
 -- The frames stay.
 pub returns-clause-frames : goal.returns-clause-frames

@@ -1,6 +1,7 @@
 use Rattle.std.proofs.Common.{◌≡◌, ◌≤◌, ◌-◌, length}
 use Rattle.aeth_components.proofs.channels.Channels.take.Given as goal
 use Rattle.aeth_components.proofs.SkipLemmas.{HaveTurned}
+use Rattle.aeth_components.specs.Injecting.{AreInjecting}
 use Rattle.aeth_components.specs.Phases.{pulled}
 
 -- The channels so far have had their turns.
@@ -10,6 +11,7 @@ invariant-turns l = record {
       (record { parts = l.parts; lanes = l.self.lanes }) l.number;
   words : l.self.words ≡ l.fn.self.words;
   within : l.number ≤ length l.self.lanes;
+  injecting : AreInjecting l.parts l.injecting;
 }
 
 abbrev pub decreases-turns : goal.decreases-turns

@@ -29,7 +29,7 @@ settle-requires-clause-marked c =
     (λ parts lane idle. pulled-none c.args.cycle parts lane (inl idle.taken))) all.busy
     (record { parts = c.args.parts.now; lanes = all.lanes.items }) c.args.number
     c.index_mut.result.now (c.take_one.new.parts, c.take_one.new.lane)
-    (at ((goal.at.settle-requires-clause-marked c).After-take_one)) c.take_one.ensures
+    (at ((goal.at.settle-requires-clause-marked c).After-take_one)) c.take_one.ensures.turn
     c.self.invariant.idle)
 
 pub rest-requires-clause-marked : goal.rest-requires-clause-marked
@@ -39,7 +39,7 @@ rest-requires-clause-marked c =
     (kept-alone TakesNothing (pulled c.args.cycle) (pulled-none c.args.cycle)) all.taking
     (record { parts = c.args.parts.now; lanes = all.lanes.items }) c.args.number
     c.index_mut.result.now (c.take_one.new.parts, c.take_one.new.lane)
-    (at ((goal.at.rest-requires-clause-marked c).After-take_one)) c.take_one.ensures
+    (at ((goal.at.rest-requires-clause-marked c).After-take_one)) c.take_one.ensures.turn
     c.self.invariant.takes)
 
 -- The channel has had its turn.
@@ -48,7 +48,7 @@ returns-clause-turn c =
     rw (← c.self.view_is) (turned-there (pulled c.args.cycle)
     (record { parts = c.args.parts.now; lanes = c.self.inside.lanes.items }) c.args.number
     c.index_mut.result.now (c.take_one.new.parts, c.take_one.new.lane)
-    (at ((goal.at.returns-clause-turn c).After-take_one)) c.take_one.ensures)
+    (at ((goal.at.returns-clause-turn c).After-take_one)) c.take_one.ensures.turn)
 
 -- The channel stays at its place.
 pub invariant_of-self : goal.invariant_of-self
@@ -60,6 +60,6 @@ invariant_of-self c =
       takes = rw c.deref-2.ensures.value at c.rest.ensures;
       places = AreHomes-kept all.homes all.lanes.items c.args.number lane c.take_one.new.lane
           (at ((goal.at.invariant_of-self c).After-take_one))
-          (rw (ap (λ (pair : List Part × Lane). pair.1) c.take_one.ensures)
+          (rw (ap (λ (pair : List Part × Lane). pair.1) c.take_one.ensures.turn)
           (StaysAtHome-pulled c.args.cycle c.args.parts.now lane)) c.self.invariant.places;
     }

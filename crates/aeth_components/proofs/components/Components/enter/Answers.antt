@@ -1,11 +1,12 @@
-use Rattle.std.proofs.Common.{◌≡◌, ◌++◌, ◌∙◌, ap, drop, length, refl, take}
+use Rattle.std.proofs.Common.{◌≡◌, ◌++◌, ◌∙◌, ap, drop, length, refl, sym, take}
 use Rattle.aeth_components.proofs.components.Components.enter.Goals as goal
 use Rattle.aeth_components.proofs.components.Components.enter.Goals.{After-enter_all}
 use Rattle.aeth_components.proofs.EnteringLemmas.{IsComponents-entered, frames-entered}
-use Rattle.aeth_components.proofs.EnteringLemmas.{tables-entered, ways-entered}
+use Rattle.aeth_components.proofs.EnteringLemmas.{queue_of-entered, tables-entered, ways-entered}
 use Rattle.aeth_components.proofs.RoomLemmas.{IsFull-entered}
 use Rattle.aeth_components.proofs.SeenCycle.{TakesRows-bare, with_rows-seen}
 use Rattle.aeth_components.proofs.WaitingLemmas.{AreHanding-kept}
+use Rattle.aeth_components.proofs.WokenLemmas.{AreInjecting-kept}
 use Rattle.aeth_base.proofs.Lists.{written_back}
 use Rattle.aeth_components.specs.Components.{components_of}
 use Rattle.aeth_components.specs.Entering.{with_rows}
@@ -37,7 +38,9 @@ invariant_of-self c =
       IsComponents-entered rows (components_of parts all.wires all.channels.lanes
           all.channels.words all.counts.landings.items all.counts.flits.items) c.self.invariant.0,
       rw (frames-entered rows parts, ways-entered rows parts) c.self.invariant.1,
-      rw (tables-entered rows parts) c.self.invariant.2,
+      AreInjecting-kept parts (with_rows rows parts) all.turns.injecting c.self.invariant.2
+          (tables-entered rows parts)
+          (λ other queue may. rw (sym (queue_of-entered rows parts other queue)) may),
       AreHanding-kept parts (with_rows rows parts) all.channels.lanes all.handing
           (IsFull-entered rows parts) c.self.invariant.3,
     )

@@ -12,7 +12,7 @@ pub mark-requires : goal.mark-requires
 mark-requires c =
     let channel = c.requires.channel in
     let size = ap (λ (all : ComponentsState). length all.lanes) c.self.view_is in
-    let room = c.self.invariant.2.room in
+    let room = c.self.invariant.3.room in
     omega (arith, channel, size, room)
 
 -- What holds of components still holds.

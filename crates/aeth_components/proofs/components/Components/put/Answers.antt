@@ -16,8 +16,9 @@ use Rattle.aeth_components.proofs.ReplacedLemmas.{all_seen-replaced, receives-th
 use Rattle.aeth_components.proofs.ReplacedLemmas.{without_held-is}
 use Rattle.aeth_components.proofs.RoomLemmas.{IsFull-replaced}
 use Rattle.aeth_components.proofs.SeenLemmas.{frames-seen}
-use Rattle.aeth_components.proofs.TableLemmas.{tables-replaced}
+use Rattle.aeth_components.proofs.TableLemmas.{may_send-replaced, tables-replaced}
 use Rattle.aeth_components.proofs.WaitingLemmas.{AreHanding-kept}
+use Rattle.aeth_components.proofs.WokenLemmas.{AreInjecting-kept}
 use Rattle.aeth_components.specs.Changes.{told_by}
 use Rattle.aeth_components.specs.Components.{components_of, frames_of}
 use Rattle.aeth_components.specs.Ends.{AreEnds, is_interface}
@@ -145,8 +146,9 @@ invariant_of-self c =
             (All-set (λ way. way.by_table ≡ false) (map way_of parts) place (way_of part)
             (sym c.has_table.ensures ∙ both.0) (ready.tables both.1));
       },
-      rw (tables-replaced parts place part c.requires.kind (framed lose), c.pass_on.ensures.turns)
-          c.self.invariant.2,
+      rw c.pass_on.ensures.turns (AreInjecting-kept parts (set parts place part) all.turns.injecting
+          c.self.invariant.2 (tables-replaced parts place part c.requires.kind (framed lose))
+          (may_send-replaced parts place part c.requires.kind)),
       AreHanding-kept parts (set parts place part) all.channels.lanes all.handing
           (λ end. IsFull-replaced place part (room-other part c.requires.kind) parts end.ni.0 end.queue)
           c.self.invariant.3,

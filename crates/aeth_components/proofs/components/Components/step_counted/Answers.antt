@@ -7,7 +7,7 @@ use Rattle.aeth_components.proofs.components.Components.step_counted.Goals.{Afte
 use Rattle.aeth_components.proofs.CountedCycle.{Cycle-counted, IsComponents-counted}
 use Rattle.aeth_components.proofs.FrameLemmas.{length-wires_driven}
 use Rattle.aeth_components.proofs.SeenLemmas.{frames-seen}
-use Rattle.aeth_components.proofs.SeenPhases.{Runs-landed, frames-landed, tables-landed, ways-landed}
+use Rattle.aeth_components.proofs.SeenPhases.{Runs-landed, frames-landed, ways-landed}
 use Rattle.aeth_components.proofs.WaitingLemmas.{AreHanding-landed}
 use Rattle.aeth_components.specs.Components.{ComponentsState, Runs, components_of, ready_of}
 use Rattle.aeth_components.specs.Frames.{frame_of}
@@ -72,6 +72,7 @@ land-requires g c =
       wired = rw (parts, sized g run, framed g run) c.self.invariant.0.wired;
       ends = rw (parts, sized g run, framed g run, c.run.ensures.turns) c.self.invariant.1.ends;
       onward = rw (sized g run, c.run.ensures.turns) refl;
+      injecting = rw parts c.run.ensures.injecting;
       lanes = rw (parts, c.self.invariant.0.landings, ← c.run.ensures.words) c.run.ensures.lanes;
       flits = rw (sized g run) c.self.invariant.0.flits;
       cycle = omega (arith, c.requires.cycle);
@@ -147,7 +148,7 @@ invariant_of-self g c =
           (rw read at c.land.ensures.landings) c.land.ensures.flits
           c.self.invariant.0 (rw c.run.ensures.words at c.run.ensures.lanes),
       ready g land,
-      rw (c.land.ensures.turns, tables-landed wires parts) c.run.ensures.injecting,
+      rw (c.land.ensures.parts ∙ ap (flits_landed wires) read) at c.land.ensures.injecting,
       rw counts (AreHanding-landed c.args.cycle wires parts (interfaces_latched wires parts)
           c.run.new.channels.lanes c.run.new.handing c.run.ensures.handing),
     )

@@ -1,5 +1,0 @@
-mod WordLemmas
-mod WorkLemmas
-mod RuleLemmas
-mod ShapeLemmas
-mod ToldLemmas

@@ -1,5 +1,0 @@
-pub mod Limits
-pub mod Fault
-pub mod ItemNames
-pub mod ChainItems
-pub mod Shapes

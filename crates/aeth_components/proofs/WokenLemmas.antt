@@ -1,0 +1,330 @@
+-- What keeps each interface marked in the slots in which it may send: a queue is woken once it has changed.
+use Rattle.std.proofs.Common.{ℕ, ◌≡◌, ◌≢◌, ◌<◌, ◌%◌, ◌∙◌, refl, sym, ap, arith, inl, inr}
+use Rattle.std.proofs.Common.{List, [], false, length, map, Option, Some, None, slice_get, true}
+use Rattle.std.proofs.Common.{get_or, is_some, length-set, set}
+use Rattle.std.specs.Prelude.{◌⊎◌, option_map}
+use Rattle.std.specs.List.{slice_index_or}
+use Rattle.std.proofs.lemmas.Bool.{cases_eq}
+use Rattle.std.proofs.lemmas.List.{get_or-set_other, get_or-set_same, get_or_default, length-map}
+use Rattle.std.proofs.lemmas.Option.{same_Some, slice_get-get_or, slice_get_within}
+use Rattle.aeth_base.proofs.Lists.{map-at, slice_get-slice_set_other, slice_get-slice_set_same}
+use Rattle.aeth_base.specs.Marks.{bit_of, room_of}
+use Rattle.aeth_clocked.specs.declared.flit.Flit.{Flit}
+use Rattle.aeth_ni.specs.Component.{Arrival, absorbed, arrival_of, emitted_by, flit_sent_by, last_of}
+use Rattle.aeth_ni.specs.Component.{queue_at_cycle}
+use Rattle.aeth_ni.specs.Interface.{InterfaceState, queue_at}
+use Rattle.aeth_ni.specs.Queue.{QueueState, empty_queue}
+use Rattle.aeth_ni.specs.Sending.{emitted}
+use Rattle.aeth_router.specs.Part.{after_of}
+use Rattle.aeth_router.specs.declared.part.Part.{Part}
+use Rattle.aeth_router.specs.declared.part.Part.TheVariants.{Interface, Router, Stage, TableRouter}
+use Rattle.aeth_components.specs.declared.injecting.Injecting.{Injecting}
+use Rattle.aeth_components.specs.declared.lane.ChannelEnd.{ChannelEnd}
+use Rattle.aeth_components.specs.Changes.{at_end, on_interface, with_part}
+use Rattle.aeth_components.specs.Injecting.{AreInjecting, MarksMore}
+use Rattle.aeth_components.specs.Injecting.{WakesQueue, WakesTold, entries_of, marks_at, may_send}
+use Rattle.aeth_components.specs.Injecting.{place_of_entry, queue_told}
+use Rattle.aeth_components.specs.Seen.{landed}
+use Rattle.aeth_components.specs.Switching.{entry_in, entry_of}
+use Rattle.aeth_components.specs.Turns.{sends_own}
+use Rattle.aeth_components.specs.View.{queue_in, queue_of}
+use Rattle.aeth_components.proofs.AloneLemmas.{queue_of-at_end_other, slice_get-with_part_other}
+use Rattle.aeth_components.proofs.AloneLemmas.{slice_get-with_part_same}
+use Rattle.aeth_components.proofs.InjectingLemmas.{HasPlaces-moved, entry-below, entry-noted}
+use Rattle.aeth_components.proofs.InjectingLemmas.{entry_at-parts, sends-entry}
+use Rattle.aeth_components.proofs.AskedLemmas.{slot-own}
+use Rattle.aeth_components.proofs.CycleLemmas.{views-slice_set}
+use Rattle.aeth_components.proofs.OwnLemmas.{after-sends, own_driven}
+use Rattle.aeth_components.proofs.PartLemmas.{set-with_part, views-with_part}
+use Rattle.aeth_components.proofs.TableLemmas.{entries-changed}
+
+-- One has come in one slot.
+pub MarksMore-set : (number slot : ℕ) (old : List (List ℕ)) (marks new : List ℕ) → slot < length old
+    → marks ≡ get_or old slot marks → room_of new ≡ room_of marks → bit_of new number ≡ 1
+    → ((other : ℕ) → other ≢ number → bit_of new other ≡ bit_of marks other)
+    → MarksMore number old (set old slot new)
+MarksMore-set number slot old marks new within read room here away =
+    let before : marks ≡ marks_at old slot = read ∙ get_or_default old slot marks [] within in
+    let now : marks_at (set old slot new) slot ≡ new = get_or-set_same old slot new [] within in
+    let own : (other at : ℕ) → at ≡ slot
+    → bit_of (marks_at (set old slot new) at) other ≡ bit_of new other =
+    λ other at same.
+    ap (λ n. bit_of (marks_at (set old slot new) n) other) same ∙ ap (λ (marks : List ℕ). bit_of marks other) now in
+    let was : (other at : ℕ) → at ≡ slot → bit_of (marks_at old at) other ≡ bit_of marks other =
+    λ other at same.
+    ap (λ n. bit_of (marks_at old n) other) same ∙ ap (λ (marks : List ℕ). bit_of marks other) (sym before) in
+    let apart : (other at : ℕ) → at ≢ slot
+    → bit_of (marks_at (set old slot new) at) other ≡ bit_of (marks_at old at) other =
+    λ other at away. ap (λ (marks : List ℕ). bit_of marks other) (get_or-set_other old slot at new [] away) in
+    record {
+      size = length-set old slot new;
+      room = λ at. elim (cases_eq at slot) [
+        | inl same ↦
+            ap (λ n. room_of (marks_at (set old slot new) n)) same ∙ ap room_of now ∙ room
+            ∙ ap room_of before ∙ ap (λ n. room_of (marks_at old n)) (sym same)
+        | inr away ↦ ap room_of (get_or-set_other old slot at new [] away)
+      ];
+      kept = λ other at bit. elim (cases_eq at slot) [
+        | inr away ↦ apart other at away ∙ bit
+        | inl same ↦ elim (cases_eq other number) [
+          | inl is ↦ own other at same ∙ ap (bit_of new) is ∙ here
+          | inr isnt ↦ own other at same ∙ away other isnt ∙ sym (was other at same) ∙ bit
+        ]
+      ];
+      below = λ other at bit. elim (cases_eq at slot) [
+        | inr away ↦ inl (sym (apart other at away) ∙ bit)
+        | inl same ↦ elim (cases_eq other number) [
+          | inl is ↦ inr is
+          | inr isnt ↦ inl (was other at same ∙ sym (away other isnt) ∙ sym (own other at same) ∙ bit)
+        ]
+      ];
+    }
+
+-- More have come.
+pub MarksMore-more : {number : ℕ} {old now new : List (List ℕ)} → MarksMore number old now
+    → MarksMore number now new → MarksMore number old new
+MarksMore-more first second = record {
+  size = second.size ∙ first.size;
+  room = λ slot. second.room slot ∙ first.room slot;
+  kept = λ other slot bit. second.kept other slot (first.kept other slot bit);
+  below = λ other slot bit. elim (second.below other slot bit) [
+    | inl was ↦ first.below other slot was
+    | inr is ↦ inr is
+  ];
+}
+
+-- The queues that have something to send had it before, or their component is marked.
+pub AreInjecting-more : (number : ℕ) (parts now : List Part) (old new : Injecting)
+    → AreInjecting parts old → MarksMore number old.slots.items new.slots.items
+    → new.entries ≡ old.entries → number < length parts
+    → map entries_of now ≡ map entries_of parts
+    → ((other slot queue : ℕ) → entry_of parts other slot ≡ Some queue → may_send now other queue ≡ true
+    → (may_send parts other queue ≡ true) ⊎ (bit_of (marks_at new.slots.items slot) other ≡ 1))
+    → AreInjecting now new
+AreInjecting-more number parts now old new are more entries within same sends = record {
+  tables = rw same (record {
+    places = HasPlaces-moved (length (map entries_of parts)) old new are.tables.places more.size more.room
+        (ap room_of entries);
+    size = λ other some. are.tables.size other some ∙ sym more.size;
+    entered = λ other slot queue is.
+        ap (λ (masks : List ℕ). bit_of masks (place_of_entry other queue slot)) entries
+        ∙ are.tables.entered other slot queue is;
+    below = λ other slot bit. elim (more.below other slot bit) [
+      | inl was ↦ are.tables.below other slot was
+      | inr own ↦ (let size = length-map parts entries_of in omega (arith, own, within, size))
+    ];
+  });
+  marked = λ other slot queue is may.
+      let entry = sym (entry_at-parts parts other slot)
+      ∙ ap (λ (tables : List (List (Option ℕ))). slice_index_or (slice_index_or tables other []) slot None) (sym same)
+      ∙ entry_at-parts now other slot ∙ is in
+      elim (sends other slot queue entry may) [
+        | inl was ↦ more.kept other slot (are.marked other slot queue entry was)
+        | inr is ↦ is
+      ];
+}
+
+-- No queue has more to send than before.
+pub AreInjecting-kept : (parts now : List Part) (injecting : Injecting) → AreInjecting parts injecting
+    → map entries_of now ≡ map entries_of parts
+    → ((other queue : ℕ) → may_send now other queue ≡ true → may_send parts other queue ≡ true)
+    → AreInjecting now injecting
+AreInjecting-kept parts now injecting are same kept = record {
+  tables = rw same are.tables;
+  marked = λ other slot queue is may.
+      are.marked other slot queue
+      (sym (entry_at-parts parts other slot)
+      ∙ ap (λ (tables : List (List (Option ℕ))). slice_index_or (slice_index_or tables other []) slot None) (sym same)
+      ∙ entry_at-parts now other slot ∙ is) (kept other queue may);
+}
+
+-- One queue has changed, and is woken.
+pub AreInjecting-woken : (number queue : ℕ) (parts now : List Part) (old new : Injecting)
+    → AreInjecting parts old → WakesQueue number queue old new → number < length parts
+    → map entries_of now ≡ map entries_of parts
+    → ((other at : ℕ) → ((other ≡ number) × (at ≡ queue) → ⊥) → queue_of now other at ≡ queue_of parts other at)
+    → AreInjecting now new
+AreInjecting-woken number queue parts now old new are wakes within same kept =
+    AreInjecting-more number parts now old new are wakes.more wakes.entries within same
+    (λ other slot at is may.
+    let was = λ (apart : (other ≡ number) × (at ≡ queue) → ⊥).
+    ap (λ (state : QueueState). is_some (emitted state)) (sym (kept other at apart)) ∙ may in
+    elim (cases_eq other number) [
+      | inr apart ↦ inl (was (λ both. apart both.0))
+      | inl there ↦ elim (cases_eq at queue) [
+        | inr apart ↦ inl (was (λ both. apart both.1))
+        | inl here ↦
+            inr (rw there (wakes.own slot (entry-below parts old are.tables other slot at is)
+            (rw (there, here) at (entry-noted parts old are.tables other slot at is))))
+      ]
+    ])
+
+-- So where words come to it or are taken.
+pub AreInjecting-turned : (parts : List Part) (end : ChannelEnd) (change : QueueState → QueueState)
+    (old new : Injecting) → AreInjecting parts old → WakesQueue end.ni.0 end.queue old new
+    → end.ni.0 < length parts → AreInjecting (at_end end change parts) new
+AreInjecting-turned parts end change old new are wakes within =
+    AreInjecting-woken end.ni.0 end.queue parts (at_end end change parts) old new are wakes within
+    (views-with_part entries_of end.ni.0 _ (entries-changed end.queue change) parts)
+    (queue_of-at_end_other parts end change)
+
+-- A flit changes the queue to which it comes.
+queue_at-absorbed : (arrival : Option Arrival) (ni : InterfaceState) (queue : ℕ)
+    → (option_map (λ last. last.0) (last_of arrival) ≡ Some queue → ⊥)
+    → queue_at (absorbed arrival ni).queues queue ≡ queue_at ni.queues queue
+queue_at-absorbed None ni queue none = refl
+queue_at-absorbed (Some arrival) ni queue none =
+    get_or-set_other ni.queues arrival.header.queue queue _ (empty_queue 0)
+    (λ same. none (ap (λ n. Some n) (sym same)))
+
+queue_in-landed : (flit : Flit) (part : Part) (queue : ℕ) → (queue_told flit part ≡ Some queue → ⊥)
+    → queue_in queue (Some (on_interface (landed (Some flit)) part)) ≡ queue_in queue (Some part)
+queue_in-landed flit (Interface ni) queue none = queue_at-absorbed (arrival_of (Some flit)) ni queue none
+queue_in-landed flit (Router router) queue none = refl
+queue_in-landed flit (TableRouter router) queue none = refl
+queue_in-landed flit (Stage stage) queue none = refl
+
+entries-landed : (flit : Flit) (part : Part)
+    → entries_of (on_interface (landed (Some flit)) part) ≡ entries_of part
+entries-landed flit (Interface ni) = refl
+entries-landed flit (Router router) = refl
+entries-landed flit (TableRouter router) = refl
+entries-landed flit (Stage stage) = refl
+
+-- So where a flit lands, and wakes it.
+module _ (parts : List Part) (number : ℕ) (flit : Flit) (part : Part)
+    (there : slice_get parts number ≡ Some part) where
+  queue_of-landed : (other queue : ℕ) → ((other ≡ number) × (queue_told flit part ≡ Some queue) → ⊥)
+      → queue_of (with_part number (on_interface (landed (Some flit))) parts) other queue
+      ≡ queue_of parts other queue
+  queue_of-landed other queue apart = elim (cases_eq other number) [
+    | inr away ↦
+        ap (queue_in queue)
+        (slice_get-with_part_other parts number other (on_interface (landed (Some flit))) away)
+    | inl same ↦
+        ap (λ n. queue_of (with_part number (on_interface (landed (Some flit))) parts) n queue) same
+        ∙ ap (queue_in queue)
+        (slice_get-with_part_same parts number (on_interface (landed (Some flit))) part there)
+        ∙ queue_in-landed flit part queue (λ told. apart (same, told))
+        ∙ ap (queue_in queue) (sym there) ∙ ap (λ n. queue_of parts n queue) (sym same)
+  ]
+
+  landed-told : (told : Option ℕ) (old new : Injecting) → told ≡ queue_told flit part
+      → AreInjecting parts old → WakesTold number told old new → number < length parts
+      → AreInjecting (with_part number (on_interface (landed (Some flit))) parts) new
+  landed-told None old new is are wakes within =
+      rw wakes (AreInjecting-kept parts (with_part number (on_interface (landed (Some flit))) parts) old are
+      (views-with_part entries_of number _ (entries-landed flit) parts)
+      (λ other queue may. ap (λ (state : QueueState). is_some (emitted state))
+      (sym (queue_of-landed other queue (λ both. cc (is ∙ both.1)))) ∙ may))
+  landed-told (Some told) old new is are wakes within =
+      AreInjecting-woken number told parts (with_part number (on_interface (landed (Some flit))) parts) old new
+      are wakes within (views-with_part entries_of number _ (entries-landed flit) parts)
+      (λ other queue apart. queue_of-landed other queue
+      (λ both. apart (both.0, sym (same_Some told queue (is ∙ both.1)))))
+
+pub AreInjecting-latched : (parts : List Part) (number : ℕ) (flit : Flit) (default latched : Part)
+    (told : Option ℕ) (old new : Injecting) → number < length parts
+    → latched ≡ on_interface (landed (Some flit)) (get_or parts number default)
+    → told ≡ queue_told flit (get_or parts number default)
+    → AreInjecting parts old → WakesTold number told old new → AreInjecting (set parts number latched) new
+AreInjecting-latched parts number flit default latched told old new within is tells are wakes =
+    rw (is, set-with_part parts number (on_interface (landed (Some flit))) default within)
+    (landed-told parts number flit (get_or parts number default) (slice_get-get_or parts number default within)
+    told old new tells are wakes within)
+
+-- The entry of a component is that of its table.
+table_at-entry : (part : Part) (slot : ℕ)
+    → entry_in slot (Some part) ≡ slice_index_or (entries_of part) slot None
+table_at-entry (Interface ni) slot = refl
+table_at-entry (Router router) slot = refl
+table_at-entry (TableRouter router) slot = refl
+table_at-entry (Stage stage) slot = refl
+
+-- An interface that sends nothing in a slot is marked there no more.
+pub AreInjecting-rested : (cycle slot number : ℕ) (part : Part) (parts : List Part) (old new : Injecting)
+    → AreInjecting parts old → slot ≡ cycle % length old.slots.items
+    → slice_get parts number ≡ Some part → sends_own cycle part ≡ false
+    → new.entries ≡ old.entries → length new.slots.items ≡ length old.slots.items
+    → ((at : ℕ) → room_of (marks_at new.slots.items at) ≡ room_of (marks_at old.slots.items at))
+    → ((other at : ℕ) → (other ≢ number) ⊎ (at ≢ slot)
+    → bit_of (marks_at new.slots.items at) other ≡ bit_of (marks_at old.slots.items at) other)
+    → ((other at : ℕ) → bit_of (marks_at new.slots.items at) other ≡ 1
+    → bit_of (marks_at old.slots.items at) other ≡ 1)
+    → AreInjecting parts new
+AreInjecting-rested cycle slot number part parts old new are is there mute entries size room away gone = record {
+  tables = record {
+    places = HasPlaces-moved (length (map entries_of parts)) old new are.tables.places size room (ap room_of entries);
+    size = λ other some. are.tables.size other some ∙ sym size;
+    entered = λ other at queue own.
+        ap (λ (masks : List ℕ). bit_of masks (place_of_entry other queue at)) entries
+        ∙ are.tables.entered other at queue own;
+    below = λ other at bit. are.tables.below other at (gone other at bit);
+  };
+  marked = λ other at queue own may. elim (cases_eq other number) [
+    | inr apart ↦ away other at (inl apart) ∙ are.marked other at queue own may
+    | inl same ↦ elim (cases_eq at slot) [
+      | inr apart ↦ away other at (inr apart) ∙ are.marked other at queue own may
+      | inl here ↦
+          let found = ap (slice_get parts) same ∙ there in
+          let entry = sym (table_at-entry part at) ∙ ap (entry_in at) (sym found) ∙ own in
+          absurd (cc (sym mute ∙ sends-entry cycle slot part queue
+          (slot-own cycle slot parts old are is number part there)
+          (ap (λ n. slice_index_or (entries_of part) n None) (sym here) ∙ entry)
+          (ap (λ (found : Option Part). is_some (emitted (queue_in queue found))) (sym found) ∙ may)))
+    ]
+  ];
+}
+
+-- An interface that has sent has nothing to send but what it had before.
+sent-may : (entry : Option ℕ) (queues : List QueueState) (queue : ℕ)
+    → is_some (emitted_by entry queues) ≡ true
+    → is_some (emitted (queue_at (flit_sent_by entry queues) queue)) ≡ true
+    → is_some (emitted (queue_at queues queue)) ≡ true
+sent-may None queues queue sends may = absurd (cc sends)
+sent-may (Some own) queues queue sends may = elim (cases_eq queue own) [
+  | inl same ↦ ap (λ n. is_some (emitted (queue_at queues n))) same ∙ sends
+  | inr apart ↦
+      ap (λ (state : QueueState). is_some (emitted state))
+      (sym (get_or-set_other queues own queue _ (empty_queue 0) apart)) ∙ may
+]
+
+driven-may : (cycle : ℕ) (part : Part) (queue : ℕ) → sends_own cycle part ≡ true
+    → is_some (emitted (queue_in queue (Some (own_driven cycle part)))) ≡ true
+    → is_some (emitted (queue_in queue (Some part))) ≡ true
+driven-may cycle (Interface ni) queue sends may =
+    sent-may (queue_at_cycle ni.entries cycle) ni.queues queue sends may
+driven-may cycle (Router router) queue sends may = absurd (cc sends)
+driven-may cycle (TableRouter router) queue sends may = absurd (cc sends)
+driven-may cycle (Stage stage) queue sends may = absurd (cc sends)
+
+entries-driven : (cycle : ℕ) (part : Part) → entries_of (own_driven cycle part) ≡ entries_of part
+entries-driven cycle (Interface ni) = refl
+entries-driven cycle (Router router) = refl
+entries-driven cycle (TableRouter router) = refl
+entries-driven cycle (Stage stage) = refl
+
+pub AreInjecting-driven : (cycle number : ℕ) (part driven : Part) (parts : List Part) (injecting : Injecting)
+    → AreInjecting parts injecting → slice_get parts number ≡ Some part → sends_own cycle part ≡ true
+    → driven ≡ after_of part cycle → AreInjecting (set parts number driven) injecting
+AreInjecting-driven cycle number part driven parts injecting are there sends is =
+    let within = slice_get_within parts number part there in
+    let own = is ∙ after-sends cycle part sends in
+    AreInjecting-kept parts (set parts number driven) injecting are
+    (views-slice_set entries_of parts number driven
+    (map-at entries_of parts number part there
+    ∙ ap (λ (table : List (Option ℕ)). Some table)
+    (sym (ap entries_of own ∙ entries-driven cycle part))))
+    (λ other queue may. elim (cases_eq other number) [
+      | inr apart ↦
+          ap (λ (found : Option Part). is_some (emitted (queue_in queue found)))
+          (sym (slice_get-slice_set_other parts number other driven apart)) ∙ may
+      | inl same ↦
+          ap (λ n. may_send parts n queue) same
+          ∙ ap (λ (found : Option Part). is_some (emitted (queue_in queue found))) there
+          ∙ driven-may cycle part queue sends
+          (ap (λ (part : Part). is_some (emitted (queue_in queue (Some part)))) (sym own)
+          ∙ ap (λ (found : Option Part). is_some (emitted (queue_in queue found)))
+          (sym (slice_get-slice_set_same parts number driven within))
+          ∙ ap (λ n. may_send (set parts number driven) n queue) (sym same) ∙ may)
+    ])

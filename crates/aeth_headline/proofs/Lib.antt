@@ -1,2 +1,0 @@
-mod HeadlineLemmas
-mod KeptLemmas

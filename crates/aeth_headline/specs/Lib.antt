@@ -1,6 +1,0 @@
-pub mod Asked
-pub mod Headline
-pub mod Kept
-pub mod Machines
-pub mod Printed
-pub mod Runs

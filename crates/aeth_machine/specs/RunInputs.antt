@@ -1,0 +1,19 @@
+-- The inputs of a run, by what is judged together.
+-- This project's own.
+use Rattle.std.specs.Prelude.{ℕ}
+use Rattle.aeth_accepted.specs.Inputs.{Inputs}
+use Rattle.aeth_plan.specs.Plan.{PlanData}
+use Rattle.aeth_plan.specs.declared.design.Design.{Design}
+use Rattle.aeth_machine.specs.declared.traces.Traces.{Traces}
+
+-- The inputs of a run of so many cycles.
+abbrev pub inputs_of : Design → PlanData → Traces → ℕ → Inputs
+inputs_of design plan traces cycles = record {
+  chip = design.chip;
+  app = design.app;
+  plan = plan;
+  words = traces.words;
+  pulls = traces.receivers;
+  switches = traces.switches;
+  cycles = cycles;
+}

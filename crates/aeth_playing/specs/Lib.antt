@@ -1,2 +1,0 @@
-pub mod RunInputs
-pub mod Totals

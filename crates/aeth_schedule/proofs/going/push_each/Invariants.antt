@@ -1,9 +1,0 @@
-use Rattle.std.proofs.Common.{◌≡◌, ◌++◌, map, take}
-use Rattle.aeth_schedule.specs.Goings.{going_in}
-use Rattle.aeth_schedule.proofs.going.push_each.Given as goal
-
--- The sessions so far.
-abbrev pub invariant-loop-line : goal.invariant-loop-line
-invariant-loop-line l = l.list.items ≡ l.fn.list.items ++ map
-    (going_in l.task.groups.now l.task.spans.now l.task.words.now l.task.cycles l.go
-    l.entering.row.now.to.0 l.entering.later.now) (take l.line-index l.lines)

@@ -1,0 +1,31 @@
+use Rattle.std.proofs.Common.{arith, refl}
+use Rattle.std.specs.Prelude.{None}
+use Rattle.std.proofs.lemmas.List.{append-nil}
+use Rattle.aeth_schedule.specs.Goings.{going_by}
+use Rattle.aeth_schedule.specs.Lines.{lines_at}
+use Rattle.aeth_scheduling.proofs.GoingLemmas.{going-early, going-late}
+use Rattle.aeth_scheduling.proofs.going.push_first.Goals as goal
+
+-- There is no cycle.
+pub returns-then-task-eq0 : goal.returns-then-task-eq0
+returns-then-task-eq0 c =
+    let task = c.args.task.now in
+    let to = c.args.first.now.row.now.to.0 in
+    let later = c.args.first.now.later.now in
+    rw (
+      going-late (going_by task.groups.now task.spans.now task.all.now
+          task.words.now task.cycles None to later) task.cycles 0
+          (lines_at task.all.now to) (λ line. refl) (omega arith),
+      append-nil c.args.list.now.items,
+    ) refl
+
+-- All go in the first.
+pub returns : goal.returns
+returns c =
+    let task = c.args.task.now in
+    let to = c.args.first.now.row.now.to.0 in
+    let later = c.args.first.now.later.now in
+    rw (going-early (going_by task.groups.now task.spans.now task.all.now
+    task.words.now task.cycles None to later) task.cycles 0
+    (lines_at task.all.now to) (λ line. refl) (omega arith))
+    (rw c.lines_in.ensures at c.push_each.ensures)

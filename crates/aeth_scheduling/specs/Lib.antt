@@ -1,0 +1,4 @@
+pub mod Entered
+pub mod Made
+pub mod Staying
+pub mod Tasks

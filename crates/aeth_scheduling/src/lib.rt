@@ -1,0 +1,18 @@
+//! The schedule of a run: what its switches do to tables and queues, cycle by cycle, and when its sessions go, made
+//! before the first cycle.
+#![tactic(auto)]
+
+mod closing;
+mod durations;
+mod entering;
+mod going;
+mod lines;
+mod placing;
+mod rooms;
+mod schedule;
+mod switching;
+mod task;
+mod timed;
+mod windows;
+
+pub use schedule::schedule_of;

@@ -1,0 +1,18 @@
+use Rattle.aeth_stimuli.proofs.laws.stimuli_are_stimuli.Goals as goal
+
+-- Events, and all else, fit the components.
+pub returns : goal.returns
+returns c = λ inputs accepted. record {
+  loaded = c.events_fit.ensures.loaded inputs accepted;
+  events = c.events_fit.ensures.events inputs accepted;
+  event_cycles = c.events_fit.ensures.event_cycles inputs accepted;
+  event_order = c.events_fit.ensures.event_order inputs accepted;
+  goings = c.stimuli_fit.ensures.goings inputs accepted;
+  going_order = c.stimuli_fit.ensures.going_order inputs accepted;
+  lanes = c.stimuli_fit.ensures.lanes inputs accepted;
+  room = c.stimuli_fit.ensures.room inputs accepted;
+  offers = c.stimuli_fit.ensures.offers inputs accepted;
+  offer_order = c.stimuli_fit.ensures.offer_order inputs accepted;
+  takes = c.stimuli_fit.ensures.takes inputs accepted;
+  take_order = c.stimuli_fit.ensures.take_order inputs accepted;
+}
